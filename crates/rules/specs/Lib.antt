@@ -4,3 +4,12 @@ pub mod Priority
 pub mod Draw
 pub mod Times
 pub mod Queue
+pub mod Puts
+pub mod State
+pub mod Topology
+pub mod Choice
+pub mod Schedule
+pub mod Requests
+pub mod Questions
+pub mod Commands
+pub mod Lines
