@@ -1,0 +1,4 @@
+pub mod Data
+pub mod Lent
+pub mod Past
+pub mod Walk

@@ -1,0 +1,1 @@
+// Making kernel and user threads is not needed here.

@@ -1,0 +1,4 @@
+pub mod error {
+    #[derive(Debug)]
+    pub struct TwzError;
+}
