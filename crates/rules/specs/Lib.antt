@@ -13,3 +13,6 @@ pub mod Requests
 pub mod Questions
 pub mod Commands
 pub mod Lines
+pub mod Computed
+pub mod Example
+pub mod Rows

@@ -73,16 +73,20 @@ ends number refusal = eqb refusal 1 || (eqb refusal 2 || eqb number last-number)
 unfoldable pub refused-by : Answer → ℕ
 refused-by a = cond (eqb (a .refused) 0) 0 1
 
+unfoldable pub no-bytes : List ℕ → Bool
+no-bytes [] = true
+no-bytes (b ∷ bytes) = false
+
 -- the lines from command `number` on, k of them at most; each command takes one byte at least
 unfoldable pub lines-from : ℕ → State → ℕ → ℕ → List ℕ → List ℕ
-lines-from k s number refused [] = end-line number refused
-lines-from zero s number refused (b ∷ bytes) = end-line number refused
-lines-from (suc k) s number refused (b ∷ bytes) =
-    let st : Step = step s (b ∷ bytes) in
+lines-from zero s number refused bytes = end-line number refused
+lines-from (suc k) s number refused bytes =
+    let st : Step = step s bytes in
     let r : ℕ = refused + refused-by (st .answer) in
-    line number (st .answer)
+    cond (no-bytes bytes) (end-line number refused)
+    (line number (st .answer)
     ++ cond (ends number (st .answer .refused)) (end-line (number + 1) r)
-    (lines-from k (st .state) (number + 1) r (past (used (read (s .limits) (b ∷ bytes))) (b ∷ bytes)))
+    (lines-from k (st .state) (number + 1) r (past (used (read (s .limits) bytes)) bytes)))
 
 -- the whole output for a stream
 unfoldable pub output : Limits → List ℕ → List ℕ
