@@ -16,3 +16,4 @@ pub mod Lines
 pub mod Computed
 pub mod Example
 pub mod Rows
+pub mod Run
