@@ -1,1 +1,2 @@
 pub mod RunQueue
+pub mod Standin

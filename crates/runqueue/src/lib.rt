@@ -1,3 +1,3 @@
 // The run queue of one CPU, by value (rq.rs).
-pub mod rq;
 pub mod priority;
+pub mod rq;

@@ -379,7 +379,14 @@ impl RunQueue {
         self
     }
 
-    pub fn taken_timeshare(self, bucket: u64, previous: u64, next: u64, value: u64, pinned: bool) -> Self
+    pub fn taken_timeshare(
+        self,
+        bucket: u64,
+        previous: u64,
+        next: u64,
+        value: u64,
+        pinned: bool,
+    ) -> Self
         ensures { λ r. ⌜ r ≡ rqTakenTimeshare self bucket previous next value pinned ⌝ }
     {
         let mut queue = self.uncounted(pinned);

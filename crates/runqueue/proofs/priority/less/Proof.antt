@@ -1,3 +1,8 @@
+use Rattle.runqueue.specs.Standin.{less-three}
+use native.Mathlib.Omega.{arith}
+use Rattle.runqueue.specs.Standin.{less-two}
+use Rattle.rules.specs.Priority.{class-number}
+use Rattle.runqueue.specs.Standin.{less-one}
 use Rattle.rules.specs.Priority.{less}
 use borrow.Author.Needs.{needs}
 use Rattle.runqueue.proofs.priority.less.Statement.{statement}
@@ -16,18 +21,15 @@ class-number-requires-2 c κs = search needs
 
 -- src/priority.rt:66:9
 returns : tie.Need-returns
-unfolding less
-returns c = ?less1
+returns c = less-one _ _ _ _ (c .before .before .class-number .ensures) (c .before .class-number2 .ensures) (c .if1 .taken)
 
 -- src/priority.rt:69:9
 returns-2 : tie.Need-returns-2
-unfolding less
-returns-2 c = ?less2
+returns-2 c = less-two _ _ _ _ (c .before .before .before .class-number .ensures) (c .before .before .class-number2 .ensures) (c .if2 .taken)
 
 -- src/priority.rt:58:1
 returns-3 : tie.Need-returns-3
-unfolding less
-returns-3 c = ?less3
+returns-3 c = less-three _ _ _ _ (c .before .before .before .before .before .class-number .ensures) (c .before .before .before .before .class-number2 .ensures) (omega arith)
 
 pub less-spec : {M : Type 1} → statement M
 less-spec =

@@ -1,3 +1,5 @@
+use Rattle.rules.specs.Priority.{class-number}
+use Rattle.runqueue.specs.Standin.{raw-is}
 use Rattle.rules.specs.Priority.{raw}
 use borrow.Author.Needs.{needs}
 use Rattle.runqueue.proofs.priority.raw.Statement.{statement}
@@ -20,8 +22,7 @@ add-result c = search needs
 
 -- src/priority.rt:50:1
 returns : tie.Need-returns
-unfolding raw
-returns c = ?raw
+returns c = raw-is _ _ (c .before .class-number .ensures)
 
 pub raw-spec : {M : Type 1} → statement M
 raw-spec = tie.close (tie.spec class-number-requires mul-result add-result returns)
