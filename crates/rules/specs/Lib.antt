@@ -4,3 +4,15 @@ pub mod Priority
 pub mod Draw
 pub mod Times
 pub mod Queue
+pub mod Puts
+pub mod State
+pub mod Topology
+pub mod Choice
+pub mod Schedule
+pub mod Requests
+pub mod Questions
+pub mod Commands
+pub mod Lines
+pub mod Computed
+pub mod Example
+pub mod Rows

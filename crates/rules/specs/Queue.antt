@@ -88,6 +88,11 @@ part-of class.Idle due = part.Idle
 unfoldable pub part-for : Arrival → Part
 part-for a = part-of (a .class) (a .due)
 
+unfoldable pub is-timeshare : Part → Bool
+is-timeshare part.Realtime = false
+is-timeshare part.Timeshare = true
+is-timeshare part.Idle = false
+
 -- "Realtime and idle have eight buckets by value / 16, a User thread in bucket 7"
 unfoldable pub class-bucket : PriorityClass → ℕ → ℕ
 class-bucket class.User v = nr-buckets - 1

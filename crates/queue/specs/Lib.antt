@@ -1,0 +1,4 @@
+pub mod Num
+pub mod Lists
+pub mod Timeshare
+pub mod PriorityQueue

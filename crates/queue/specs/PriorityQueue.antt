@@ -1,0 +1,33 @@
+-- The realtime and the idle part as the code has them. Assumes nothing.
+use Prim.Native.Nat.{ℕ}
+use mathlib.Core.Bool.{Bool, cond}
+use lib.Dec.{eqb}
+use Rattle.rules.specs.declared.PriorityClass.{PriorityClass}
+use Rattle.rules.specs.Queue.{class-bucket}
+use Rattle.queue.specs.declared.lists.Pushed.{Pushed}
+use Rattle.queue.specs.declared.lists.Found.{Found}
+use Rattle.queue.specs.declared.lists.Found.the-variants.{Nothing}
+use Rattle.queue.specs.declared.pq.PriorityQueue.{PriorityQueue}
+use Rattle.queue.specs.declared.pq.PriorityPut.{PriorityPut}
+use Rattle.queue.specs.Num.{sum, difference}
+use Rattle.queue.specs.Lists.{noLists, pushBack, unlinked, firstFrom, highestHeld}
+
+unfoldable pub noPriority : PriorityQueue
+noPriority = record { count = 0; queues = noLists }
+
+unfoldable pub pqEmpty : PriorityQueue → Bool
+pqEmpty p = eqb (p .count) 0
+
+unfoldable pub pqHighest : PriorityQueue → ℕ
+pqHighest p = cond (eqb (p .count) 0) 0 (highestHeld (p .queues))
+
+unfoldable pub pqInsert : PriorityQueue → ℕ → PriorityClass → ℕ → PriorityPut
+pqInsert p x c v =
+    let u : Pushed = pushBack (p .queues) (class-bucket c v) x in
+    record { queue = record { count = sum (p .count) 1; queues = u .lists }; behind = u .behind }
+
+unfoldable pub pqFront : PriorityQueue → Found
+pqFront p = cond (eqb (p .count) 0) Nothing (firstFrom (p .queues) 0)
+
+unfoldable pub pqTaken : PriorityQueue → ℕ → ℕ → ℕ → PriorityQueue
+pqTaken p q previous next = record { count = difference (p .count) 1; queues = unlinked (p .queues) q previous next }

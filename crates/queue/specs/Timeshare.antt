@@ -1,0 +1,109 @@
+-- The timeshare part as the code has it. Assumes nothing.
+use Prim.Native.Nat.{ℕ, zero, suc, _+_, _-_, _*_, _/_, _%_, _≤_}
+use mathlib.Core.Path.{_≡_, refl}
+use native.Mathlib.Omega.{arith}
+use mathlib.Core.Bool.{Bool, cond}
+use mathlib.Core.List.{List}
+use lib.Dec.{eqb}
+use lib.ListN.{getD, set, replicate}
+use Rattle.thread.specs.Thread.{NONE}
+use Rattle.rules.specs.Queue.{nr-buckets, width, offset, step-back}
+use Rattle.queue.specs.declared.lists.Pushed.{Pushed}
+use Rattle.queue.specs.declared.lists.Found.{Found}
+use Rattle.queue.specs.declared.lists.Found.the-variants.{Nothing}
+use Rattle.queue.specs.declared.timeshare.TimeshareQueue.{TimeshareQueue}
+use Rattle.queue.specs.declared.timeshare.TimesharePut.{TimesharePut}
+use Rattle.queue.specs.Num.{sum, difference}
+use Rattle.queue.specs.Lists.{noLists, pushBack, unlinked, firstFrom}
+
+unfoldable pub noTimeshare : TimeshareQueue
+noTimeshare = record { count = 0; priorities = replicate nr-buckets 0; «insert_idx» = 0; «take_idx» = 0; queues = noLists }
+
+unfoldable pub tsEmpty : TimeshareQueue → Bool
+tsEmpty t = eqb (t .count) 0
+
+-- the least value of the highest of the first k counts that is not 0
+unfoldable pub topCounts : List ℕ → ℕ → ℕ
+topCounts ps zero = 0
+topCounts ps (suc k) = cond (eqb (getD ps k 0) 0) (topCounts ps k) (k * width)
+
+unfoldable pub tsHighest : TimeshareQueue → ℕ
+tsHighest t = cond (eqb (t .count) 0) 0 (topCounts (t .priorities) nr-buckets)
+
+-- document 01's bucket before it is stepped back
+unfoldable pub tsIndex : TimeshareQueue → ℕ → ℕ
+tsIndex t v = (t .«insert_idx» + offset v) % nr-buckets
+
+unfoldable pub tsBucket : TimeshareQueue → ℕ → Bool → ℕ
+tsBucket t v current =
+    cond current (t .«take_idx»)
+    (cond (eqb (tsIndex t v) (t .«take_idx»)) (cond (eqb (t .«insert_idx») (t .«take_idx»)) (tsIndex t v) (step-back (tsIndex t v))) (tsIndex t v))
+
+-- which of the eight counts a value belongs to
+unfoldable pub slot : ℕ → ℕ
+slot v = v / width % nr-buckets
+
+unfoldable pub tsInsert : TimeshareQueue → ℕ → ℕ → Bool → TimesharePut
+tsInsert t x v current =
+    let u : Pushed = pushBack (t .queues) (tsBucket t v current) x in
+    record {
+      queue = record {
+        count = sum (t .count) 1;
+        priorities = set (t .priorities) (slot v) (sum (getD (t .priorities) (slot v) 0) 1);
+        «insert_idx» = t .«insert_idx»;
+        «take_idx» = t .«take_idx»;
+        queues = u .lists;
+      };
+      behind = u .behind;
+    }
+
+unfoldable pub tsFront : TimeshareQueue → Found
+tsFront t = cond (eqb (t .count) 0) Nothing (firstFrom (t .queues) (t .«take_idx»))
+
+-- the take index once a thread has left bucket q: one further if the bucket is now empty and the indexes differ
+unfoldable pub tsNext : TimeshareQueue → ℕ → ℕ → ℕ → ℕ
+tsNext t q previous next = cond (eqb previous NONE) (cond (eqb next NONE) (cond (eqb q (t .«insert_idx»)) q ((q + 1) % nr-buckets)) q) q
+
+unfoldable pub lessOne : ℕ → ℕ
+lessOne x = x - 1
+
+unfoldable pub tsTaken : TimeshareQueue → ℕ → ℕ → ℕ → ℕ → TimeshareQueue
+tsTaken t q previous next v = record {
+  count = difference (t .count) 1;
+  priorities = set (t .priorities) (slot v) (lessOne (getD (t .priorities) (slot v) 0));
+  «insert_idx» = t .«insert_idx»;
+  «take_idx» = tsNext t q previous next;
+  queues = unlinked (t .queues) q previous next;
+}
+
+unfoldable pub tsStep : TimeshareQueue → ℕ → TimeshareQueue
+tsStep t steps = record { count = t .count; priorities = t .priorities; «insert_idx» = (t .«insert_idx» + steps) % nr-buckets; «take_idx» = t .«take_idx»; queues = t .queues }
+
+unfoldable pub tsAdvance : TimeshareQueue → ℕ → Bool → TimeshareQueue
+tsAdvance t steps force =
+    cond (eqb (t .count) 0) t (cond (eqb (t .«insert_idx») (t .«take_idx»)) (tsStep t steps) (cond force (tsStep t steps) t))
+
+-- ---- for the proofs of the code
+
+pub tops-step : (ps : List ℕ) (i : ℕ) → 1 ≤ i → topCounts ps i ≡ cond (eqb (getD ps (i - 1) 0) 0) (topCounts ps (i - 1)) ((i - 1) * width)
+unfolding topCounts
+tops-step ps (suc i) h = let e : suc i - 1 ≡ i = omega arith in rw e
+tops-step ps zero h = absurd (omega arith)
+
+pub back-zero : (j : ℕ) → j ≡ 0 → 7 ≡ step-back j
+unfolding step-back nr-buckets
+back-zero j e = rw e
+
+pub back-one : (j : ℕ) → (j ≡ 0 → ⊥) → j - 1 ≡ step-back j
+unfolding step-back
+back-one zero h = absurd (h refl)
+back-one (suc j) h = omega arith
+
+-- the code reduces each index before it adds
+pub round-sum : (a b : ℕ) → (a % 8 + b % 8) % 8 ≡ (a + b) % nr-buckets
+unfolding nr-buckets
+round-sum a b = omega arith
+
+pub round-next : (a : ℕ) → (a % 8 + 1) % 8 ≡ (a + 1) % nr-buckets
+unfolding nr-buckets
+round-next a = omega arith

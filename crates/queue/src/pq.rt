@@ -1,0 +1,94 @@
+// The realtime and the idle part (rq.rs, `PriorityQueue`).
+ghost use mathlib.Core.Path.{_≡_};
+ghost use Rattle.rules.specs.Queue.{class-bucket};
+ghost use Rattle.queue.specs.PriorityQueue.{noPriority, pqEmpty, pqHighest, pqInsert, pqFront, pqTaken};
+use crate::lists::Found;
+use crate::lists::Lists;
+use crate::num::difference;
+use rules::PriorityClass;
+
+pub struct PriorityQueue {
+    pub count: u64,
+    pub queues: Lists,
+}
+
+// behind: as in Pushed.
+pub struct PriorityPut {
+    pub queue: PriorityQueue,
+    pub behind: u64,
+}
+
+// A User thread here got a deadline boost.
+pub fn class_bucket(class: PriorityClass, value: u64) -> u64
+    ensures { λ r. ⌜ r ≡ class-bucket class value ⌝ }
+{
+    match class {
+        PriorityClass::User => 7,
+        PriorityClass::Realtime => value / 16,
+        PriorityClass::Background => value / 16,
+        PriorityClass::Idle => value / 16,
+    }
+}
+
+impl PriorityQueue {
+    pub fn new() -> Self
+        ensures { λ r. ⌜ r ≡ noPriority ⌝ }
+    {
+        let queues = Lists::new();
+        PriorityQueue { count: 0, queues }
+    }
+
+    pub fn is_empty(self) -> bool
+        ensures { λ r. ⌜ r ≡ pqEmpty self ⌝ }
+    {
+        self.count == 0
+    }
+
+    pub fn highest_priority(self) -> u64
+        ensures { λ r. ⌜ r ≡ pqHighest self ⌝ }
+    {
+        if self.count == 0 {
+            return 0;
+        }
+        let queues = self.queues;
+        queues.highest()
+    }
+
+    pub fn insert(mut self, thread: u64, class: PriorityClass, value: u64) -> PriorityPut
+        ensures { λ r. ⌜ r ≡ pqInsert self thread class value ⌝ }
+    {
+        let q = class_bucket(class, value);
+        let queues = self.queues;
+        let pushed = queues.push_back(q, thread);
+        let lists = pushed.lists;
+        let behind = pushed.behind;
+        self.count = std::num::wrapping_add_u64(self.count, 1);
+        self.queues = lists;
+        PriorityPut {
+            queue: self,
+            behind,
+        }
+    }
+
+    // Where the next thread to leave stands.
+    pub fn front(self) -> Found
+        ensures { λ r. ⌜ r ≡ pqFront self ⌝ }
+    {
+        if self.count == 0 {
+            return Found::Nothing;
+        }
+        let queues = self.queues;
+        queues.first_from(0)
+    }
+
+    // A thread has left bucket q, from behind `previous`; its link was `next`.
+    pub fn taken(mut self, q: u64, previous: u64, next: u64) -> Self
+        ensures { λ r. ⌜ r ≡ pqTaken self q previous next ⌝ }
+    {
+        let queues = self.queues;
+        let lists = queues.unlink(q, previous, next);
+        self.count = difference(self.count, 1);
+        self.queues = lists;
+        self
+    }
+}

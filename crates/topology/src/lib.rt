@@ -1,0 +1,2 @@
+// The set of CPU numbers of processor/sched.rs.
+pub mod cpuset;
