@@ -355,6 +355,6 @@ place q ws w s held d dw pl =
     let b = in-line r q ws x f s held (line-distinct r q d) f-in there in
     let c : ahead x (bucket nr-buckets (buckets-of r q) (i + f)) ≡ how-many (λ v. t v && ltb (v .time) (w .time)) ws = rw (held r (i + f)) (own .1) in
     let e : how-many (λ v. t v && ltb (v .time) (w .time)) ws
-            ≡ how-many (λ v. eqb (rank (v .put .part)) (rank r) && eqb (onward i (v .put .bucket)) f && ltb (v .time) (w .time)) ws =
-        how-many-same _ _ ws (λ v. rw (stands-is r i f v (first-of-in r q s) f-in)) in
+    ≡ how-many (λ v. eqb (rank (v .put .part)) (rank r) && eqb (onward i (v .put .bucket)) f && ltb (v .time) (w .time)) ws =
+    how-many-same _ _ ws (λ v. rw (stands-is r i f v (first-of-in r q s) f-in)) in
     (has-order r q x line, a ∙ rw (b, c, e) (sym (ahead-sum (q .take-idx) w ws)))

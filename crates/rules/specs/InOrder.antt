@@ -131,5 +131,5 @@ by-ahead {limit} {q} {l} f v w iv iw = (λ h. go h (compare i v w), λ h. less (
     less : Earlier i v w → ahead (v .put .thread) (order q) < ahead (w .put .thread) (order q)
     less e =
         let m = how-many-less (λ z. ahead-of i z v) (λ z. ahead-of i z w) v (who-waits l) (λ u a. is-ahead i u w (later i u v w (earlier i u v a) (not-later i v w e))) iv
-            (both (ahead-of i v v) (λ a. absurd (not-self i v (earlier i v v a))) (λ a. a)) (is-ahead i v w e) in
+        (both (ahead-of i v v) (λ a. absurd (not-self i v (earlier i v v a))) (λ a. a)) (is-ahead i v w e) in
         omega (arith, count-of v iv, count-of w iw)

@@ -281,7 +281,7 @@ module _ {limit : ℕ} {q q′ : Queue} (l pre mid : List PutOrTake) (p r : Put)
       let b-is = b-put l pre mid p r e in
       let g-is = gone-put x mid r in
       let calm-now : calm-while x (mid ++ (a-put r ∷ [])) ≡ true → gone x mid ≡ false → p .part ≡ part.Timeshare → (k : ℕ) × Soon limit x q′ k × (k + served mid ≤ limit * nr-buckets) =
-          λ c g u. let v = calm-put x mid r g c in let (k, w, n) = t .soon u (v .0) g in (k, s x k (v .1) w, n) in
+      λ c g u. let v = calm-put x mid r g c in let (k, w, n) = t .soon u (v .0) g in (k, s x k (v .1) w, n) in
       record {
         waits-yet = λ g.
             let h : gone x mid ≡ false = sym g-is ∙ g in
@@ -368,7 +368,7 @@ fits-put {limit} {q} {l} a pinned f v h n =
     let c : Comes (a .thread) (order q) (order (insert q a)) = join-comes (part-for a) q (bucket-for (part-for a) q a) (a .thread) (f .shape) j in
     let ws : who-waits (l ++ (a-put (put-made pinned q a) ∷ [])) ≡ who-waits l ++ (w ∷ []) = waiting-put 0 l (put-made pinned q a) ∙ rw zero-add in
     let d : Comes (a .thread) (threads (who-waits l)) (threads (who-waits l ++ (w ∷ []))) =
-        record { front = threads (who-waits l); back = []; before = sym (append-nil _); after = threads-append (who-waits l) (w ∷ []) } in
+    record { front = threads (who-waits l); back = []; before = sym (append-nil _); after = threads-append (who-waits l) (w ∷ []) } in
     record {
       shape = join-shape (part-for a) q (bucket-for (part-for a) q a) (a .thread) (f .shape);
       held = rw ws (held-join q (who-waits l) w (f .shape) j (f .held));

@@ -121,7 +121,7 @@ unfolding waiting gone is-number others
 waiting-some n [] s y = refl
 waiting-some n (a-put r ∷ es) s y =
     let e : gone (r .thread) (es ++ (a-take s (some y) ∷ [])) ≡ (gone (r .thread) es || eqb (r .thread) y) =
-        gone-append (r .thread) es (a-take s (some y) ∷ []) ∙ rw (or-false, eqb-swap y (r .thread)) in
+    gone-append (r .thread) es (a-take s (some y) ∷ []) ∙ rw (or-false, eqb-swap y (r .thread)) in
     both (gone (r .thread) es)
     (λ t. rw (e, t) (waiting-some (suc n) es s y))
     (λ t. both (eqb (r .thread) y) (λ u. rw (e, t, u) (waiting-some (suc n) es s y)) (λ u. rw (e, t, u, waiting-some (suc n) es s y)))
