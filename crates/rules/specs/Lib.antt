@@ -16,7 +16,6 @@ pub mod Lines
 pub mod Computed
 pub mod Example
 pub mod Rows
-<<<<<<< HEAD
 pub mod Ahead
 pub mod Effect
 pub mod Distance
@@ -26,6 +25,4 @@ pub mod Bound
 pub mod Kept
 pub mod InOrder
 pub mod Demand3
-=======
 pub mod Run
->>>>>>> main
