@@ -1,0 +1,235 @@
+//! differ FIRST LAST [PROFILE] [--left SIDE] [--right SIDE] [--count N] [--without HEX]...
+//! differ --stream FILE [--left SIDE] [--right SIDE]
+//!
+//! Runs two sides over streams and stops at the first byte that differs, with the shortest stream it can find. Run from
+//! the top of the repository; oracle/sides lists the sides.
+
+use std::{
+    fs,
+    io::Write,
+    process::{Command, Stdio, exit},
+};
+
+use r#gen::{PROFILES, generate, split};
+
+const STREAM: &str = "oracle/build/compared.stream";
+const SHRUNK: &str = "oracle/build/difference.stream";
+
+#[derive(Clone, Copy, PartialEq, Eq, PartialOrd, Ord)]
+enum Mode {
+    Lines,
+    Dump,
+    Digest,
+}
+
+struct Side {
+    name: String,
+    most: Mode,
+    command: Vec<String>,
+}
+
+fn stop(message: &str) -> ! {
+    eprintln!("{message}");
+    exit(2)
+}
+
+fn sides() -> Vec<Side> {
+    let text = fs::read_to_string("oracle/sides").unwrap_or_else(|_| stop("no oracle/sides here"));
+    let lines = text.lines().filter(|line| !line.starts_with('#') && !line.trim().is_empty());
+    lines
+        .map(|line| {
+            let words: Vec<String> = line.split_whitespace().map(str::to_string).collect();
+            let most = match words[1].as_str() {
+                "lines" => Mode::Lines,
+                "dump" => Mode::Dump,
+                "digest" => Mode::Digest,
+                _ => stop("oracle/sides: lines, dump or digest"),
+            };
+            Side {
+                name: words[0].clone(),
+                most,
+                command: words[2..].to_vec(),
+            }
+        })
+        .collect()
+}
+
+impl Side {
+    /// All that the side prints for the stream; a side that fails says so at the end.
+    fn run(&self, stream: &[u8], mode: Mode) -> Vec<u8> {
+        fs::write(STREAM, stream).unwrap();
+        let mut command = Command::new("timeout");
+        command.arg("600").args(&self.command);
+        match mode {
+            Mode::Lines => {}
+            Mode::Dump => {
+                command.arg("--dump");
+            }
+            Mode::Digest => {
+                command.arg("--digest");
+            }
+        }
+        let result = command
+            .stdin(fs::File::open(STREAM).unwrap())
+            .stderr(Stdio::piped())
+            .output()
+            .unwrap_or_else(|error| stop(&format!("{}: {error}", self.name)));
+        let mut text = result.stdout;
+        if !result.status.success() {
+            text.extend_from_slice(format!("failed: {}\n", result.status).as_bytes());
+            text.extend_from_slice(&result.stderr);
+        }
+        text
+    }
+}
+
+struct Pair<'a> {
+    left: &'a Side,
+    right: &'a Side,
+    mode: Mode,
+}
+
+impl Pair<'_> {
+    fn differ(&self, stream: &[u8]) -> bool {
+        self.left.run(stream, self.mode) != self.right.run(stream, self.mode)
+    }
+
+    /// Leaves out ever smaller runs of commands as long as the two still differ.
+    fn shrink(&self, stream: &[u8]) -> Vec<u8> {
+        let mut commands: Vec<Vec<u8>> = split(stream).iter().map(|c| c.to_vec()).collect();
+        // First what comes after the first difference.
+        let (mut low, mut high) = (0, commands.len());
+        while low + 1 < high {
+            let middle = (low + high) / 2;
+            if self.differ(&commands[..middle].concat()) { high = middle } else { low = middle }
+        }
+        if self.differ(&commands[..high].concat()) {
+            commands.truncate(high);
+        }
+        let mut run = (commands.len() / 2).max(1);
+        loop {
+            let (mut at, mut shorter) = (0, false);
+            while at < commands.len() {
+                let mut fewer = commands.clone();
+                fewer.drain(at..(at + run).min(commands.len()));
+                if self.differ(&fewer.concat()) {
+                    commands = fewer;
+                    shorter = true;
+                } else {
+                    at += run;
+                }
+            }
+            if run > 1 {
+                run = run.div_ceil(2);
+            } else if !shorter {
+                return commands.concat();
+            }
+        }
+    }
+
+    fn report(&self, stream: &[u8]) {
+        let show = if self.mode == Mode::Lines { Mode::Lines } else { Mode::Dump };
+        let (left, right) = (self.left.run(stream, show), self.right.run(stream, show));
+        let (left, right) = (String::from_utf8_lossy(&left), String::from_utf8_lossy(&right));
+        let (mut lefts, mut rights) = (left.lines(), right.lines());
+        let mut last = "";
+        loop {
+            let (l, r) = (lefts.next(), rights.next());
+            if l != r || l.is_none() {
+                println!("after line: {last}");
+                println!("{}: {}", self.left.name, l.unwrap_or("(nothing)"));
+                println!("{}: {}", self.right.name, r.unwrap_or("(nothing)"));
+                return;
+            }
+            let line = l.unwrap();
+            if !line.starts_with("c ") && !line.starts_with("t ") {
+                last = line;
+            }
+        }
+    }
+
+    fn check(&self, stream: &[u8], label: &str) -> u64 {
+        let left = self.left.run(stream, self.mode);
+        let right = self.right.run(stream, self.mode);
+        if left == right {
+            let text = String::from_utf8_lossy(&left);
+            let end = text.lines().last().unwrap_or("");
+            let mut words = end.split(' ');
+            if words.next() != Some("end") {
+                stop(&format!("{label}: both fail: {end}"));
+            }
+            return words.next().unwrap().parse().unwrap();
+        }
+        println!("{label}: {} and {} differ", self.left.name, self.right.name);
+        std::io::stdout().flush().unwrap();
+        let shrunk = self.shrink(stream);
+        fs::write(SHRUNK, &shrunk).unwrap();
+        println!("{} commands, in {SHRUNK}:", split(&shrunk).len());
+        for command in split(&shrunk) {
+            let hex: Vec<String> = command.iter().map(|byte| format!("{byte:02X}")).collect();
+            println!("  {}", hex.join(" "));
+        }
+        self.report(&shrunk);
+        exit(1)
+    }
+}
+
+fn main() {
+    let (mut left, mut right) = ("rust".to_string(), "second".to_string());
+    let (mut count, mut without, mut file) = (1000, Vec::new(), None);
+    let mut plain = Vec::new();
+    let mut arguments = std::env::args().skip(1);
+    while let Some(argument) = arguments.next() {
+        let mut value = || arguments.next().unwrap_or_else(|| stop("an option without its value"));
+        match argument.as_str() {
+            "--left" => left = value(),
+            "--right" => right = value(),
+            "--count" => count = value().parse().unwrap_or_else(|_| stop("--count N")),
+            "--without" => {
+                without.push(u8::from_str_radix(&value(), 16).unwrap_or_else(|_| stop("--without HEX")))
+            }
+            "--stream" => file = Some(value()),
+            _ => plain.push(argument),
+        }
+    }
+    let sides = sides();
+    let side = |name: &str| {
+        sides.iter().find(|s| s.name == name).unwrap_or_else(|| stop(&format!("no side {name}")))
+    };
+    let (left, right) = (side(&left), side(&right));
+    let pair = Pair {
+        left,
+        right,
+        mode: left.most.min(right.most),
+    };
+    fs::create_dir_all("oracle/build").unwrap();
+    if let Some(file) = file {
+        let commands = pair.check(&fs::read(&file).unwrap(), &file);
+        println!("{commands} commands, no difference");
+        return;
+    }
+    if plain.len() < 2 {
+        stop("usage: compare FIRST LAST [PROFILE] [--left SIDE] [--right SIDE] [--count N] [--without HEX]...");
+    }
+    let seed = |text: &str| text.parse::<u64>().unwrap_or_else(|_| stop("a seed is a number"));
+    let (first, last) = (seed(&plain[0]), seed(&plain[1]));
+    let profiles = match plain.get(2) {
+        Some(name) if PROFILES.contains(&name.as_str()) => vec![name.as_str()],
+        Some(name) => stop(&format!("no profile {name}; there are {}", PROFILES.join(", "))),
+        None => PROFILES.to_vec(),
+    };
+    let (mut streams, mut commands) = (0, 0);
+    for seed in first..=last {
+        for profile in &profiles {
+            let stream = generate(seed, profile, count, &without).unwrap();
+            commands += pair.check(&stream, &format!("seed {seed} profile {profile} count {count}"));
+            streams += 1;
+        }
+    }
+    println!(
+        "{} and {}: seeds {first} to {last}, {} profiles, {streams} streams, {commands} commands, no difference",
+        pair.left.name,
+        pair.right.name,
+        profiles.len()
+    );
+}

@@ -1,0 +1,33 @@
+//! gen SEED PROFILE COUNT [--without HEX]...
+//!
+//! Writes a stream of COUNT commands to standard output. `gen --profiles` lists the profiles.
+
+use std::io::Write;
+
+fn usage() -> ! {
+    eprintln!("usage: gen SEED PROFILE COUNT [--without HEX]...\n       gen --profiles");
+    std::process::exit(2);
+}
+
+fn main() {
+    let arguments: Vec<String> = std::env::args().skip(1).collect();
+    if arguments.first().is_some_and(|a| a == "--profiles") {
+        println!("{}", r#gen::PROFILES.join("\n"));
+        return;
+    }
+    let mut plain = Vec::new();
+    let mut without = Vec::new();
+    let mut list = arguments.iter();
+    while let Some(argument) = list.next() {
+        if argument == "--without" {
+            let byte = list.next().and_then(|hex| u8::from_str_radix(hex, 16).ok());
+            without.push(byte.unwrap_or_else(|| usage()));
+        } else {
+            plain.push(argument);
+        }
+    }
+    let [seed, profile, count] = plain[..] else { usage() };
+    let (Ok(seed), Ok(count)) = (seed.parse(), count.parse()) else { usage() };
+    let Some(stream) = r#gen::generate(seed, profile, count, &without) else { usage() };
+    std::io::stdout().write_all(&stream).unwrap();
+}
