@@ -1,0 +1,2 @@
+pub mod RunQueue
+pub mod Standin

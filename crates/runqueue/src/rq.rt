@@ -1,0 +1,464 @@
+// A run queue: realtime, timeshare and idle, served in that order. The Rust's flags are not kept: each says that the count of its part is not 0.
+ghost use Prim.Native.Nat.{_%_, _^_};
+ghost use mathlib.Core.Path.{_≡_};
+ghost use mathlib.Core.Bool.{cond};
+ghost use Rattle.rules.specs.declared.PriorityClass.the-variants as class;
+ghost use Rattle.rules.specs.Priority.{priority, from-raw, raw};
+ghost use Rattle.rules.specs.Queue.{is-class};
+ghost use Rattle.rules.specs.Times.{timeslice, deadline-distance};
+ghost use Rattle.queue.specs.Num.{sum, difference};
+ghost use Rattle.runqueue.specs.RunQueue.{noRunQueue, rqEmpty, raised, saidRealtime, saidTimeshare};
+ghost use Rattle.runqueue.specs.RunQueue.{counted, rqInsertRealtime, rqInsertTimeshare, rqInsertIdle, rqInsert};
+ghost use Rattle.runqueue.specs.RunQueue.{rqFrontRealtime, rqFrontTimeshare, rqFrontIdle, rqFront, frontThread};
+ghost use Rattle.runqueue.specs.RunQueue.{uncounted, rqTakenRealtime, rqRecalc, rqTakenTimeshare, rqTakenIdle, rqTaken, rqClock, rqHardtick};
+use crate::priority::class_number;
+use crate::priority::from_raw;
+use crate::priority::less;
+use crate::priority::raw;
+use queue::lists::Found;
+use queue::num::difference;
+use queue::num::product;
+use queue::pq::PriorityQueue;
+use queue::timeshare::TimeshareQueue;
+use rules::Part;
+use rules::Priority;
+use rules::PriorityClass;
+use thread::NONE;
+
+// current_priority: what the CPU advertises, raw. load: how many wait; timeshare_load: how many of them in timeshare; movable: how many are not pinned.
+pub struct RunQueue {
+    pub realtime: PriorityQueue,
+    pub timeshare: TimeshareQueue,
+    pub idle: PriorityQueue,
+    pub current_priority: u64,
+    pub load: u64,
+    pub timeshare_load: u64,
+    pub movable: u64,
+    pub last_tick: u64,
+}
+
+// What a put is told of the thread. current: it comes in as the current thread; due: its deadline is not past the tick.
+pub struct Arrival {
+    pub thread: u64,
+    pub priority: Priority,
+    pub current: bool,
+    pub due: bool,
+    pub pinned: bool,
+}
+
+// The queue, whose record's link has to be set to the thread (NONE: nobody's), and the part that it came into. The Rust answers whether that is not idle.
+pub struct Put {
+    pub queue: RunQueue,
+    pub behind: u64,
+    pub part: Part,
+}
+
+// Who leaves next.
+pub enum Front {
+    At {
+        part: Part,
+        bucket: u64,
+        thread: u64,
+    },
+    Nothing,
+}
+
+pub struct Hardtick {
+    pub queue: RunQueue,
+    pub ticks: u64,
+}
+
+// What is advertised, raw, once a thread of priority p came in.
+pub fn raised(said: u64, p: Priority) -> u64
+    ensures { λ r. ⌜ r ≡ raised said p ⌝ }
+{
+    let now = from_raw(said);
+    if less(now, p) {
+        return raw(p);
+    }
+    said
+}
+
+pub fn advertised(class: PriorityClass, value: u64) -> u64
+    ensures { λ r. ⌜ r ≡ raw (priority class value) ⌝ }
+{
+    let p = Priority { class, value };
+    raw(p)
+}
+
+// Is this class advertised?
+pub fn says(said: u64, class: PriorityClass) -> bool
+    ensures { λ r. ⌜ r ≡ is-class class (from-raw said) ⌝ }
+{
+    let now = from_raw(said);
+    let said_class = now.class;
+    class_number(said_class) == class_number(class)
+}
+
+// What is advertised once a thread has left the realtime part, of which `left` is left.
+pub fn said_realtime(said: u64, left: PriorityQueue) -> u64
+    ensures { λ r. ⌜ r ≡ saidRealtime said left ⌝ }
+{
+    if says(said, PriorityClass::Realtime) {
+        if left.is_empty() {
+            return advertised(PriorityClass::User, 127);
+        }
+        return advertised(PriorityClass::Realtime, left.highest_priority());
+    }
+    said
+}
+
+// The same of the timeshare part.
+pub fn said_timeshare(said: u64, left: TimeshareQueue, idle: PriorityQueue) -> u64
+    ensures { λ r. ⌜ r ≡ saidTimeshare said left idle ⌝ }
+{
+    if says(said, PriorityClass::User) {
+        if left.is_empty() {
+            return advertised(PriorityClass::Idle, idle.highest_priority());
+        }
+        return advertised(PriorityClass::User, left.highest_priority());
+    }
+    said
+}
+
+pub fn up_unless(x: u64, pinned: bool) -> u64
+    ensures { λ r. ⌜ r ≡ cond pinned x (sum x 1) ⌝ }
+{
+    if pinned {
+        return x;
+    }
+    std::num::wrapping_add_u64(x, 1)
+}
+
+pub fn down_unless(x: u64, pinned: bool) -> u64
+    ensures { λ r. ⌜ r ≡ cond pinned x (difference x 1) ⌝ }
+{
+    if pinned {
+        return x;
+    }
+    difference(x, 1)
+}
+
+// The timeslice of a User thread where so many wait in the timeshare part.
+pub fn user_timeslice(shortest: u64, timeshare_load: u64) -> u64
+    ensures { λ r. ⌜ r ≡ timeslice shortest class.User «timeshare_load» ⌝ }
+{
+    if timeshare_load == 0 {
+        return 100;
+    }
+    let slice = 32 / timeshare_load;
+    if slice < shortest {
+        return shortest;
+    }
+    slice
+}
+
+impl Front {
+    // The thread that leaves, NONE if none does.
+    pub fn thread(self) -> u64
+        ensures { λ r. ⌜ r ≡ frontThread self ⌝ }
+    {
+        match self {
+            Front::At {
+                part: _,
+                bucket: _,
+                thread,
+            } => thread,
+            Front::Nothing => NONE,
+        }
+    }
+}
+
+impl RunQueue {
+    pub fn new() -> Self
+        ensures { λ r. ⌜ r ≡ noRunQueue ⌝ }
+    {
+        let realtime = PriorityQueue::new();
+        let timeshare = TimeshareQueue::new();
+        let idle = PriorityQueue::new();
+        RunQueue {
+            realtime,
+            timeshare,
+            idle,
+            current_priority: 0,
+            load: 0,
+            timeshare_load: 0,
+            movable: 0,
+            last_tick: 0,
+        }
+    }
+
+    pub fn is_empty(self) -> bool
+        ensures { λ r. ⌜ r ≡ rqEmpty self ⌝ }
+    {
+        let realtime = self.realtime;
+        let timeshare = self.timeshare;
+        let idle = self.idle;
+        if realtime.is_empty() {
+            if timeshare.is_empty() {
+                return idle.is_empty();
+            }
+            return false;
+        }
+        false
+    }
+
+    pub fn current_priority(self) -> Priority
+        ensures { λ r. ⌜ r ≡ from-raw (self .«current_priority») ⌝ }
+    {
+        from_raw(self.current_priority)
+    }
+
+    // One more waits: what every put does first.
+    pub fn counted(mut self, p: Priority, pinned: bool) -> Self
+        ensures { λ r. ⌜ r ≡ counted self p pinned ⌝ }
+    {
+        self.load = std::num::wrapping_add_u64(self.load, 1);
+        self.movable = up_unless(self.movable, pinned);
+        self.current_priority = raised(self.current_priority, p);
+        self
+    }
+
+    pub fn insert_realtime(self, a: Arrival) -> Put
+        ensures { λ r. ⌜ r ≡ rqInsertRealtime self a ⌝ }
+    {
+        let p = a.priority;
+        let class = p.class;
+        let mut queue = self.counted(p, a.pinned);
+        let realtime = self.realtime;
+        let put = realtime.insert(a.thread, class, p.value);
+        let changed = put.queue;
+        let behind = put.behind;
+        queue.realtime = changed;
+        Put {
+            queue,
+            behind,
+            part: Part::Realtime,
+        }
+    }
+
+    pub fn insert_timeshare(self, a: Arrival) -> Put
+        ensures { λ r. ⌜ r ≡ rqInsertTimeshare self a ⌝ }
+    {
+        let p = a.priority;
+        let mut queue = self.counted(p, a.pinned);
+        let timeshare = self.timeshare;
+        let put = timeshare.insert(a.thread, p.value, a.current);
+        let changed = put.queue;
+        let behind = put.behind;
+        queue.timeshare_load = std::num::wrapping_add_u64(self.timeshare_load, 1);
+        queue.timeshare = changed;
+        Put {
+            queue,
+            behind,
+            part: Part::Timeshare,
+        }
+    }
+
+    pub fn insert_idle(self, a: Arrival) -> Put
+        ensures { λ r. ⌜ r ≡ rqInsertIdle self a ⌝ }
+    {
+        let p = a.priority;
+        let class = p.class;
+        let mut queue = self.counted(p, a.pinned);
+        let idle = self.idle;
+        let put = idle.insert(a.thread, class, p.value);
+        let changed = put.queue;
+        let behind = put.behind;
+        queue.idle = changed;
+        Put {
+            queue,
+            behind,
+            part: Part::Idle,
+        }
+    }
+
+    pub fn insert(self, a: Arrival) -> Put
+        ensures { λ r. ⌜ r ≡ rqInsert self a ⌝ }
+    {
+        let p = a.priority;
+        let class = p.class;
+        match class {
+            PriorityClass::Realtime => self.insert_realtime(a),
+            PriorityClass::User => {
+                if a.due {
+                    self.insert_realtime(a)
+                } else {
+                    self.insert_timeshare(a)
+                }
+            }
+            PriorityClass::Background => self.insert_idle(a),
+            PriorityClass::Idle => self.insert_idle(a),
+        }
+    }
+
+    pub fn front_idle(self) -> Front
+        ensures { λ r. ⌜ r ≡ rqFrontIdle self ⌝ }
+    {
+        let part = self.idle;
+        let found = part.front();
+        match found {
+            Found::At { bucket, thread } => Front::At {
+                part: Part::Idle,
+                bucket,
+                thread,
+            },
+            Found::Nothing => Front::Nothing,
+        }
+    }
+
+    pub fn front_timeshare(self) -> Front
+        ensures { λ r. ⌜ r ≡ rqFrontTimeshare self ⌝ }
+    {
+        let part = self.timeshare;
+        let found = part.front();
+        match found {
+            Found::At { bucket, thread } => Front::At {
+                part: Part::Timeshare,
+                bucket,
+                thread,
+            },
+            Found::Nothing => self.front_idle(),
+        }
+    }
+
+    pub fn front_realtime(self) -> Front
+        ensures { λ r. ⌜ r ≡ rqFrontRealtime self ⌝ }
+    {
+        let part = self.realtime;
+        let found = part.front();
+        match found {
+            Found::At { bucket, thread } => Front::At {
+                part: Part::Realtime,
+                bucket,
+                thread,
+            },
+            Found::Nothing => self.front_timeshare(),
+        }
+    }
+
+    // Who leaves if a thread is asked of the queue: the first half of the Rust's `take`.
+    pub fn front(self, stealing: bool) -> Front
+        ensures { λ r. ⌜ r ≡ rqFront self stealing ⌝ }
+    {
+        if stealing {
+            if self.movable == 0 {
+                return Front::Nothing;
+            }
+            return self.front_realtime();
+        }
+        self.front_realtime()
+    }
+
+    // One less waits: what every take does.
+    pub fn uncounted(mut self, pinned: bool) -> Self
+        ensures { λ r. ⌜ r ≡ uncounted self pinned ⌝ }
+    {
+        self.load = difference(self.load, 1);
+        self.movable = down_unless(self.movable, pinned);
+        self
+    }
+
+    pub fn taken_realtime(self, bucket: u64, previous: u64, next: u64, pinned: bool) -> Self
+        ensures { λ r. ⌜ r ≡ rqTakenRealtime self bucket previous next pinned ⌝ }
+    {
+        let mut queue = self.uncounted(pinned);
+        let part = self.realtime;
+        let left = part.taken(bucket, previous, next);
+        queue.realtime = left;
+        queue.current_priority = said_realtime(self.current_priority, left);
+        queue
+    }
+
+    pub fn recalc_priority_timeshare(mut self) -> Self
+        ensures { λ r. ⌜ r ≡ rqRecalc self ⌝ }
+    {
+        let timeshare = self.timeshare;
+        let idle = self.idle;
+        self.current_priority = said_timeshare(self.current_priority, timeshare, idle);
+        self
+    }
+
+    pub fn taken_timeshare(
+        self,
+        bucket: u64,
+        previous: u64,
+        next: u64,
+        value: u64,
+        pinned: bool,
+    ) -> Self
+        ensures { λ r. ⌜ r ≡ rqTakenTimeshare self bucket previous next value pinned ⌝ }
+    {
+        let mut queue = self.uncounted(pinned);
+        let part = self.timeshare;
+        let left = part.taken(bucket, previous, next, value);
+        queue.timeshare = left;
+        queue.timeshare_load = difference(self.timeshare_load, 1);
+        queue.recalc_priority_timeshare()
+    }
+
+    pub fn taken_idle(self, bucket: u64, previous: u64, next: u64, pinned: bool) -> Self
+        ensures { λ r. ⌜ r ≡ rqTakenIdle self bucket previous next pinned ⌝ }
+    {
+        let mut queue = self.uncounted(pinned);
+        let part = self.idle;
+        let left = part.taken(bucket, previous, next);
+        queue.idle = left;
+        queue.current_priority = advertised(PriorityClass::Idle, left.highest_priority());
+        queue
+    }
+
+    // The second half of the Rust's `take`: the thread that `front` answered has left. It stood behind `previous` (NONE: first in its bucket), its
+    // link was `next`, its value when it was put in `value`.
+    pub fn taken(self, front: Front, previous: u64, next: u64, value: u64, pinned: bool) -> Self
+        ensures { λ r. ⌜ r ≡ rqTaken self front previous next value pinned ⌝ }
+    {
+        match front {
+            Front::At {
+                part,
+                bucket,
+                thread: _,
+            } => match part {
+                Part::Realtime => self.taken_realtime(bucket, previous, next, pinned),
+                Part::Timeshare => self.taken_timeshare(bucket, previous, next, value, pinned),
+                Part::Idle => self.taken_idle(bucket, previous, next, pinned),
+            },
+            Front::Nothing => self,
+        }
+    }
+
+    pub fn timeslice(self, shortest: u64, class: PriorityClass) -> u64
+        ensures { λ r. ⌜ r ≡ timeslice shortest class (self .«timeshare_load») ⌝ }
+    {
+        match class {
+            PriorityClass::User => user_timeslice(shortest, self.timeshare_load),
+            PriorityClass::Realtime => 100,
+            PriorityClass::Background => 100,
+            PriorityClass::Idle => 100,
+        }
+    }
+
+    pub fn deadline(self, shortest: u64, class: PriorityClass) -> u64
+        ensures { λ r. ⌜ r ≡ deadline-distance shortest class (self .«timeshare_load») (self .load) % 2 ^ 64 ⌝ }
+    {
+        let slice = self.timeslice(shortest, class);
+        product(slice, self.load)
+    }
+
+    pub fn clock(mut self) -> Self
+        ensures { λ r. ⌜ r ≡ rqClock self ⌝ }
+    {
+        let timeshare = self.timeshare;
+        let advanced = timeshare.advance_insert_index(1, true);
+        self.timeshare = advanced;
+        self
+    }
+
+    pub fn hardtick(mut self, now: u64) -> Hardtick
+        ensures { λ r. ⌜ r ≡ rqHardtick self now ⌝ }
+    {
+        let ticks = difference(now, self.last_tick);
+        self.last_tick = now;
+        Hardtick { queue: self, ticks }
+    }
+}
