@@ -1,8 +1,9 @@
-//! differ FIRST LAST [PROFILE] [--left SIDE] [--right SIDE] [--count N] [--without HEX]...
-//! differ --stream FILE [--left SIDE] [--right SIDE]
+//! differ FIRST LAST [PROFILE] [--left SIDE] [--right SIDE] [--count N] [--without HEX]... [--lines] [--as-found]
+//! differ --stream FILE [--left SIDE] [--right SIDE] [--lines] [--as-found]
 //!
-//! Runs two sides over streams and stops at the first byte that differs, with the shortest stream it can find. Run from
-//! the top of the repository; oracle/sides lists the sides.
+//! Runs two sides over streams and stops at the first byte that differs, with the shortest stream it can find, or with
+//! `--as-found` at once. `--lines` leaves the state out of the comparison. Run from the top of the repository;
+//! oracle/sides lists the sides.
 
 use std::{
     fs,
@@ -87,6 +88,7 @@ struct Pair<'a> {
     left: &'a Side,
     right: &'a Side,
     mode: Mode,
+    as_found: bool,
 }
 
 impl Pair<'_> {
@@ -162,6 +164,9 @@ impl Pair<'_> {
         }
         println!("{label}: {} and {} differ", self.left.name, self.right.name);
         std::io::stdout().flush().unwrap();
+        if self.as_found {
+            exit(1)
+        }
         let shrunk = self.shrink(stream);
         fs::write(SHRUNK, &shrunk).unwrap();
         println!("{} commands, in {SHRUNK}:", split(&shrunk).len());
@@ -177,6 +182,7 @@ impl Pair<'_> {
 fn main() {
     let (mut left, mut right) = ("rust".to_string(), "second".to_string());
     let (mut count, mut without, mut file) = (1000, Vec::new(), None);
+    let (mut lines, mut as_found) = (false, false);
     let mut plain = Vec::new();
     let mut arguments = std::env::args().skip(1);
     while let Some(argument) = arguments.next() {
@@ -188,6 +194,8 @@ fn main() {
             "--without" => {
                 without.push(u8::from_str_radix(&value(), 16).unwrap_or_else(|_| stop("--without HEX")))
             }
+            "--lines" => lines = true,
+            "--as-found" => as_found = true,
             "--stream" => file = Some(value()),
             _ => plain.push(argument),
         }
@@ -200,7 +208,8 @@ fn main() {
     let pair = Pair {
         left,
         right,
-        mode: left.most.min(right.most),
+        mode: if lines { Mode::Lines } else { left.most.min(right.most) },
+        as_found,
     };
     fs::create_dir_all("oracle/build").unwrap();
     if let Some(file) = file {
