@@ -16,4 +16,16 @@ pub mod Lines
 pub mod Computed
 pub mod Example
 pub mod Rows
+pub mod Ahead
+pub mod Effect
+pub mod Distance
+pub mod Waiting
+pub mod Held
+pub mod Bound
+pub mod Kept
+pub mod InOrder
+pub mod Sound
+pub mod Steps
+pub mod Reached
+pub mod Demand3
 pub mod Run

@@ -1,0 +1,2 @@
+// Scheduling (processor/sched.rs) over the lent thread records and the words of the CPUs.
+pub mod signal;
