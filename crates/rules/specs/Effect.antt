@@ -132,12 +132,12 @@ pub and-right : (s t : Bool) → (s && t) ≡ true → t ≡ true
 and-right true t e = e
 and-right false t e = absurd (false≢true e)
 
-next-take-idx-in : (f : ℕ) (ts : Buckets) (j : ℕ) → j < nr-buckets → next-take-idx f ts j < nr-buckets
+pub next-take-idx-in : (f : ℕ) (ts : Buckets) (j : ℕ) → j < nr-buckets → next-take-idx f ts j < nr-buckets
 unfolding next-take-idx
 next-take-idx-in f ts j h = both (empty (bucket nr-buckets ts j) && not (eqb j f)) (λ p. rw p (mod-lt (suc j) some-bucket)) (λ p. rw p h)
 
 -- where the emptying index moves, it passes nobody
-around-next-take-idx : (f : ℕ) (bs : Buckets) (i j x : ℕ) → length bs ≡ nr-buckets → Hit nr-buckets bs i nr-buckets j x
+pub around-next-take-idx : (f : ℕ) (bs : Buckets) (i j x : ℕ) → length bs ≡ nr-buckets → Hit nr-buckets bs i nr-buckets j x
     → around nr-buckets (pop bs j) (next-take-idx f (pop bs j) j) nr-buckets ≡ around nr-buckets (pop bs j) i nr-buckets
 unfolding next-take-idx
 around-next-take-idx f bs i j x l h =
@@ -145,7 +145,7 @@ around-next-take-idx f bs i j x l h =
     (λ p. rw p (around-pop-next nr-buckets bs i j x l h (empty-true _ (and-left _ _ p))))
     (λ p. rw p (around-pop-there nr-buckets bs i j x l h))
 
-hit-in : {bs : Buckets} {i k j x : ℕ} → Hit nr-buckets bs i k j x → j < nr-buckets
+pub hit-in : {bs : Buckets} {i k j x : ℕ} → Hit nr-buckets bs i k j x → j < nr-buckets
 hit-in {i = i} h = rw (h .place) (mod-lt (i + h .passed) some-bucket)
 
 hit-holds : {bs : Buckets} {i k j x : ℕ} (h : Hit nr-buckets bs i k j x) → bucket nr-buckets bs j ≡ x ∷ h .rest

@@ -1,8 +1,9 @@
-//! differ FIRST LAST [PROFILE] [--left SIDE] [--right SIDE] [--count N] [--without HEX]...
-//! differ --stream FILE [--left SIDE] [--right SIDE]
+//! differ FIRST LAST [PROFILE] [--left SIDE] [--right SIDE] [--count N] [--without HEX]... [--lines] [--as-found]
+//! differ --stream FILE [--left SIDE] [--right SIDE] [--lines] [--as-found]
 //!
-//! Runs two sides over streams and stops at the first byte that differs, with the shortest stream it can find. Run from
-//! the top of the repository; oracle/sides lists the sides.
+//! Runs two sides over streams and stops at the first byte that differs, with the shortest stream it can find, or with
+//! `--as-found` at once. `--lines` leaves the state out of the comparison. Run from the top of the repository;
+//! oracle/sides lists the sides.
 
 use std::{
     fs,
@@ -10,10 +11,14 @@ use std::{
     process::{Command, Stdio, exit},
 };
 
-use r#gen::{PROFILES, generate, split};
+use r#gen::{PROFILES, draws::PROFILE, generate, split};
 
-const STREAM: &str = "oracle/build/compared.stream";
 const SHRUNK: &str = "oracle/build/difference.stream";
+
+/// Where the sides read the stream from, a file of this process.
+fn stream_file() -> String {
+    format!("oracle/build/compared.{}", std::process::id())
+}
 
 #[derive(Clone, Copy, PartialEq, Eq, PartialOrd, Ord)]
 enum Mode {
@@ -57,7 +62,8 @@ fn sides() -> Vec<Side> {
 impl Side {
     /// All that the side prints for the stream; a side that fails says so at the end.
     fn run(&self, stream: &[u8], mode: Mode) -> Vec<u8> {
-        fs::write(STREAM, stream).unwrap();
+        let file = stream_file();
+        fs::write(&file, stream).unwrap();
         let mut command = Command::new("timeout");
         command.arg("600").args(&self.command);
         match mode {
@@ -70,10 +76,11 @@ impl Side {
             }
         }
         let result = command
-            .stdin(fs::File::open(STREAM).unwrap())
+            .stdin(fs::File::open(&file).unwrap())
             .stderr(Stdio::piped())
             .output()
             .unwrap_or_else(|error| stop(&format!("{}: {error}", self.name)));
+        fs::remove_file(&file).unwrap();
         let mut text = result.stdout;
         if !result.status.success() {
             text.extend_from_slice(format!("failed: {}\n", result.status).as_bytes());
@@ -87,6 +94,7 @@ struct Pair<'a> {
     left: &'a Side,
     right: &'a Side,
     mode: Mode,
+    as_found: bool,
 }
 
 impl Pair<'_> {
@@ -162,6 +170,9 @@ impl Pair<'_> {
         }
         println!("{label}: {} and {} differ", self.left.name, self.right.name);
         std::io::stdout().flush().unwrap();
+        if self.as_found {
+            exit(1)
+        }
         let shrunk = self.shrink(stream);
         fs::write(SHRUNK, &shrunk).unwrap();
         println!("{} commands, in {SHRUNK}:", split(&shrunk).len());
@@ -177,6 +188,7 @@ impl Pair<'_> {
 fn main() {
     let (mut left, mut right) = ("rust".to_string(), "second".to_string());
     let (mut count, mut without, mut file) = (1000, Vec::new(), None);
+    let (mut lines, mut as_found) = (false, false);
     let mut plain = Vec::new();
     let mut arguments = std::env::args().skip(1);
     while let Some(argument) = arguments.next() {
@@ -188,6 +200,8 @@ fn main() {
             "--without" => {
                 without.push(u8::from_str_radix(&value(), 16).unwrap_or_else(|_| stop("--without HEX")))
             }
+            "--lines" => lines = true,
+            "--as-found" => as_found = true,
             "--stream" => file = Some(value()),
             _ => plain.push(argument),
         }
@@ -200,7 +214,8 @@ fn main() {
     let pair = Pair {
         left,
         right,
-        mode: left.most.min(right.most),
+        mode: if lines { Mode::Lines } else { left.most.min(right.most) },
+        as_found,
     };
     fs::create_dir_all("oracle/build").unwrap();
     if let Some(file) = file {
@@ -214,7 +229,7 @@ fn main() {
     let seed = |text: &str| text.parse::<u64>().unwrap_or_else(|_| stop("a seed is a number"));
     let (first, last) = (seed(&plain[0]), seed(&plain[1]));
     let profiles = match plain.get(2) {
-        Some(name) if PROFILES.contains(&name.as_str()) => vec![name.as_str()],
+        Some(name) if PROFILES.contains(&name.as_str()) || name == PROFILE => vec![name.as_str()],
         Some(name) => stop(&format!("no profile {name}; there are {}", PROFILES.join(", "))),
         None => PROFILES.to_vec(),
     };

@@ -2,6 +2,7 @@
 //! blocked, running and waiting, and most of what it writes is obeyed.
 
 pub mod bad;
+pub mod draws;
 pub mod plan;
 pub mod random;
 
@@ -26,6 +27,9 @@ pub struct Generator {
 
 /// A stream of at most `count` commands. Commands whose bytes are in `without` are left out.
 pub fn generate(seed: u64, profile: &str, count: usize, without: &[u8]) -> Option<Vec<u8>> {
+    if profile == draws::PROFILE {
+        return Some(draws::generate(count));
+    }
     let number = PROFILES.iter().position(|name| *name == profile)?;
     let mut random = Random::new(seed, number as u64);
     // Endings are tried on streams of every length, the empty one too.
@@ -121,16 +125,13 @@ impl Generator {
             self.sprinkle();
             self.write(&[0x01, *cpu]);
         }
-        let leaves = self.make_nodes();
         self.random.shuffle(&mut cpus);
-        for cpu in &cpus {
-            self.sprinkle();
-            let leaf = match self.plan.crowd {
-                true => leaves[self.random.below(leaves.len().min(2) as u64) as usize],
-                false => self.random.of(&leaves),
-            };
-            self.write(&[0x03, leaf, *cpu]);
-        }
+        // Sometimes the tree goes on growing after the first CPUs have their places.
+        let early = if self.plan.grows { cpus.len() / 2 } else { 0 };
+        self.make_nodes(if early > 0 { self.plan.nodes / 2 } else { self.plan.nodes });
+        self.place(&cpus[..early]);
+        self.make_nodes(self.plan.nodes);
+        self.place(&cpus[early..]);
         self.sprinkle();
         self.write(&[0x04]);
         cpus.sort();
@@ -140,28 +141,43 @@ impl Generator {
         }
     }
 
-    /// The nodes of the tree; its leaves.
-    fn make_nodes(&mut self) -> Vec<u8> {
-        let mut children = vec![0usize];
-        while children.len() < self.plan.nodes {
+    /// Nodes until there are so many.
+    fn make_nodes(&mut self, wanted: usize) {
+        while self.state.topology.nodes() < wanted && !self.full() {
             self.sprinkle();
+            let nodes = self.state.topology.nodes();
             let parent = match self.plan.shape {
                 plan::Shape::Flat => 0,
-                plan::Shape::Deep => {
-                    let back = self.random.below(2.min(children.len() as u64)) as usize;
-                    children.len() - 1 - back
-                }
-                plan::Shape::Uneven => self.random.below(children.len() as u64) as usize,
-                plan::Shape::Binary => (children.len() - 1) / 2,
+                plan::Shape::Deep => nodes - 1 - self.random.below(2.min(nodes as u64)) as usize,
+                plan::Shape::Uneven => self.random.below(nodes as u64) as usize,
+                plan::Shape::Binary => (nodes - 1) / 2,
             };
             let kind = self.random.below(4) as u8;
             if self.write(&[0x02, parent as u8, kind]) != Some(Answer::Obeyed) {
-                break;
+                let free: Vec<u8> =
+                    (0..nodes as u8).filter(|n| self.state.topology.may_have_child(*n)).collect();
+                if free.is_empty() {
+                    return;
+                }
+                let parent = self.random.of(&free);
+                if self.write(&[0x02, parent, kind]).is_none() {
+                    return;
+                }
             }
-            children[parent] += 1;
-            children.push(0);
         }
-        (0..children.len() as u8).filter(|node| children[*node as usize] == 0).collect()
+    }
+
+    fn place(&mut self, cpus: &[u8]) {
+        for cpu in cpus {
+            self.sprinkle();
+            let nodes = self.state.topology.nodes() as u8;
+            let leaves: Vec<u8> = (0..nodes).filter(|n| self.state.topology.is_leaf(*n)).collect();
+            let leaf = match self.plan.crowd {
+                true => leaves[self.random.below(leaves.len().min(2) as u64) as usize],
+                false => self.random.of(&leaves),
+            };
+            self.write(&[0x03, leaf, *cpu]);
+        }
     }
 
     /// A refused command now and then, also before the seal.

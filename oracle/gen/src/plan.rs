@@ -2,9 +2,9 @@
 
 use crate::random::Random;
 
-pub const PROFILES: [&str; 16] = [
-    "solo", "leaf", "flat", "deep", "uneven", "nodes", "wide", "pins", "classes", "ticks", "balance", "steal",
-    "donate", "refuse", "endings", "mixed",
+pub const PROFILES: [&str; 17] = [
+    "solo", "leaf", "flat", "deep", "uneven", "nodes", "wide", "queues", "pins", "classes", "ticks", "balance",
+    "steal", "donate", "refuse", "endings", "mixed",
 ];
 
 #[derive(Clone, Copy)]
@@ -37,6 +37,8 @@ pub struct Plan {
     pub shape: Shape,
     /// All CPUs on the first two leaves, the others empty.
     pub crowd: bool,
+    /// Nodes and places take turns.
+    pub grows: bool,
     pub threads: usize,
     /// Chances in a hundred.
     pub pins: u64,
@@ -50,6 +52,8 @@ pub struct Plan {
     pub flags: &'static [u8],
     pub far: bool,
     pub farthest: bool,
+    /// Long queues.
+    pub long: bool,
     /// Waiting threads to a CPU, about.
     pub target: usize,
     /// wake, schedule, block, tick, hardtick, stattick, resched, preempt, donate, remove, critical, declare
@@ -61,7 +65,10 @@ const ALL_FLAGS: &[u8] = &[0, 1, 2, 3, 4, 4, 5, 5, 6, 6, 7, 7];
 
 impl Plan {
     pub fn draw_target(&self, random: &mut Random) -> usize {
-        random.of(&[0, 1, 1, 2, 2, 3, 4, 6, 10, 20])
+        match self.long {
+            true => random.of(&[14, 15, 16, 17, 18, 30, 33, 60, 100]),
+            false => random.of(&[0, 1, 1, 2, 2, 3, 4, 6, 10, 20]),
+        }
     }
 
     pub fn draw(profile: &str, r: &mut Random, count: usize) -> Plan {
@@ -74,6 +81,7 @@ impl Plan {
             nodes: 1 + r.below(2 * cpus as u64 + 2) as usize,
             shape: r.of(&[Shape::Flat, Shape::Deep, Shape::Uneven, Shape::Binary]),
             crowd: r.chance(20),
+            grows: r.chance(30),
             threads: r.between(1, 5 * cpus as u64 + 3) as usize,
             pins: r.of(&[0, 0, 10, 30]),
             bad: r.of(&[0, 0, 1, 3]),
@@ -86,6 +94,7 @@ impl Plan {
             flags: ALL_FLAGS,
             far: r.chance(40),
             farthest: r.chance(5),
+            long: false,
             target: 2,
             weights: [20, 14, 8, 8, 9, 9, 5, 6, 6, 2, 2, 1],
             ending: Ending::Clean,
@@ -121,6 +130,14 @@ impl Plan {
                 plan.nodes = r.of(&[1, 9, 17, 65, 90]);
                 plan.threads = r.of(&[64, 200, 500, 1024, 1024]).min(count / 2).max(8);
                 plan.dense = true;
+            }
+            "queues" => {
+                plan.cpus = r.of(&[1, 1, 2, 3]);
+                plan.threads = r.of(&[20, 40, 70, 140]).min(count / 4);
+                plan.classes = r.of(&[&[2], &[2, 2, 2, 3], &[2, 2, 1]]);
+                plan.long = true;
+                plan.target = 18;
+                plan.weights = [34, 12, 2, 10, 14, 8, 2, 8, 4, 2, 1, 1];
             }
             "pins" => {
                 plan.pins = r.of(&[50, 80, 100]);

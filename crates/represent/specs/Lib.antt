@@ -1,0 +1,8 @@
+pub mod Linked
+pub mod Shown
+pub mod Counts
+pub mod Parts
+pub mod Standin
+pub mod Well
+pub mod Operations
+pub mod Queues
