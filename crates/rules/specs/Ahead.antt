@@ -121,6 +121,12 @@ served [] = 0
 served (a-put p ∷ es) = served es
 served (a-take s o ∷ es) = counts o + served es
 
+-- how many puts there are
+unfoldable pub puts : List PutOrTake → ℕ
+puts [] = 0
+puts (a-put p ∷ es) = suc (puts es)
+puts (a-take s o ∷ es) = puts es
+
 -- ---- the provisos of the bound
 
 -- The arrival does not delay those who wait in timeshare: it is none in the realtime part; in timeshare it comes in neither as the current thread nor while the

@@ -129,7 +129,7 @@ value-below k v l e =
 
 -- ---- 12: a blocked thread neither waits nor runs
 
-any-not : (n : ℕ) (test : ℕ → Bool) → any-below n test ≡ false → (c : ℕ) → c < n → test c ≡ false
+pub any-not : (n : ℕ) (test : ℕ → Bool) → any-below n test ≡ false → (c : ℕ) → c < n → test c ≡ false
 unfolding any-below
 any-not zero test e c h = absurd (omega arith)
 any-not (suc n) test e c h =
@@ -144,7 +144,7 @@ unfolding is-number
 number-is x none e = cc
 number-is x (some y) e = let z : y ≡ x = cc in eq-eqb y x z
 
-or-none : (s t : Bool) → (s || t) ≡ false → (s ≡ false) × (t ≡ false)
+pub or-none : (s t : Bool) → (s || t) ≡ false → (s ≡ false) × (t ≡ false)
 or-none true t e = absurd (true≢false e)
 or-none false t e = (refl, e)
 
