@@ -1,28 +1,28 @@
 -- What every put, take and `advance_insert_index` keeps of a queue and its puts and takes, and what follows of demand 3 for one queue. Assumes nothing.
-use Prim.Native.Nat.{ℕ, zero, suc, _+_, _*_, _≤_, _<_}
+use Prim.Native.Nat.{ℕ, suc, _+_, _*_, _≤_, _<_}
 use mathlib.Core.Path.{_≡_, refl, sym, ap, subst, _∙_}
-use mathlib.Core.Logic.{_≢_, _↔_, _⊎_, inl, inr}
-use mathlib.Core.Bool.{Bool, true, false, cond, not, _&&_, _||_, true≢false, false≢true, or-false, or-comm}
+use mathlib.Core.Logic.{_≢_, _↔_, inl, inr}
+use mathlib.Core.Bool.{Bool, true, false, cond, not, _&&_, _||_, true≢false, false≢true, or-false}
 use mathlib.Core.Option.{Option, none, some}
 use mathlib.Core.List.{List, [], _∷_, _++_, append-assoc, append-nil, nil≢cons}
 use lib.ListN.{length, length-append}
-use lib.Dec.{eqb, ltb}
-use borrow.Author.Tests.{eqb-true, eqb-false, eq-eqb, ne-eqb, not-true}
-use native.Mathlib.Nat.{add-zero, add-suc, suc-add, zero-add}
+use lib.Dec.{eqb}
+use borrow.Author.Tests.{eqb-true, eqb-false, eq-eqb, ne-eqb}
+use native.Mathlib.Nat.{zero-add}
 use native.Mathlib.Omega.{arith}
 use Rattle.rules.specs.declared.Part.{Part}
 use Rattle.rules.specs.declared.Part.the-variants as part
-use Rattle.rules.specs.Line.{has, ahead, both, count, Distinct, Below, Comes, comes-has, comes-distinct, comes-below, comes-length, distinct-length, has-append, without}
-use Rattle.rules.specs.Line.{distinct-without, has-without}
+use Rattle.rules.specs.Line.{has, ahead, both, count, Distinct, Below, Comes, comes-has, comes-distinct, comes-below, comes-length, distinct-length, without}
+use Rattle.rules.specs.Line.{distinct-without}
 use Rattle.rules.specs.Buckets.{bucket}
 use Rattle.rules.specs.Priority.{nr-values}
 use Rattle.rules.specs.Queue.{Queue, nr-buckets, no-queue, order, Arrival, part-for, bucket-for, join-in, insert, movable, Next, nobody, next-in, next, leave, asked, advance-insert-index}
 use Rattle.rules.specs.Puts.{Put, PutOrTake, a-put, a-take, put-made}
 use Rattle.rules.specs.State.{is-number}
 use Rattle.rules.specs.Ahead.{gone, Wait, at-time, waiting, who-waits, threads, In, how-many, ahead-of, put-after, a-of, puts-ahead, b-of, counts, served, puts, calm-in, calm-while, unpinned}
-use Rattle.rules.specs.Effect.{Shape, some-bucket, start-shape, start-order, bucket-for-in, join-comes, join-shape, NextIs, next-nobody, next-head, next-is, buckets-of}
-use Rattle.rules.specs.Effect.{advance-order, advance-take-idx, advance-buckets, advance-shape, and-left, and-right}
-use Rattle.rules.specs.Waiting.{eqb-swap, others, threads-append, how-many-append, others-threads, gone-append, waiting-put, waiting-none, waiting-some, waiting-rising, Placed, placed, put-in-waiting}
+use Rattle.rules.specs.Effect.{Shape, start-shape, start-order, bucket-for-in, join-comes, join-shape, NextIs, next-nobody, next-head, next-is, buckets-of}
+use Rattle.rules.specs.Effect.{advance-order, advance-buckets, advance-shape, and-left, and-right}
+use Rattle.rules.specs.Waiting.{eqb-swap, others, threads-append, how-many-append, others-threads, gone-append, waiting-put, waiting-none, waiting-some, waiting-rising, placed, put-in-waiting}
 use Rattle.rules.specs.Held.{Held, held-start, held-join, Left, held-left, leave-left, place}
 use Rattle.rules.specs.Bound.{Soon, soon-now, soon-join, soon-in, Falls, falls, soon-advance}
 

@@ -2,7 +2,6 @@
 use Prim.Native.Nat.{ℕ}
 use mathlib.Core.Path.{_≡_, refl, sym, _∙_}
 use mathlib.Core.Logic.{_≢_}
-use mathlib.Core.Bool.{Bool, true, false, cond}
 use mathlib.Core.Option.{Option, none, some}
 use mathlib.Core.List.{List, []}
 use lib.Dec.{eqb}
@@ -12,7 +11,7 @@ use Rattle.rules.specs.State.{State}
 use Rattle.rules.specs.Schedule.{World}
 use Rattle.rules.specs.Requests.{Request, declare-cpu, add-node, place-cpu, seal, declare-thread, set-tick, schedule-thread, schedule, hardtick, stattick, resched, maybe-preempt, donate, remove-donation, set-critical, Reading, unknown, cut-short, asks, read}
 use Rattle.rules.specs.Questions.{refusal}
-use Rattle.rules.specs.Commands.{Step, nothing-shown, shown, no-log, refuses, changed, ran, scheduled-on, schedules, ran-on, obeys, answered, step}
+use Rattle.rules.specs.Commands.{nothing-shown, shown, no-log, refuses, changed, ran, scheduled-on, schedules, ran-on, obeys, answered, step}
 
 obeyed-on : (s : State) (us x : ℕ) (w : World) (o : Option ℕ) → scheduled-on s us x w o .answer .refused ≡ 0
 unfolding scheduled-on ran shown
