@@ -472,15 +472,19 @@ movable-none : (pinned : ℕ → Bool) (l : List ℕ) → ((x : ℕ) → has x l
 unfolding movable has
 movable-none pinned [] h = refl
 movable-none pinned (y ∷ l) h =
-    rw (h y (rw (eq-eqb y y refl)), movable-none pinned l (λ x i. h x (rw i (both (eqb y x) (λ e. rw e) (λ e. rw e)))))
+    let first : pinned y ≡ true = h y (rw (eq-eqb y y refl)) in
+    let others-none : movable pinned l ≡ 0 = movable-none pinned l (λ x i. h x (rw i (both (eqb y x) (λ e. rw e) (λ e. rw e)))) in
+    rw first (omega arith)
 
 none-movable : (pinned : ℕ → Bool) (l : List ℕ) (x : ℕ) → movable pinned l ≡ 0 → has x l ≡ true → pinned x ≡ true
 unfolding movable has
 none-movable pinned [] x m h = absurd (false≢true h)
 none-movable pinned (y ∷ l) x m h =
     both (pinned y)
-    (λ e. both (eqb y x) (λ f. rw (eqb-true y x f) at e) (λ f. none-movable pinned l x (rw (e, zero-add) at m) (rw f at h)))
-    (λ e. let z : 1 + movable pinned l ≡ 0 = rw e at m in absurd (omega arith))
+    (λ e.
+    let none-later : movable pinned l ≡ 0 = omega (arith, m) in
+    both (eqb y x) (λ f. rw (eqb-true y x f) at e) (λ f. none-movable pinned l x none-later (rw f at h)))
+    (λ e. let none-here : 1 ≤ 0 = omega (arith, rw e at m) in absurd (omega arith))
 
 unpinned-none : (ws : List Wait) → ((v : Wait) → In v ws → v .put .pinned ≡ true) → how-many unpinned ws ≡ 0
 unfolding how-many unpinned In
