@@ -3,6 +3,7 @@
 
 pub mod bad;
 pub mod draws;
+pub mod mangled;
 pub mod plan;
 pub mod random;
 
@@ -20,7 +21,7 @@ pub struct Generator {
     written: usize,
     count: usize,
     without: Vec<u8>,
-    /// The CPUs declared, and those that are most often used.
+    /// The CPUs and threads declared.
     cpus: Vec<u8>,
     threads: Vec<u16>,
 }
@@ -30,6 +31,9 @@ pub fn generate(seed: u64, profile: &str, count: usize, without: &[u8]) -> Optio
     if profile == draws::PROFILE {
         return Some(draws::generate(count));
     }
+    if profile == mangled::PROFILE {
+        return Some(mangled::generate(seed, count, without));
+    }
     let number = PROFILES.iter().position(|name| *name == profile)?;
     let mut random = Random::new(seed, number as u64);
     // Endings are tried on streams of every length, the empty one too.
@@ -38,7 +42,7 @@ pub fn generate(seed: u64, profile: &str, count: usize, without: &[u8]) -> Optio
         "endings" => random.below(count as u64 + 1) as usize,
         _ => count,
     };
-    let plan = Plan::draw(profile, &mut random, count);
+    let plan = Plan::draw(profile, seed, &mut random, count);
     let mut generator = Generator {
         random,
         plan,
@@ -360,7 +364,7 @@ impl Generator {
     fn tick(&mut self) -> u64 {
         let now = self.state.tick;
         let jump = match self.random.below(100) {
-            0 if self.plan.far => return (1 << 32) + now.max(1 << 32) - (1 << 32),
+            0 if self.plan.far => return now.max(1 << 32),
             1 if self.plan.far => (1 << 32) - 1 + self.random.below(3),
             2 if self.plan.far => (1 << 32) * (1 + self.random.below(5)) + self.random.below(120),
             3 if self.plan.far => self.random.next() >> (2 + self.random.below(40)),
@@ -407,12 +411,12 @@ impl Generator {
                     self.stream.push(more);
                 }
             }
-            plan::Ending::Cut => {
-                let command = self.random.of(&[
-                    0x01u8, 0x02, 0x03, 0x10, 0x11, 0x12, 0x13, 0x14, 0x15, 0x16, 0x17, 0x18, 0x19, 0x1a,
-                ]);
+            plan::Ending::Cut(number) => {
+                let lengths = |byte: u8| (0..operands(byte).unwrap_or(0)).map(move |kept| (byte, kept));
+                let cuts: Vec<(u8, usize)> = (0..=255).flat_map(lengths).collect();
+                let (command, kept) = cuts[number as usize % cuts.len()];
                 self.stream.push(command);
-                for _ in 0..self.random.below(operands(command).unwrap() as u64) {
+                for _ in 0..kept {
                     let more = self.random.below(4) as u8;
                     self.stream.push(more);
                 }
