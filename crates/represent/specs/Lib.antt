@@ -8,3 +8,4 @@ pub mod Queues
 pub mod Records
 pub mod System
 pub mod Middle
+pub mod Worlds
