@@ -13,7 +13,7 @@ use Rattle.rules.specs.Line.{has, both}
 use Rattle.rules.specs.Queue.{Queue, order}
 use Rattle.rules.specs.Times as times
 use Rattle.rules.specs.Times.{pinned}
-use Rattle.rules.specs.State.{at, Limits, Cpu}
+use Rattle.rules.specs.State.{at, Limits, Topology, Cpu}
 use Rattle.rules.specs.Schedule.{World, with-cpu, with-thread}
 use Rattle.rules.specs.Sound.{at-here, at-there, at-keeps, waits, Free}
 use Rattle.thread.specs.declared.Thread.{Thread}
@@ -26,7 +26,7 @@ use Rattle.processor.specs.Queue.{queueAt, queueIn, queue-same}
 use Rattle.represent.specs.Linked.{below-has}
 use Rattle.represent.specs.Well.{Reading}
 use Rattle.represent.specs.Queues.{Agree}
-use Rattle.represent.specs.Interface.{recordAt}
+use Rattle.lent.specs.Rq.{recordAt}
 use Rattle.represent.specs.Records.{marks, read-set}
 use Rattle.represent.specs.System.{Good, good-frame}
 use Rattle.memory.specs.Shows.{reading-of, Words-show, place-at, Places, Shows}
@@ -84,8 +84,10 @@ beside-then a b = record {
 }
 
 -- what a CPU's words show depends on these alone
-pub words-same : (cs cs′ : List (List ℕ)) (c : ℕ) (p : Cpu) → ((u : ℕ) → 72 ≤ u → u < width → word cs′ c u ≡ word cs c u) → Words-show cs c p → Words-show cs′ c p
+pub words-same : {topology : Topology} (cs cs′ : List (List ℕ)) (c : ℕ) (p : Cpu) → ((u : ℕ) → 72 ≤ u → u < width → word cs′ c u ≡ word cs c u) → Words-show topology cs c p → Words-show topology cs′ c p
 words-same cs cs′ c p same s = record {
+  declared = rw (same 72 (omega arith) (omega arith)) (s .declared);
+  placed = rw (same 73 (omega arith) (omega arith)) (s .placed);
   running = rw (same 74 (omega arith) (omega arith)) (s .running);
   own-priority = rw (same 75 (omega arith) (omega arith)) (s .own-priority);
   is-idle = rw (same 76 (omega arith) (omega arith)) (s .is-idle);
@@ -141,7 +143,7 @@ places-kept {ts = ts} x t e p =
 
 -- ---- the frames
 
-module _ {limits : Limits} {known active : ℕ → Bool} {ts : List Thread} {cs : List (List ℕ)} {w : World} (s : Shows limits known active ts cs w) where
+module _ {limits : Limits} {topology : Topology} {known active : ℕ → Bool} {ts : List Thread} {cs : List (List ℕ)} {w : World} (s : Shows limits topology known active ts cs w) where
   pub in-records : (x : ℕ) → x < limits .threads → x < length ts
   in-records x h = omega (arith, s .queues .records)
 
@@ -149,8 +151,8 @@ module _ {limits : Limits} {known active : ℕ → Bool} {ts : List Thread} {cs 
   in-rows c h = omega (arith, s .queues .cpus)
 
   -- WORDS OF ONE CPU
-  pub shows-beside : (cs′ : List (List ℕ)) (c : ℕ) (p : Cpu) → Beside cs cs′ c → reading-of p ≡ reading-of (w .cpus c) → Words-show cs′ c p
-      → Shows limits known active ts cs′ (with-cpu w c p)
+  pub shows-beside : (cs′ : List (List ℕ)) (c : ℕ) (p : Cpu) → Beside cs cs′ c → reading-of p ≡ reading-of (w .cpus c) → Words-show topology cs′ c p
+      → Shows limits topology known active ts cs′ (with-cpu w c p)
   unfolding with-cpu
   shows-beside cs′ c p b r k =
       let same : (d : ℕ) → reading-of (at (w .cpus) c p d) ≡ reading-of (w .cpus d) = at-keeps reading-of (w .cpus) c p r in
@@ -169,7 +171,7 @@ module _ {limits : Limits} {known active : ℕ → Bool} {ts : List Thread} {cs 
   -- THE RECORD OF ONE THREAD
   pub shows-record : {active′ : ℕ → Bool} (x : ℕ) (t : Thread) (u : times.Thread) → x < limits .threads → reads t ≡ u → t .next ≡ recordAt ts x .next
       → pinned u ≡ pinned (w .threads x) → u .stable .value ≡ w .threads x .stable .value → Places (limits .threads) known active′ (set ts x t) w
-      → Shows limits known active′ (set ts x t) cs (with-thread w x u)
+      → Shows limits topology known active′ (set ts x t) cs (with-thread w x u)
   unfolding with-thread marks
   shows-record x t u h r n p v l =
       let k = in-records x h in
@@ -190,5 +192,5 @@ module _ {limits : Limits} {known active : ℕ → Bool} {ts : List Thread} {cs 
 
   -- FIELDS OF A RECORD THAT NO QUEUE ASKS FOR: neither its place nor its link, pin or stable value
   pub shows-fields : (x : ℕ) (t : Thread) (u : times.Thread) → x < limits .threads → reads t ≡ u → t .next ≡ recordAt ts x .next → t .place ≡ recordAt ts x .place
-      → pinned u ≡ pinned (w .threads x) → u .stable .value ≡ w .threads x .stable .value → Shows limits known active (set ts x t) cs (with-thread w x u)
+      → pinned u ≡ pinned (w .threads x) → u .stable .value ≡ w .threads x .stable .value → Shows limits topology known active (set ts x t) cs (with-thread w x u)
   shows-fields x t u h r n l p v = shows-record x t u h r n p v (places-kept x t l (s .places))

@@ -21,7 +21,8 @@ use Rattle.rules.specs.Puts.{PutOrTake, a-take}
 use Rattle.rules.specs.Queue.{Queue, order, timeshare-line, movable, highest-value, said-timeshare, said-after-take, Next, nobody, next-in, asked, leave, insert, is-timeshare, part-of, part-for, said-after-put}
 use Rattle.rules.specs.State.{at, Limits, Topology, Cpu}
 use Rattle.rules.specs.Schedule.{World, Got, with-cpu, with-thread, with-queue, noted, pinned-in, arrival, insert-thread, take-thread, handed-out}
-use Rattle.rules.specs.Sound.{at-here, at-there, at-keeps, waits, Free, New, Sound, Taken, take-taken}
+use Rattle.rules.specs.Sound.{at-here, at-there, at-keeps, waits, Free, New, Sound, take-taken}
+use Rattle.rules.specs.Sound as sound
 use Rattle.rules.specs.Kept.{asked-head}
 use Rattle.thread.specs.declared.Thread.{Thread}
 use Rattle.thread.specs.declared.place.Place.{Place}
@@ -42,11 +43,16 @@ use Rattle.represent.specs.Well.{Reading, Well, put-reading, as-arrival, take-r
 use Rattle.represent.specs.Linked.{has-first, has-later}
 use Rattle.represent.specs.Operations.{put-has, in-ts, well-shape}
 use Rattle.represent.specs.Queues as queues
-use Rattle.represent.specs.Interface.{recordAt, arrivalOf, steadyIn, putIn, linkBehind, putOf, insertDef, leftBy, Took, tookFrom, takeDef}
+use Rattle.lent.specs.declared.rq.Taken.{Taken}
+use Rattle.lent.specs.declared.rq.Taken.the-variants as taken
+use Rattle.lent.specs.Rq.{recordAt, arrivalOf, steadyIn, putIn, linkBehind, putOf, insertDef, leftBy, Took, tookFrom, takeDef}
 use Rattle.represent.specs.Records.{marks, read-set}
 use Rattle.represent.specs.System.{Good, arriving, put-law, Taken-as, take-law}
-use Rattle.memory.specs.Shows.{reading-of, Words-show, place-at, Places, Shows}
+use Rattle.memory.specs.Shows.{reading-of, Words-show, place-at, Places, Small, Shows}
 use Rattle.memory.specs.Frames.{kept, words-same, at-map, places-same, in-records}
+
+pub fits : {limits : Limits} → Small limits → limits .threads ≤ NONE
+fits small = omega (arith, small .threads)
 
 -- ---- a queue is stored
 
@@ -60,13 +66,15 @@ row-stored cs c d q =
     (λ e. unfold queueStored queueInto in rw (queue-elsewhere cs c d q (eqb-false d c e)))
 
 -- what the words of a CPU show beside its queue stays
-pub words-stored : (cs : List (List ℕ)) (c d : ℕ) (q : RunQueue) (p : Cpu) → Words-show cs d p → Words-show (queueStored cs c q) d p
+pub words-stored : {topology : Topology} (cs : List (List ℕ)) (c d : ℕ) (q : RunQueue) (p : Cpu) → Words-show topology cs d p → Words-show topology (queueStored cs c q) d p
 words-stored cs c d q p s = words-same cs (queueStored cs c q) d p (λ u h l. word-after-store cs c d q u (omega arith)) s
 
 -- a CPU with another queue has the same other fields
-pub words-queue : (cs : List (List ℕ)) (c : ℕ) (p : Cpu) (q : Queue) (said : _) → Words-show cs c p → Words-show cs c (with-queue p q said)
+pub words-queue : {topology : Topology} (cs : List (List ℕ)) (c : ℕ) (p : Cpu) (q : Queue) (said : _) → Words-show topology cs c p → Words-show topology cs c (with-queue p q said)
 unfolding with-queue
 words-queue cs c p q said s = record {
+  declared = s .declared;
+  placed = s .placed;
   running = s .running;
   own-priority = s .own-priority;
   is-idle = s .is-idle;
@@ -78,17 +86,17 @@ words-queue cs c p q said s = record {
 }
 
 -- the queue of one CPU is stored, and with it records may have changed
-module _ {limits : Limits} {known active : ℕ → Bool} {ts : List Thread} {cs : List (List ℕ)} {w : World} (s : Shows limits known active ts cs w) where
+module _ {limits : Limits} {topology : Topology} {known active : ℕ → Bool} {ts : List Thread} {cs : List (List ℕ)} {w : World} (s : Shows limits topology known active ts cs w) where
   pub shows-stored : {active′ : ℕ → Bool} (c : ℕ) (ts′ : List Thread) (q : RunQueue) (p : Cpu) (v : World) → v .cpus ≡ at (w .cpus) c p
       → Good (limits .threads) (limits .cpus) ts′ (queueStored cs c q) (at (λ d. reading-of (w .cpus d)) c (reading-of p))
-      → Words-show cs c p → ((x : ℕ) → x < limits .threads → reads (recordAt ts′ x) ≡ v .threads x) → Places (limits .threads) known active′ ts′ v
-      → Shows limits known active′ ts′ (queueStored cs c q) v
+      → Words-show topology cs c p → ((x : ℕ) → x < limits .threads → reads (recordAt ts′ x) ≡ v .threads x) → Places (limits .threads) known active′ ts′ v
+      → Shows limits topology known active′ ts′ (queueStored cs c q) v
   shows-stored c ts′ q p v e g k t l = record {
     queues = subst (λ (Rs : ℕ → Reading). Good (limits .threads) (limits .cpus) ts′ (queueStored cs c q) Rs)
         (λ i d. (at-map reading-of (w .cpus) c p d ∙ ap (λ (f : ℕ → Cpu). reading-of (f d)) (sym e)) i) g;
     rows = λ d h. row-stored cs c d q ∙ s .rows d h;
     threads = t;
-    words = λ d h. subst (λ (f : ℕ → Cpu). Words-show (queueStored cs c q) d (f d)) (sym e) (both (eqb d c)
+    words = λ d h. subst (λ (f : ℕ → Cpu). Words-show topology (queueStored cs c q) d (f d)) (sym e) (both (eqb d c)
         (λ r. rw (eqb-true d c r, at-here (w .cpus) c p) (words-stored cs c c q p k))
         (λ r. rw (at-there (w .cpus) c p d (eqb-false d c r)) (words-stored cs c d q (w .cpus d) (s .words d h))));
     places = l;
@@ -128,7 +136,7 @@ put-field f past ts x p b z h =
 
 -- ---- a put
 
-module _ (limits : Limits) (topology : Topology) (tick us : ℕ) (known : ℕ → Bool) (numbered : (x : ℕ) → known x ≡ true → x < limits .threads) (small : limits .threads ≤ NONE) where
+module _ (limits : Limits) (topology : Topology) (tick us : ℕ) (known : ℕ → Bool) (numbered : (x : ℕ) → known x ≡ true → x < limits .threads) (small : Small limits) where
   -- what a put is told, and what its queue then reads as
   put-as : (r : Thread) (p : Cpu) (x : ℕ) (current : Bool)
       → put-reading (reading-of p) (arrivalOf r x tick current)
@@ -136,7 +144,7 @@ module _ (limits : Limits) (topology : Topology) (tick us : ℕ) (known : ℕ �
   unfolding put-reading reading-of with-queue as-arrival arrivalOf arrival reads
   put-as r p x current = refl
 
-  module _ {active but : ℕ → Bool} {ts : List Thread} {cs : List (List ℕ)} {w : World} (s : Shows limits known active ts cs w) (c x : ℕ) (n : New limits known but w c x) (current : Bool) where
+  module _ {active but : ℕ → Bool} {ts : List Thread} {cs : List (List ℕ)} {w : World} (s : Shows limits topology known active ts cs w) (c x : ℕ) (n : New limits known but w c x) (current : Bool) where
     abbrev there : Cpu
     there = with-queue (w .cpus c) (insert (w .cpus c .queue) (arrival limits topology tick us (w .threads x) x current)) (said-after-put (w .cpus c .advertised) (effective-priority (w .threads x)))
 
@@ -170,7 +178,7 @@ module _ (limits : Limits) (topology : Topology) (tick us : ℕ) (known : ℕ �
     waits-here z =
         ap (λ (p : Cpu). has z (order (p .queue))) (at-here (w .cpus) c there)
         ∙ ap (λ (R : Reading). has z (order (R .queue))) (sym read-there)
-        ∙ put-has (limits .threads) small (marks ts) (queueAt cs c) (reading-of (w .cpus c)) (s .queues .shows .each c (n .near)) (arriving ts x tick current)
+        ∙ put-has (limits .threads) (fits small) (marks ts) (queueAt cs c) (reading-of (w .cpus c)) (s .queues .shows .each c (n .near)) (arriving ts x tick current)
         (effective-below (recordAt ts x)) below (n .nowhere c) (unfold marks in refl) z
 
     waits-there : (d z : ℕ) → d ≢ c → waits v d z ≡ waits w d z
@@ -182,7 +190,7 @@ module _ (limits : Limits) (topology : Topology) (tick us : ℕ) (known : ℕ �
     waits-still d z h = both (eqb d c) (λ e. rw (eqb-true d c e, waits-here z, ne-eqb x z (λ k. h (sym k)))) (λ e. waits-there d z (eqb-false d c e))
 
     put-place-at : (z : ℕ) → place-at (insertDef ts cs c x tick current .threads) z ≡ cond (eqb z x) place.Waiting (place-at ts z)
-    unfolding place-in with-next
+    unfolding insertDef place-in with-next
     put-place-at z =
         put-field (λ (u : Thread). place-in (u .place)) (λ t m. refl) ts x (putOf ts cs c x tick current .part) (putOf ts cs c x tick current .behind) z (in-records s x below)
         ∙ both (eqb z x) (λ e. rw (e, put-place (recordAt ts x) (putOf ts cs c x tick current .part))) (λ e. rw e)
@@ -206,12 +214,12 @@ module _ (limits : Limits) (topology : Topology) (tick us : ℕ) (known : ℕ �
 
     -- PUT
     pub shows-insert : (let d = insertDef ts cs c x tick current in
-        Shows limits known (at active x false) (d .threads) (d .cpus) (insert-thread limits topology tick us w c x current))
-    unfolding insert-thread noted with-thread with-cpu
+        Shows limits topology known (at active x false) (d .threads) (d .cpus) (insert-thread limits topology tick us w c x current))
+    unfolding insertDef insert-thread noted with-thread with-cpu
     shows-insert =
         shows-stored s c (insertDef ts cs c x tick current .threads) (putOf ts cs c x tick current .queue) there v refl
         (subst (λ (R : Reading). Good (limits .threads) (limits .cpus) (insertDef ts cs c x tick current .threads) (insertDef ts cs c x tick current .cpus) (at (λ d. reading-of (w .cpus d)) c R)) read-there
-        (put-law (limits .threads) (limits .cpus) ts cs (λ y. reading-of (w .cpus y)) (s .queues) c (n .near) small x tick current below nobody-reads))
+        (put-law (limits .threads) (limits .cpus) ts cs (λ y. reading-of (w .cpus y)) (s .queues) c (n .near) (fits small) x tick current below nobody-reads))
         (words-queue cs c (w .cpus c) _ _ (s .words c (n .near)))
         (λ z h. put-field reads reads-next ts x (putOf ts cs c x tick current .part) (putOf ts cs c x tick current .behind) z (in-records s x below)
         ∙ (unfold at in both (eqb z x) (λ e. rw e thread-there) (λ e. rw e (s .threads z h))))
@@ -247,13 +255,17 @@ unfoldable pub active-with : (ℕ → Bool) → Option ℕ → ℕ → Bool
 active-with active none = active
 active-with active (some x) = at active x true
 
--- a take answers what the rules hand out, and leaves what the rules leave
-pub record Take-shows (limits : Limits) (known active : ℕ → Bool) (d : Took) (g : Got) : Type 0 where
-  pub answer : d .answer ≡ g .got
-  pub left : Shows limits known (active-with active (g .got)) (d .threads) (d .cpus) (g .world)
+unfoldable pub as-taken : Option ℕ → Taken
+as-taken none = taken.Nobody
+as-taken (some x) = taken.Thread x
 
-module _ (limits : Limits) (topology : Topology) (tick us : ℕ) (known : ℕ → Bool) (numbered : (x : ℕ) → known x ≡ true → x < limits .threads) (small : limits .threads ≤ NONE) (H : ℕ → List PutOrTake) where
-  module _ {active but : ℕ → Bool} {ts : List Thread} {cs : List (List ℕ)} {w : World} (s : Shows limits known active ts cs w) (sound : Sound limits known H but w) (c : ℕ) (near : c < limits .cpus) where
+-- a take answers what the rules hand out, and leaves what the rules leave
+pub record Take-shows (limits : Limits) (topology : Topology) (known active : ℕ → Bool) (d : Took) (g : Got) : Type 0 where
+  pub answer : d .answer ≡ as-taken (g .got)
+  pub left : Shows limits topology known (active-with active (g .got)) (d .threads) (d .cpus) (g .world)
+
+module _ (limits : Limits) (topology : Topology) (tick us : ℕ) (known : ℕ → Bool) (numbered : (x : ℕ) → known x ≡ true → x < limits .threads) (small : Small limits) (H : ℕ → List PutOrTake) where
+  module _ {active but : ℕ → Bool} {ts : List Thread} {cs : List (List ℕ)} {w : World} (s : Shows limits topology known active ts cs w) (safe : Sound limits known H but w) (c : ℕ) (near : c < limits .cpus) where
     abbrev Q : Queue
     Q = w .cpus c .queue
 
@@ -261,7 +273,7 @@ module _ (limits : Limits) (topology : Topology) (tick us : ℕ) (known : ℕ �
     well = s .queues .shows .each c near
 
     line-in : (z : ℕ) → has z (order Q) ≡ true → z < limits .threads
-    line-in z h = numbered z (sound .placed c z h .1)
+    line-in z h = numbered z (safe .placed c z h .1)
 
     pins-same : (z : ℕ) → has z (order Q) ≡ true → marks ts .pinned z ≡ pinned (w .threads z)
     unfolding marks
@@ -279,14 +291,14 @@ module _ (limits : Limits) (topology : Topology) (tick us : ℕ) (known : ℕ �
         abbrev left-cpu : Cpu
         left-cpu = with-queue (w .cpus c) (leave p Q b) (said-after-take p (λ y. w .threads y .stable .value) (w .cpus c .advertised) (leave p Q b))
 
-        taken : Taken limits topology tick us known numbered H but w got
+        kept-taken : sound.Taken limits topology tick us known numbered H but w got
         unfolding take-thread
-        taken = subst (λ (n : Next). Taken limits topology tick us known numbered H but w (handed-out limits topology tick us w c stealing n)) a
-            (take-taken limits topology tick us known numbered H but w c stealing sound)
+        kept-taken = subst (λ (n : Next). sound.Taken limits topology tick us known numbered H but w (handed-out limits topology tick us w c stealing n)) a
+            (take-taken limits topology tick us known numbered H but w c stealing safe)
 
         line-was : (z : ℕ) → has z (order Q) ≡ (eqb x z || has z (order (leave p Q b)))
         unfolding has
-        line-was z = rw (asked-head (pinned-in w) Q stealing p b x (sound .kept c .fits .shape) a .first) (both (eqb x z) (λ e. rw e) (λ e. rw e))
+        line-was z = rw (asked-head (pinned-in w) Q stealing p b x (safe .kept c .fits .shape) a .first) (both (eqb x z) (λ e. rw e) (λ e. rw e))
 
         was-there : (z : ℕ) → has z (order (leave p Q b)) ≡ true → has z (order Q) ≡ true
         was-there z h = line-was z ∙ rw h (both (eqb x z) (λ e. rw e) (λ e. rw e))
@@ -320,7 +332,7 @@ module _ (limits : Limits) (topology : Topology) (tick us : ℕ) (known : ℕ �
             let active-other : (z : ℕ) → z ≢ x → at active x true z ≡ active z = λ z h. at-there active x true z h in
             record {
               waiting = λ d z h. both (eqb z x)
-                  (λ e. absurd (true≢false (sym (rw (eqb-true z x e) at h) ∙ taken .handed-free x (unfold handed-out in refl) d)))
+                  (λ e. absurd (true≢false (sym (rw (eqb-true z x e) at h) ∙ kept-taken .handed-free x (unfold handed-out in refl) d)))
                   (λ e. let k = eqb-false z x e in other z k ∙ s .places .waiting d z (sym (left-waits d z k) ∙ h));
               running = λ z h. both (eqb z x)
                   (λ e. take-place-at z ∙ rw e)
@@ -329,15 +341,15 @@ module _ (limits : Limits) (topology : Topology) (tick us : ℕ) (known : ℕ �
                   (λ e. absurd (true≢false (sym (at-here active x true) ∙ rw (eqb-true z x e) at m)))
                   (λ e. let o = eqb-false z x e in other z o ∙ s .places .blocked z l k (sym (active-other z o) ∙ m) (λ d. sym (left-waits d z o) ∙ f d));
               undeclared = λ z l k. both (eqb z x)
-                  (λ e. absurd (true≢false (sym (taken .handed-known x (unfold handed-out in refl)) ∙ rw (eqb-true z x e) at k)))
+                  (λ e. absurd (true≢false (sym (kept-taken .handed-known x (unfold handed-out in refl)) ∙ rw (eqb-true z x e) at k)))
                   (λ e. other z (eqb-false z x e) ∙ s .places .undeclared z l k);
             }
 
         some-shows : (p′ : Part) (b′ : ℕ)
             → Good (limits .threads) (limits .cpus) (tookFrom ts cs c (front.At p′ b′ x) .threads) (tookFrom ts cs c (front.At p′ b′ x) .cpus)
             (at (λ d. reading-of (w .cpus d)) c (take-reading (marks ts .value) (reading-of (w .cpus c)) p b))
-            → Take-shows limits known active (tookFrom ts cs c (front.At p′ b′ x)) got
-        unfolding tookFrom handed-out active-with noted with-cpu
+            → Take-shows limits topology known active (tookFrom ts cs c (front.At p′ b′ x)) got
+        unfolding tookFrom handed-out active-with as-taken noted with-cpu
         some-shows p′ b′ g = record {
           answer = refl;
           left =
@@ -348,23 +360,23 @@ module _ (limits : Limits) (topology : Topology) (tick us : ℕ) (known : ℕ �
               take-places;
         }
 
-      none-shows : Take-shows limits known active (tookFrom ts cs c front.Nothing) (handed-out limits topology tick us w c stealing nobody)
-      unfolding tookFrom handed-out active-with noted
+      none-shows : Take-shows limits topology known active (tookFrom ts cs c front.Nothing) (handed-out limits topology tick us w c stealing nobody)
+      unfolding tookFrom handed-out active-with as-taken noted
       none-shows = record {
         answer = refl;
         left = record { queues = s .queues; rows = s .rows; threads = s .threads; words = s .words; places = places-same w (noted w c (a-take stealing none)) (λ d x. refl) (s .places) };
       }
 
       go : (f : Front) (n : Next) → asked (pinned-in w) Q stealing ≡ n → Taken-as (limits .threads) (limits .cpus) ts cs (λ d. reading-of (w .cpus d)) c (tookFrom ts cs c f) n
-          → Take-shows limits known active (tookFrom ts cs c f) (handed-out limits topology tick us w c stealing n)
+          → Take-shows limits topology known active (tookFrom ts cs c f) (handed-out limits topology tick us w c stealing n)
       unfolding Taken-as tookFrom
       go front.Nothing nobody a e = none-shows
-      go front.Nothing (next-in p b x) a e = let z : _≡_ {A = Option ℕ} none (some x) = e .0 in let y : _≡_ {A = ℕ} 0 1 = cc in absurd (omega arith)
-      go (front.At p′ b′ x′) nobody a e = let z : _≡_ {A = Option ℕ} (some x′) none = ap (λ (d : Took). d .answer) e in let y : _≡_ {A = ℕ} 0 1 = cc in absurd (omega arith)
+      go front.Nothing (next-in p b x) a e = let z : _≡_ {A = Taken} taken.Nobody (taken.Thread x) = e .0 in let y : _≡_ {A = ℕ} 0 1 = cc in absurd (omega arith)
+      go (front.At p′ b′ x′) nobody a e = let z : _≡_ {A = Taken} (taken.Thread x′) taken.Nobody = ap (λ (d : Took). d .answer) e in let y : _≡_ {A = ℕ} 0 1 = cc in absurd (omega arith)
       go (front.At p′ b′ x′) (next-in p b x) a e =
-          let z : _≡_ {A = Option ℕ} (some x′) (some x) = e .0 in
+          let z : _≡_ {A = Taken} (taken.Thread x′) (taken.Thread x) = e .0 in
           let y : x′ ≡ x = cc in
-          subst (λ (u : ℕ). Take-shows limits known active (tookFrom ts cs c (front.At p′ b′ x′)) (handed-out limits topology tick us w c stealing (next-in p b u))) y
+          subst (λ (u : ℕ). Take-shows limits topology known active (tookFrom ts cs c (front.At p′ b′ x′)) (handed-out limits topology tick us w c stealing (next-in p b u))) y
           (some-shows p b x′ (a ∙ ap (next-in p b) (sym y)) p′ b′ (e .1))
 
       asked-as : asked (marks ts .pinned) (reading-of (w .cpus c) .queue) stealing ≡ asked (pinned-in w) Q stealing
@@ -372,8 +384,8 @@ module _ (limits : Limits) (topology : Topology) (tick us : ℕ) (known : ℕ �
       asked-as = asked-same (marks ts .pinned) (pinned-in w) Q stealing pins-same
 
       -- TAKE
-      pub shows-take : Take-shows limits known active (takeDef ts cs c stealing) (take-thread limits topology tick us w c stealing)
-      unfolding take-thread
+      pub shows-take : Take-shows limits topology known active (takeDef ts cs c stealing) (take-thread limits topology tick us w c stealing)
+      unfolding takeDef take-thread
       shows-take = go (rqFront (queueAt cs c) stealing) (asked (pinned-in w) Q stealing) refl
           (subst (λ (n : Next). Taken-as (limits .threads) (limits .cpus) ts cs (λ d. reading-of (w .cpus d)) c (takeDef ts cs c stealing) n) asked-as
-          (take-law (limits .threads) (limits .cpus) ts cs (λ d. reading-of (w .cpus d)) (s .queues) c near small stealing))
+          (take-law (limits .threads) (limits .cpus) ts cs (λ d. reading-of (w .cpus d)) (s .queues) c near (fits small) stealing))
