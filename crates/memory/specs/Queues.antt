@@ -228,7 +228,7 @@ module _ (limits : Limits) (topology : Topology) (tick us : ℕ) (known : ℕ �
 -- ---- what a take asks of the records
 
 -- only of those who wait
-movable-same : (f g : ℕ → Bool) (l : List ℕ) → ((z : ℕ) → has z l ≡ true → f z ≡ g z) → movable f l ≡ movable g l
+pub movable-same : (f g : ℕ → Bool) (l : List ℕ) → ((z : ℕ) → has z l ≡ true → f z ≡ g z) → movable f l ≡ movable g l
 unfolding movable
 movable-same f g [] h = refl
 movable-same f g (x ∷ l) h = rw (h x (has-first x l), movable-same f g l (λ z k. h z (has-later z x l k)))
