@@ -1,4 +1,9 @@
 // The record of one thread, with the numbers that the Rust keeps in its atomics.
+pub mod flags;
+pub mod place;
+pub mod priority;
+pub mod time;
+
 ghost use mathlib.Core.Path.{_≡_};
 ghost use Rattle.thread.specs.Thread.{blank};
 
