@@ -1,6 +1,6 @@
 // Wake-ups are only counted.
 ghost use mathlib.Core.Path.{_≡_};
-ghost use Rattle.sched.specs.Signal.{signal};
+ghost use Rattle.step.specs.Signal.{signal};
 
 // The wake-ups of a command once CPU `from` has signalled CPU `to`, if it is due.
 pub fn signal(wakeups: u64, from: u64, to: u64, due: bool) -> u64

@@ -1,8 +1,8 @@
 use borrow.Author.Needs.{needs}
 use Rattle.queue.specs.Num.{sum}
-use Rattle.sched.specs.Signal.{signal}
-use Rattle.sched.proofs.signal.signal.Statement.{statement}
-use Rattle.sched.proofs.signal.signal.Tie as tie
+use Rattle.step.specs.Signal.{signal}
+use Rattle.step.proofs.signal.signal.Statement.{statement}
+use Rattle.step.proofs.signal.signal.Tie as tie
 
 wrapping-add-u64-requires : tie.Need-wrapping-add-u64-requires
 wrapping-add-u64-requires c κs = search needs

@@ -1,0 +1,42 @@
+use borrow.Author.Needs.{needs}
+use Rattle.step.proofs.donate.maybe_reschedule_thread.Statement.{statement}
+use Rattle.step.proofs.donate.maybe_reschedule_thread.Tie as tie
+use Rattle.step.proofs.donate.maybe_reschedule_thread.Reads as reads
+use Rattle.step.proofs.donate.maybe_reschedule_thread.Lts as lts
+use Rattle.step.proofs.donate.maybe_wakeup.Reads as maybe-wakeup-reads
+use Rattle.thread.proofs.Thread.current_cpu_rq.Reads as current-cpu-rq-reads
+
+-- src/donate.rt:37:9
+current-cpu-rq-requires : tie.Need-current-cpu-rq-requires
+current-cpu-rq-requires c κs = search needs
+
+-- src/donate.rt:39:25
+enum-known-queue : tie.Need-enum-known-queue
+enum-known-queue c = search needs
+
+-- src/donate.rt:39:31
+maybe-wakeup-requires : tie.Need-maybe-wakeup-requires
+maybe-wakeup-requires c κs = search needs
+
+-- src/donate.rt:40:28
+enum-told : tie.Need-enum-told
+enum-told c = search needs
+
+-- src/donate.rt:34:1
+returns : tie.Need-returns
+returns c = ?
+
+-- src/donate.rt:34:1
+returns-2 : tie.Need-returns-2
+returns-2 c = ?
+
+pub maybe-reschedule-thread-spec : {M : Type 1} → statement M
+maybe-reschedule-thread-spec =
+    tie.close
+    (tie.spec
+    current-cpu-rq-requires
+    enum-known-queue
+    maybe-wakeup-requires
+    enum-told
+    returns
+    returns-2)

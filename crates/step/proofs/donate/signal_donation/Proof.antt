@@ -1,0 +1,32 @@
+use borrow.Author.Needs.{needs}
+use Rattle.step.proofs.donate.signal_donation.Statement.{statement}
+use Rattle.step.proofs.donate.signal_donation.Tie as tie
+use Rattle.step.proofs.donate.signal_donation.Reads as reads
+use Rattle.step.proofs.donate.signal_donation.Lts as lts
+use Rattle.step.proofs.donate.maybe_reschedule_thread.Reads as maybe-reschedule-thread-reads
+use Rattle.step.proofs.running.running.Reads as running-reads
+
+-- src/donate.rt:49:12
+running-requires : tie.Need-running-requires
+running-requires c κs = search needs
+
+-- src/donate.rt:50:13
+returns : tie.Need-returns
+returns c = ?
+
+-- src/donate.rt:53:9
+maybe-reschedule-thread-requires : tie.Need-maybe-reschedule-thread-requires
+maybe-reschedule-thread-requires c κs = search needs
+
+-- src/donate.rt:53:9
+returns-2 : tie.Need-returns-2
+returns-2 c = ?
+
+-- src/donate.rt:45:1
+returns-3 : tie.Need-returns-3
+returns-3 c = ?
+
+pub signal-donation-spec : {M : Type 1} → statement M
+signal-donation-spec =
+    tie.close
+    (tie.spec running-requires returns maybe-reschedule-thread-requires returns-2 returns-3)

@@ -1,0 +1,30 @@
+use borrow.Author.Needs.{needs}
+use Rattle.step.proofs.preempt.higher.Statement.{statement}
+use Rattle.step.proofs.preempt.higher.Tie as tie
+use Rattle.step.proofs.preempt.higher.Reads as reads
+use Rattle.step.proofs.preempt.higher.Lts as lts
+use Rattle.thread.proofs.priority.at_most.Reads as at-most-reads
+use Rattle.thread.proofs.priority.less.Reads as less-reads
+
+-- src/preempt.rt:24:8
+less-requires : tie.Need-less-requires
+less-requires c κs = search needs
+
+-- src/preempt.rt:25:9
+returns : tie.Need-returns
+returns c = ?
+
+-- src/preempt.rt:28:9
+at-most-requires : tie.Need-at-most-requires
+at-most-requires c κs = search needs
+
+-- src/preempt.rt:28:9
+returns-2 : tie.Need-returns-2
+returns-2 c = ?
+
+-- src/preempt.rt:21:1
+returns-3 : tie.Need-returns-3
+returns-3 c = ?
+
+pub higher-spec : {M : Type 1} → statement M
+higher-spec = tie.close (tie.spec less-requires returns at-most-requires returns-2 returns-3)

@@ -1,0 +1,32 @@
+use borrow.Author.Needs.{needs}
+use Rattle.step.proofs.preempt.pay_idle.Statement.{statement}
+use Rattle.step.proofs.preempt.pay_idle.Tie as tie
+use Rattle.step.proofs.preempt.pay_idle.Reads as reads
+use Rattle.step.proofs.preempt.pay_idle.Lts as lts
+use Rattle.processor.proofs.words.put_word.Reads as put-word-reads
+use Rattle.step.proofs.preempt.idle_payer.Reads as idle-payer-reads
+use Rattle.step.proofs.preempt.pay.Reads as pay-reads
+
+-- src/preempt.rt:105:9
+idle-payer-requires : tie.Need-idle-payer-requires
+idle-payer-requires c κs = search needs
+
+-- src/preempt.rt:106:9
+pay-requires : tie.Need-pay-requires
+pay-requires c κs = search needs
+
+-- src/preempt.rt:108:5
+put-word-requires : tie.Need-put-word-requires
+put-word-requires c κs = search needs
+
+-- src/preempt.rt:102:1
+same-length : tie.Need-same-length
+same-length c = search needs
+
+-- src/preempt.rt:102:1
+returns : tie.Need-returns
+returns c = ?
+
+pub pay-idle-spec : {M : Type 1} → statement M
+pay-idle-spec =
+    tie.close (tie.spec idle-payer-requires pay-requires put-word-requires same-length returns)

@@ -1,0 +1,36 @@
+use borrow.Author.Needs.{needs}
+use Rattle.step.proofs.preempt.swap_preempt.Statement.{statement}
+use Rattle.step.proofs.preempt.swap_preempt.Tie as tie
+use Rattle.step.proofs.preempt.swap_preempt.Reads as reads
+use Rattle.step.proofs.preempt.swap_preempt.Lts as lts
+use Rattle.processor.proofs.words.put_word.Reads as put-word-reads
+use Rattle.processor.proofs.words.word.Reads as word-reads
+
+-- src/preempt.rt:66:8
+word-requires : tie.Need-word-requires
+word-requires c κs = search needs
+
+-- src/preempt.rt:67:9
+same-length : tie.Need-same-length
+same-length c = search needs
+
+-- src/preempt.rt:67:9
+returns : tie.Need-returns
+returns c = ?
+
+-- src/preempt.rt:69:5
+put-word-requires : tie.Need-put-word-requires
+put-word-requires c κs = search needs
+
+-- src/preempt.rt:63:1
+same-length-2 : tie.Need-same-length-2
+same-length-2 c = search needs
+
+-- src/preempt.rt:63:1
+returns-2 : tie.Need-returns-2
+returns-2 c = ?
+
+pub swap-preempt-spec : {M : Type 1} → statement M
+swap-preempt-spec =
+    tie.close
+    (tie.spec word-requires same-length returns put-word-requires same-length-2 returns-2)

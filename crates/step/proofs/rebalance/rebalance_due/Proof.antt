@@ -1,0 +1,25 @@
+use borrow.Author.Needs.{needs}
+use Rattle.step.proofs.rebalance.rebalance_due.Statement.{statement}
+use Rattle.step.proofs.rebalance.rebalance_due.Tie as tie
+use Rattle.step.proofs.rebalance.rebalance_due.Reads as reads
+use Rattle.step.proofs.rebalance.rebalance_due.Lts as lts
+use Rattle.step.proofs.rebalance.pass_time.Reads as pass-time-reads
+
+-- src/rebalance.rt:32:9
+pass-time-requires : tie.Need-pass-time-requires
+pass-time-requires c κs = search needs
+
+-- src/rebalance.rt:32:9
+same-length : tie.Need-same-length
+same-length c = search needs
+
+-- src/rebalance.rt:32:9
+returns : tie.Need-returns
+returns c = ?
+
+-- src/rebalance.rt:28:1
+returns-2 : tie.Need-returns-2
+returns-2 c = ?
+
+pub rebalance-due-spec : {M : Type 1} → statement M
+rebalance-due-spec = tie.close (tie.spec pass-time-requires same-length returns returns-2)

@@ -1,0 +1,55 @@
+use borrow.Author.Needs.{needs}
+use Rattle.step.proofs.time.should_signal.Statement.{statement}
+use Rattle.step.proofs.time.should_signal.Tie as tie
+use Rattle.step.proofs.time.should_signal.Reads as reads
+use Rattle.step.proofs.time.should_signal.Lts as lts
+use Rattle.processor.proofs.load.load_queue.Reads as load-queue-reads
+use Rattle.runqueue.proofs.rq.RunQueue.current_priority.Reads as current-priority-reads
+use Rattle.runqueue.proofs.rq.RunQueue.is_empty.Reads as is-empty-reads
+use Rattle.thread.proofs.Thread.effective_priority.Reads as effective-priority-reads
+use Rattle.thread.proofs.priority.at_most.Reads as at-most-reads
+
+-- src/time.rt:48:9
+returns : tie.Need-returns
+returns c = ?
+
+-- src/time.rt:50:9
+load-queue-requires : tie.Need-load-queue-requires
+load-queue-requires c κs = search needs
+
+-- src/time.rt:51:8
+is-empty-requires : tie.Need-is-empty-requires
+is-empty-requires c κs = search needs
+
+-- src/time.rt:52:9
+returns-2 : tie.Need-returns-2
+returns-2 c = ?
+
+-- src/time.rt:54:9
+current-priority-requires : tie.Need-current-priority-requires
+current-priority-requires c κs = search needs
+
+-- src/time.rt:55:9
+effective-priority-requires : tie.Need-effective-priority-requires
+effective-priority-requires c κs = search needs
+
+-- src/time.rt:56:5
+at-most-requires : tie.Need-at-most-requires
+at-most-requires c κs = search needs
+
+-- src/time.rt:44:1
+returns-3 : tie.Need-returns-3
+returns-3 c = ?
+
+pub should-signal-spec : {M : Type 1} → statement M
+should-signal-spec =
+    tie.close
+    (tie.spec
+    returns
+    load-queue-requires
+    is-empty-requires
+    returns-2
+    current-priority-requires
+    effective-priority-requires
+    at-most-requires
+    returns-3)

@@ -1,0 +1,6 @@
+pub mod Donate
+pub mod Preempt
+pub mod Rebalance
+pub mod Running
+pub mod Signal
+pub mod Time
