@@ -1,32 +1,32 @@
-from entrygen import *
-data = {'u64': ('number w64', 'u64', 'ℕ'), 'usize': ('number w64', 'usize', 'ℕ'), 'unit': ('nil', 'unit', 'Unit {0}'), 'bool': ('truth', 'bool', 'Bool'),
-    'Thread': ('thread', 'T.the-row', 'Thread')}
-fields = {}
-callees = {
-    'thread::blank': dict(data=[], res='Thread', value='blank'),
-    'lent::records::index': dict(data=['u64'], res='usize', value='{0}'),
-    'lent::records::read': dict(kinds='s', data=['usize'], res='Thread', req='{0} < length {s0}', within='0', value='getD {s0} {0} blank'),
-    'lent::records::write': dict(kinds='m', data=['usize', 'Thread'], res='unit', req='{0} < length {s0}', within='0', lists=['set {s0} {0} {1}']),
-    'lent::records::get': dict(kinds='s', data=['u64'], res='Thread', value='getD {s0} {0} blank'),
-    'lent::records::set': dict(kinds='m', data=['u64', 'Thread'], res='unit', lists=['set {s0} {0} {1}']),
-}
-imports = '''
-use Rattle.thread.specs.declared.Thread.{Thread}
-use Rattle.thread.specs.Thread.{blank}
-use Rattle.thread.proofs.Thread as T
-use Rattle.thread.proofs.Thread.Laws as T′
-use Rattle.lent.proofs.Data.{thread}
-'''
-cr = Crate('lent', data, fields, callees, imports)
-todo = {}
-def fn(name):
-    def d(f): todo[name] = f
-    return d
-PAST = 'use Rattle.lent.proofs.Past.{get-past, set-past}'
-@fn('get')
-def _(): gen(cr, 'records::get', ['&Thread'], ['u64'], 'Thread', uses=PAST, says='{chain} ∙ get-past ys (a .0) blank', proofs=['nleb→lt _ _ {h1}'])
-@fn('set')
-def _(): gen(cr, 'records::set', ['Thread'], ['u64', 'Thread'], 'unit', uses=PAST, says='{chain} ∙ set-past ys (a .0) (a .1 .0)', proofs=['nleb→lt _ _ {h1}'])
+#!/usr/bin/env python3
+"""Writes the walks that tools/walks/CRATE.py describes.
+
+usage: entry_gens.py [CRATE | CRATE::FUNCTION ..]    (`lent`, `lent::rq::take`; without a name: all)"""
+import importlib
+import glob
+import os
+import sys
+from entrygen import Crate, Walk
+
+HERE = os.path.dirname(os.path.abspath(__file__))
+FILES = {os.path.basename(f)[:-3]: None for f in sorted(glob.glob(os.path.join(HERE, 'walks', '*.py')))}
+
+
+def described():
+    """What all files say together: the promises of all callees, the modules that the texts cite, the enums whose variants they name."""
+    says, specs, variants = {}, {}, {}
+    for name in FILES:
+        file = FILES[name] = importlib.import_module('walks.' + name)
+        says.update(file.SAYS)
+        variants.update(file.VARIANTS)
+        for path, names in file.SPECS.items():
+            specs[path] = ' '.join(dict.fromkeys((specs.get(path, '') + ' ' + names).split()))
+    return says, specs, variants
+
+
 if __name__ == '__main__':
-    import sys
-    for n in sys.argv[1:] or todo: todo[n]()
+    told = described()
+    for name, file in FILES.items():
+        for function, walk in file.WALKS.items():
+            if not sys.argv[1:] or name in sys.argv[1:] or name + '::' + function in sys.argv[1:]:
+                Walk(Crate(name, *told), function, **walk).write()

@@ -1,4 +1,4 @@
-pub mod Data
+pub mod Cleared
 pub mod Lent
 pub mod Past
 pub mod Walk

@@ -1,7 +1,7 @@
 // One record of the lent slice is read and written. Past the end of the slice a record is blank, and a write does nothing.
 ghost use mathlib.Core.Path.{_≡_};
 ghost use Prim.Native.Nat.{_<_};
-ghost use lib.ListN.{length, getD, set};
+ghost use lib.ListN.{length, getD, set, replicate};
 ghost use Rattle.thread.specs.Thread.{blank};
 use thread::Thread;
 use thread::blank;
@@ -44,4 +44,16 @@ pub fn set(threads: &mut [Thread], i: u64, t: Thread)
         return;
     }
     write(threads, k, t);
+}
+
+// Every record is blank, as the library's start makes it.
+pub fn clear(threads: &mut [Thread])
+    ensures { λ _. ⌜ now (threads .exit) ≡ replicate (length (now (threads .entry))) blank ⌝ }
+{
+    let t = blank();
+    let mut i = 0;
+    while i < threads.len() {
+        write(threads, i, t);
+        i = i + 1;
+    }
 }

@@ -17,7 +17,10 @@ use Rattle.rules.specs.Line.{has, ahead, Distinct}
 use Rattle.rules.specs.Queue.{Queue, nr-buckets, order}
 use Rattle.rules.specs.Puts.{Put, PutOrTake, a-put, a-take}
 use Rattle.rules.specs.Ahead.{Wait, who-waits, threads, In, how-many, unpinned, ahead-of, gone, a-of, b-of, served, calm-while}
+use Rattle.rules.specs.State.{base-limits, start}
+use Rattle.rules.specs.Commands.{after-calls, history}
 use Rattle.rules.specs.Kept.{Kept}
+use Rattle.rules.specs.Reached.{kept-calls}
 use Rattle.rules.specs.InOrder.{by-ahead}
 
 -- What is demanded of a queue and of the puts and takes that made it, oldest first. In `pre ++ (a-put p ∷ mid)` the put looked at is p, pre came before it
@@ -54,3 +57,8 @@ as-demanded {limit} {q} {log} k = record {
   stealing = λ pre post o e. (k .past (pre ++ (a-take true o ∷ [])) post (e ∙ rw (append-assoc pre (a-take true o ∷ []) post))) .stealing pre o refl;
   within = λ pre mid post p e. (k .past (pre ++ (a-put p ∷ mid)) post e) .within pre mid p refl;
 }
+
+-- ---- THE THEOREM: for every list of calls from the library's start, of any length, each on any bytes, and every CPU
+pub demand-3 : (calls : List (List ℕ)) (c : ℕ) → AsDemanded 8192 (after-calls (start base-limits) calls .cpus c .queue) (history (start base-limits) calls c)
+unfolding base-limits nr-buckets
+demand-3 calls c = as-demanded (kept-calls base-limits calls c)

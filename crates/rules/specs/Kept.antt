@@ -575,35 +575,48 @@ kept-none {limit} {q} {l} pinned s k g a =
     stealing (nobody-moves t m e) = (movable-is pinned (k .fits) g) .0 m
     stealing (the-next m e) = (movable-is pinned (k .fits) g) .0 (no-movable pinned (order q) (nobody-next q (k .fits .shape) (sym a ∙ e)))
 
-pub kept-leave : {limit : ℕ} {q : Queue} {l : List PutOrTake} (pinned : ℕ → Bool) (s : Bool) (p : Part) (j y : ℕ) → Kept limit q l → Agrees pinned (who-waits l)
-    → asked pinned q s ≡ next-in p j y → Kept limit (leave p q j) (l ++ (a-take s (some y) ∷ []))
-unfolding Falls
-kept-leave {limit} {q} {l} pinned s p j y k g a = go (asking pinned q s)
+-- a take that hands out y: it is the head of the order, the oldest of bucket j of part p
+pub record Head (pinned : ℕ → Bool) (q : Queue) (s : Bool) (p : Part) (j y : ℕ) : Type 0 where
+  pub rest : List ℕ
+  pub near : j < nr-buckets
+  pub oldest : bucket nr-buckets (buckets-of p q) j ≡ y ∷ rest
+  pub first : order q ≡ y ∷ order (leave p q j)
+  pub shape : Shape (leave p q j)
+  pub is-next : next q ≡ next-in p j y
+  pub may-move : s ≡ true → movable pinned (order q) ≢ 0
+
+pub asked-head : (pinned : ℕ → Bool) (q : Queue) (s : Bool) (p : Part) (j y : ℕ) → Shape q → asked pinned q s ≡ next-in p j y → Head pinned q s p j y
+asked-head pinned q s p j y h a = go (asking pinned q s)
   where
-    next-to : NextIs q (next-in p j y) → next q ≡ next-in p j y → (s ≡ true → movable pinned (order q) ≢ 0) → Kept limit (leave p q j) (l ++ (a-take s (some y) ∷ []))
+    next-to : NextIs q (next-in p j y) → next q ≡ next-in p j y → (s ≡ true → movable pinned (order q) ≢ 0) → Head pinned q s p j y
     next-to (next-nobody e o) n m = let z : _≡_ {A = ℕ} 0 1 = cc in absurd (omega arith)
-    next-to (next-head p′ j′ y′ rest e h b o t) n m =
+    next-to (next-head p′ j′ y′ rest e i b o t) n m =
         let same-part : p′ ≡ p = cc in
         let same-bucket : j′ ≡ j = cc in
-        let o′ : order q ≡ y ∷ order (leave p q j) = cc in
-        let b′ : bucket nr-buckets (buckets-of p q) j ≡ y ∷ rest = cc in
-        let left : Left y q (leave p q j) = leave-left q (who-waits l) p j y rest (k .fits .shape) (k .fits .held) (k .fits .apart) (rw same-bucket at h) b′ in
-        let comes : Comes y (order (leave p q j)) (order q) = record { front = []; back = order (leave p q j); before = refl; after = o′ } in
-        grows k (leave p q j) (a-take s (some y)) (fits-left (leave p q j) s y (k .fits) (rw (same-part, same-bucket) at t) left comes)
-        (λ pre r f z. put-is-no-take r s (some y) (sym z))
-        (λ pre mid r f. turn-some pre mid r s y o′
-        (λ x i d u. (subst (Falls limit x i q) n (falls limit x i q (k .fits .shape) (crowd (k .fits)) u)) d)
-        (k .turns pre mid r f)) (record {
-          head = λ u z f. let v : y ≡ z = cc in rw (← v) o′;
-          own = λ v f. (λ w. cc, λ w. absurd (some-waits y (order (leave p q j)) (k .fits) o′ w));
-          stealing = λ v f. (λ w. cc, λ w. absurd (m (cc) ((movable-is pinned (k .fits) g) .1 w)));
-        })
+        record { rest = rest; near = rw same-bucket at i; oldest = cc; first = cc; shape = rw (same-part, same-bucket) at t; is-next = n; may-move = m }
 
-    go : Asking pinned q s (asked pinned q s) → Kept limit (leave p q j) (l ++ (a-take s (some y) ∷ []))
+    go : Asking pinned q s (asked pinned q s) → Head pinned q s p j y
     go (nobody-moves u m e) = let z : _≡_ {A = ℕ} 0 1 = cc in absurd (omega arith)
     go (the-next m e) =
         let n : next q ≡ next-in p j y = sym e ∙ a in
-        next-to (subst (NextIs q) n (next-is q (k .fits .shape))) n m
+        next-to (subst (NextIs q) n (next-is q h)) n m
+
+pub kept-leave : {limit : ℕ} {q : Queue} {l : List PutOrTake} (pinned : ℕ → Bool) (s : Bool) (p : Part) (j y : ℕ) → Kept limit q l → Agrees pinned (who-waits l)
+    → asked pinned q s ≡ next-in p j y → Kept limit (leave p q j) (l ++ (a-take s (some y) ∷ []))
+unfolding Falls
+kept-leave {limit} {q} {l} pinned s p j y k g a =
+    let h : Head pinned q s p j y = asked-head pinned q s p j y (k .fits .shape) a in
+    let left : Left y q (leave p q j) = leave-left q (who-waits l) p j y (h .rest) (k .fits .shape) (k .fits .held) (k .fits .apart) (h .near) (h .oldest) in
+    let comes : Comes y (order (leave p q j)) (order q) = record { front = []; back = order (leave p q j); before = refl; after = h .first } in
+    grows k (leave p q j) (a-take s (some y)) (fits-left (leave p q j) s y (k .fits) (h .shape) left comes)
+    (λ pre r f z. put-is-no-take r s (some y) (sym z))
+    (λ pre mid r f. turn-some pre mid r s y (h .first)
+    (λ x i d u. (subst (Falls limit x i q) (h .is-next) (falls limit x i q (k .fits .shape) (crowd (k .fits)) u)) d)
+    (k .turns pre mid r f)) (record {
+      head = λ u z f. let v : y ≡ z = cc in rw (← v) (h .first);
+      own = λ v f. (λ w. cc, λ w. absurd (some-waits y (order (leave p q j)) (k .fits) (h .first) w));
+      stealing = λ v f. (λ w. cc, λ w. absurd (h .may-move (cc) ((movable-is pinned (k .fits) g) .1 w)));
+    })
 
 pub kept-advance : {limit : ℕ} {q : Queue} {l : List PutOrTake} → Kept limit q l → Kept limit (advance-insert-index q) l
 kept-advance {limit} {q} {l} k =

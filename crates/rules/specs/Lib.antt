@@ -24,5 +24,8 @@ pub mod Held
 pub mod Bound
 pub mod Kept
 pub mod InOrder
+pub mod Sound
+pub mod Steps
+pub mod Reached
 pub mod Demand3
 pub mod Run

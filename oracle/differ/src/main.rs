@@ -11,10 +11,14 @@ use std::{
     process::{Command, Stdio, exit},
 };
 
-use r#gen::{PROFILES, generate, split};
+use r#gen::{PROFILES, draws::PROFILE, generate, split};
 
-const STREAM: &str = "oracle/build/compared.stream";
 const SHRUNK: &str = "oracle/build/difference.stream";
+
+/// Where the sides read the stream from, a file of this process.
+fn stream_file() -> String {
+    format!("oracle/build/compared.{}", std::process::id())
+}
 
 #[derive(Clone, Copy, PartialEq, Eq, PartialOrd, Ord)]
 enum Mode {
@@ -58,7 +62,8 @@ fn sides() -> Vec<Side> {
 impl Side {
     /// All that the side prints for the stream; a side that fails says so at the end.
     fn run(&self, stream: &[u8], mode: Mode) -> Vec<u8> {
-        fs::write(STREAM, stream).unwrap();
+        let file = stream_file();
+        fs::write(&file, stream).unwrap();
         let mut command = Command::new("timeout");
         command.arg("600").args(&self.command);
         match mode {
@@ -71,10 +76,11 @@ impl Side {
             }
         }
         let result = command
-            .stdin(fs::File::open(STREAM).unwrap())
+            .stdin(fs::File::open(&file).unwrap())
             .stderr(Stdio::piped())
             .output()
             .unwrap_or_else(|error| stop(&format!("{}: {error}", self.name)));
+        fs::remove_file(&file).unwrap();
         let mut text = result.stdout;
         if !result.status.success() {
             text.extend_from_slice(format!("failed: {}\n", result.status).as_bytes());
@@ -223,7 +229,7 @@ fn main() {
     let seed = |text: &str| text.parse::<u64>().unwrap_or_else(|_| stop("a seed is a number"));
     let (first, last) = (seed(&plain[0]), seed(&plain[1]));
     let profiles = match plain.get(2) {
-        Some(name) if PROFILES.contains(&name.as_str()) => vec![name.as_str()],
+        Some(name) if PROFILES.contains(&name.as_str()) || name == PROFILE => vec![name.as_str()],
         Some(name) => stop(&format!("no profile {name}; there are {}", PROFILES.join(", "))),
         None => PROFILES.to_vec(),
     };

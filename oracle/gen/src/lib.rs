@@ -2,6 +2,7 @@
 //! blocked, running and waiting, and most of what it writes is obeyed.
 
 pub mod bad;
+pub mod draws;
 pub mod plan;
 pub mod random;
 
@@ -26,6 +27,9 @@ pub struct Generator {
 
 /// A stream of at most `count` commands. Commands whose bytes are in `without` are left out.
 pub fn generate(seed: u64, profile: &str, count: usize, without: &[u8]) -> Option<Vec<u8>> {
+    if profile == draws::PROFILE {
+        return Some(draws::generate(count));
+    }
     let number = PROFILES.iter().position(|name| *name == profile)?;
     let mut random = Random::new(seed, number as u64);
     // Endings are tried on streams of every length, the empty one too.

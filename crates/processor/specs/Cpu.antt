@@ -1,0 +1,10 @@
+-- What is read of a CPU's words. Assumes nothing.
+use Prim.Native.Nat.{ℕ, _+_, _%_, _^_}
+use mathlib.Core.Bool.{cond}
+use mathlib.Core.List.{List}
+use lib.Dec.{eqb}
+use Rattle.processor.specs.Words.{word}
+
+-- "`current_load` is queue load plus 1 unless idle."
+unfoldable pub current-load : List (List ℕ) → ℕ → ℕ
+current-load cs c = cond (eqb (word cs c 76) 0) ((word cs c 62 + 1) % 2 ^ 64) (word cs c 62)

@@ -1,0 +1,5 @@
+pub mod Window
+pub mod Words
+pub mod Queue
+pub mod Cpu
+pub mod Random
