@@ -4,3 +4,4 @@ pub mod Rebalance
 pub mod Running
 pub mod Signal
 pub mod Time
+pub mod Word

@@ -11,7 +11,8 @@ use Rattle.thread.specs.Thread.{NONE, blank, with-timeslice}
 use Rattle.thread.specs.Reads.{reads, critical-in}
 use Rattle.thread.specs.Time.{pay-ticks}
 use Rattle.runqueue.specs.RunQueue.{rqEmpty}
-use Rattle.processor.specs.Words.{word, put-word, PREEMPT, IDLE-TIMESLICE}
+use Rattle.processor.specs.Words.{word, put-word}
+use Rattle.step.specs.Word.{PREEMPT, IDLE-TIMESLICE}
 use Rattle.processor.specs.Queue.{queueAt}
 use Rattle.step.specs.Running.{runningAt}
 

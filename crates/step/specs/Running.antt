@@ -8,7 +8,8 @@ use Rattle.rules.specs.Times.{effective-priority}
 use Rattle.thread.specs.declared.Thread.{Thread}
 use Rattle.thread.specs.Thread.{NONE}
 use Rattle.thread.specs.Reads.{reads}
-use Rattle.processor.specs.Words.{word, put-word, OWN-PRIORITY, IDLE, RUNNING, MUST-REBALANCE}
+use Rattle.processor.specs.Words.{word, put-word}
+use Rattle.step.specs.Word.{OWN-PRIORITY, IS-IDLE, RUNNING, MUST-REBALANCE}
 
 -- the thread that CPU c runs; NONE: its idle thread
 unfoldable pub runningAt : List (List ℕ) → ℕ → ℕ
@@ -20,7 +21,7 @@ mustRebalance cs c = not (eqb (word cs c MUST-REBALANCE) 0)
 -- a thread runs now, with its priority; nothing asks for a rebalance
 unfoldable pub ranBy : List (List ℕ) → ℕ → ℕ → Thread → List (List ℕ)
 ranBy cs c x t =
-    put-word (put-word (put-word (put-word cs c OWN-PRIORITY (raw (effective-priority (reads t)))) c IDLE 0) c MUST-REBALANCE 0) c RUNNING x
+    put-word (put-word (put-word (put-word cs c OWN-PRIORITY (raw (effective-priority (reads t)))) c IS-IDLE 0) c MUST-REBALANCE 0) c RUNNING x
 
 unfoldable pub ranIdle : List (List ℕ) → ℕ → List (List ℕ)
-ranIdle cs c = put-word (put-word (put-word (put-word cs c IDLE 1) c OWN-PRIORITY 0) c MUST-REBALANCE 0) c RUNNING NONE
+ranIdle cs c = put-word (put-word (put-word (put-word cs c IS-IDLE 1) c OWN-PRIORITY 0) c MUST-REBALANCE 0) c RUNNING NONE

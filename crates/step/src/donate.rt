@@ -4,7 +4,7 @@ ghost use Rattle.thread.specs.Reads.{cpu-in};
 ghost use Rattle.step.specs.Donate.{wakeupDue, wokenIn, maybeReschedule, donationSignals};
 use crate::running::running;
 use crate::signal::signal;
-use processor::load::load_queue;
+use processor::rq::load_queue;
 use thread::Thread;
 use thread::priority::Donation;
 use thread::priority::less;

@@ -1,10 +1,11 @@
 // Whether the thread running has to give way, the mark that says so, and what a thread pays at a hard tick.
 ghost use mathlib.Core.Path.{_≡_};
-ghost use Rattle.processor.specs.Words.{put-word, PREEMPT};
+ghost use Rattle.processor.specs.Words.{put-word};
+ghost use Rattle.step.specs.Word.{PREEMPT};
 ghost use Rattle.thread.specs.Time.{pay-ticks};
 ghost use Rattle.step.specs.Preempt.{higher, rqHasHigher, needsReschedule, marked, swapped, allowedAt, idlePayer, idlePaid, expires, rescheds};
 use crate::running::running;
-use processor::load::load_queue;
+use processor::rq::load_queue;
 use processor::words::IDLE_TIMESLICE;
 use processor::words::PREEMPT;
 use processor::words::put_word;

@@ -1,8 +1,9 @@
 // The thread that runs on a CPU, and its marks (processor.rs).
 ghost use mathlib.Core.Path.{_≡_};
-ghost use Rattle.processor.specs.Words.{put-word, IDLE, MUST-REBALANCE};
+ghost use Rattle.processor.specs.Words.{put-word};
+ghost use Rattle.step.specs.Word.{IS-IDLE, MUST-REBALANCE};
 ghost use Rattle.step.specs.Running.{runningAt, mustRebalance, ranBy, ranIdle};
-use processor::words::IDLE;
+use processor::words::IS_IDLE;
 use processor::words::MUST_REBALANCE;
 use processor::words::OWN_PRIORITY;
 use processor::words::RUNNING;
@@ -20,15 +21,15 @@ pub fn running(cpus: &[[u64; 96]], c: u64) -> u64
 }
 
 pub fn enter_idle(cpus: &mut [[u64; 96]], c: u64)
-    ensures { λ _. ⌜ now (cpus .exit) ≡ put-word (now (cpus .entry)) c IDLE 1 ⌝ }
+    ensures { λ _. ⌜ now (cpus .exit) ≡ put-word (now (cpus .entry)) c IS-IDLE 1 ⌝ }
 {
-    put_word(cpus, c, IDLE, 1);
+    put_word(cpus, c, IS_IDLE, 1);
 }
 
 pub fn exit_idle(cpus: &mut [[u64; 96]], c: u64)
-    ensures { λ _. ⌜ now (cpus .exit) ≡ put-word (now (cpus .entry)) c IDLE 0 ⌝ }
+    ensures { λ _. ⌜ now (cpus .exit) ≡ put-word (now (cpus .entry)) c IS-IDLE 0 ⌝ }
 {
-    put_word(cpus, c, IDLE, 0);
+    put_word(cpus, c, IS_IDLE, 0);
 }
 
 pub fn set_rebalance(cpus: &mut [[u64; 96]], c: u64)

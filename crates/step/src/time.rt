@@ -1,7 +1,7 @@
 // The times of a thread that goes into a queue, and whether its CPU is signalled.
 ghost use mathlib.Core.Path.{_≡_};
 ghost use Rattle.step.specs.Time.{deadlineAt, resetTime, movedTo, shouldSignal};
-use processor::load::load_queue;
+use processor::rq::load_queue;
 use rules::PriorityClass;
 use thread::Thread;
 use thread::priority::at_most;

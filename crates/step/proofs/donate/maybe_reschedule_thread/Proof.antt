@@ -1,3 +1,4 @@
+use Rattle.step.specs.Donate.{maybeReschedule}
 use borrow.Author.Needs.{needs}
 use Rattle.step.proofs.donate.maybe_reschedule_thread.Statement.{statement}
 use Rattle.step.proofs.donate.maybe_reschedule_thread.Tie as tie
@@ -24,11 +25,13 @@ enum-told c = search needs
 
 -- src/donate.rt:34:1
 returns : tie.Need-returns
-returns c = ?
+unfolding maybeReschedule
+returns c = rw (← c .before .before .before .before .current-cpu-rq .ensures, c .before .before .queue .given .1) (c .maybe-wakeup .ensures)
 
 -- src/donate.rt:34:1
 returns-2 : tie.Need-returns-2
-returns-2 c = ?
+unfolding maybeReschedule
+returns-2 c = rw (← c .before .before .current-cpu-rq .ensures, c .enum-told .given .1)
 
 pub maybe-reschedule-thread-spec : {M : Type 1} → statement M
 maybe-reschedule-thread-spec =

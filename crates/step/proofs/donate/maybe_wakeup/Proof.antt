@@ -1,3 +1,4 @@
+use Rattle.step.specs.Donate.{wokenIn}
 use borrow.Author.Needs.{needs}
 use Rattle.step.proofs.donate.maybe_wakeup.Statement.{statement}
 use Rattle.step.proofs.donate.maybe_wakeup.Tie as tie
@@ -16,7 +17,8 @@ signal-requires c κs = search needs
 
 -- src/donate.rt:26:1
 returns : tie.Need-returns
-returns c = ?
+unfolding wokenIn
+returns c = rw (← c .before .wakeup-due .ensures) (c .signal .ensures)
 
 pub maybe-wakeup-spec : {M : Type 1} → statement M
 maybe-wakeup-spec = tie.close (tie.spec wakeup-due-requires signal-requires returns)

@@ -1,14 +1,10 @@
-use Rattle.processor.specs.Queue.{queueAt}
-use Rattle.queue.specs.PriorityQueue.{noPriority, pqEmpty}
-use Rattle.queue.specs.Timeshare.{noTimeshare, tsEmpty}
-use Rattle.runqueue.specs.RunQueue.{noRunQueue, rqEmpty}
 use Rattle.step.specs.Donate.{wakeupDue}
 use borrow.Author.Needs.{needs}
 use Rattle.step.proofs.donate.wakeup_due.Statement.{statement}
 use Rattle.step.proofs.donate.wakeup_due.Tie as tie
 use Rattle.step.proofs.donate.wakeup_due.Reads as reads
 use Rattle.step.proofs.donate.wakeup_due.Lts as lts
-use Rattle.processor.proofs.load.load_queue.Reads as load-queue-reads
+use Rattle.processor.proofs.rq.load_queue.Reads as load-queue-reads
 use Rattle.runqueue.proofs.rq.RunQueue.current_priority.Reads as current-priority-reads
 use Rattle.runqueue.proofs.rq.RunQueue.is_empty.Reads as is-empty-reads
 use Rattle.thread.proofs.Thread.effective_priority.Reads as effective-priority-reads
@@ -24,8 +20,8 @@ is-empty-requires c κs = search needs
 
 -- src/donate.rt:19:9
 returns : tie.Need-returns
-unfolding wakeupDue rqEmpty pqEmpty queueAt noRunQueue noPriority tsEmpty noTimeshare
-returns c = search needs
+unfolding wakeupDue
+returns c = rw (← c .before .before .load-queue .ensures, ← c .before .is-empty .ensures, c .if1 .taken)
 
 -- src/donate.rt:21:9
 current-priority-requires : tie.Need-current-priority-requires
@@ -41,7 +37,8 @@ less-requires c κs = search needs
 
 -- src/donate.rt:14:1
 returns-2 : tie.Need-returns-2
-returns-2 c = ?
+unfolding wakeupDue
+returns-2 c = rw (← c .before .before .before .before .before .load-queue .ensures, ← c .before .before .before .before .is-empty .ensures, c .before .before .before .if1 .left, ← c .before .before .current-priority .ensures, ← c .before .effective-priority .ensures) (c .less .ensures)
 
 pub wakeup-due-spec : {M : Type 1} → statement M
 wakeup-due-spec =

@@ -1,9 +1,10 @@
+use Rattle.step.specs.Preempt.{allowedAt}
 use borrow.Author.Needs.{needs}
 use Rattle.step.proofs.preempt.allowed.Statement.{statement}
 use Rattle.step.proofs.preempt.allowed.Tie as tie
 use Rattle.step.proofs.preempt.allowed.Reads as reads
 use Rattle.step.proofs.preempt.allowed.Lts as lts
-use Rattle.processor.proofs.load.load_queue.Reads as load-queue-reads
+use Rattle.processor.proofs.rq.load_queue.Reads as load-queue-reads
 use Rattle.runqueue.proofs.rq.RunQueue.timeslice.Reads as timeslice-reads
 use Rattle.thread.proofs.Thread.effective_priority.Reads as effective-priority-reads
 
@@ -21,7 +22,8 @@ timeslice-requires c κs = search needs
 
 -- src/preempt.rt:74:1
 returns : tie.Need-returns
-returns c = ?
+unfolding allowedAt
+returns c = rw (c .timeslice .ensures, c .before .effective-priority .ensures, c .before .before .load-queue .ensures)
 
 pub allowed-spec : {M : Type 1} → statement M
 allowed-spec =

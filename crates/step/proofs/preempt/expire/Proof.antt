@@ -16,7 +16,8 @@ same-length c = search needs
 
 -- src/preempt.rt:118:9
 returns : tie.Need-returns
-returns c = ?
+unfolding expires marked
+returns c = rw (c .before .before .before .if1 .taken) (c .before .schedule-mark-preempt .ensures)
 
 -- src/preempt.rt:121:9
 schedule-mark-preempt-requires-2 : tie.Need-schedule-mark-preempt-requires-2
@@ -28,7 +29,8 @@ same-length-2 c = search needs
 
 -- src/preempt.rt:113:1
 returns-2 : tie.Need-returns-2
-returns-2 c = ?
+unfolding expires marked
+returns-2 c = rw (c .before .before .before .before .if1 .left, c .before .before .before .if2 .taken) (c .before .schedule-mark-preempt2 .ensures)
 
 -- src/preempt.rt:113:1
 returns-3 : tie.Need-returns-3

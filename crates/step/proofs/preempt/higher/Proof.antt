@@ -1,3 +1,4 @@
+use Rattle.step.specs.Preempt.{higher}
 use borrow.Author.Needs.{needs}
 use Rattle.step.proofs.preempt.higher.Statement.{statement}
 use Rattle.step.proofs.preempt.higher.Tie as tie
@@ -12,7 +13,8 @@ less-requires c κs = search needs
 
 -- src/preempt.rt:25:9
 returns : tie.Need-returns
-returns c = ?
+unfolding higher
+returns c = rw (← c .before .less .ensures, c .if1 .taken)
 
 -- src/preempt.rt:28:9
 at-most-requires : tie.Need-at-most-requires
@@ -20,11 +22,13 @@ at-most-requires c κs = search needs
 
 -- src/preempt.rt:28:9
 returns-2 : tie.Need-returns-2
-returns-2 c = ?
+unfolding higher
+returns-2 c = rw (← c .before .before .before .less .ensures, c .before .before .if1 .left, c .before .if2 .taken) (c .at-most .ensures)
 
 -- src/preempt.rt:21:1
 returns-3 : tie.Need-returns-3
-returns-3 c = ?
+unfolding higher
+returns-3 c = rw (← c .before .before .less .ensures, c .before .if1 .left, c .if2 .left)
 
 pub higher-spec : {M : Type 1} → statement M
 higher-spec = tie.close (tie.spec less-requires returns at-most-requires returns-2 returns-3)

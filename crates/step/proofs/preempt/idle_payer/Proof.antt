@@ -1,3 +1,5 @@
+use Rattle.step.specs.Preempt.{idlePayer}
+use Rattle.thread.specs.Thread.{with-timeslice}
 use borrow.Author.Needs.{needs}
 use Rattle.step.proofs.preempt.idle_payer.Statement.{statement}
 use Rattle.step.proofs.preempt.idle_payer.Tie as tie
@@ -16,7 +18,8 @@ word-requires c κs = search needs
 
 -- src/preempt.rt:92:1
 returns : tie.Need-returns
-returns c = ?
+unfolding idlePayer with-timeslice
+returns c = rw (c .before .blank .ensures, c .word .ensures)
 
 pub idle-payer-spec : {M : Type 1} → statement M
 idle-payer-spec = tie.close (tie.spec blank-requires word-requires returns)

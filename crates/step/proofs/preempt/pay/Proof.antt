@@ -16,7 +16,7 @@ pay-ticks-requires c κs = search needs
 
 -- src/preempt.rt:84:1
 returns : tie.Need-returns
-returns c = ?
+returns c = rw (← c .before .allowed .ensures) (c .pay-ticks .ensures)
 
 pub pay-spec : {M : Type 1} → statement M
 pay-spec = tie.close (tie.spec allowed-requires pay-ticks-requires returns)

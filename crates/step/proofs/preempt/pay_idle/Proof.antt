@@ -1,3 +1,4 @@
+use Rattle.step.specs.Preempt.{idlePaid}
 use borrow.Author.Needs.{needs}
 use Rattle.step.proofs.preempt.pay_idle.Statement.{statement}
 use Rattle.step.proofs.preempt.pay_idle.Tie as tie
@@ -25,7 +26,8 @@ same-length c = search needs
 
 -- src/preempt.rt:102:1
 returns : tie.Need-returns
-returns c = ?
+unfolding idlePaid
+returns c = (rw (c .before .before .before .before .pay .ensures, c .before .before .before .before .before .before .idle-payer .ensures), rw (c .before .put-word .ensures, c .before .before .before .before .pay .ensures, c .before .before .before .before .before .before .idle-payer .ensures))
 
 pub pay-idle-spec : {M : Type 1} → statement M
 pay-idle-spec =

@@ -1,3 +1,6 @@
+use borrow.Author.Tests.{ne-eqb}
+use Rattle.step.specs.Preempt.{marked, rescheds}
+use borrow.Author.Tests.{eq-eqb}
 use borrow.Author.Needs.{needs}
 use Rattle.step.proofs.preempt.resched.Statement.{statement}
 use Rattle.step.proofs.preempt.resched.Tie as tie
@@ -21,7 +24,8 @@ same-length c = search needs
 
 -- src/preempt.rt:131:9
 returns : tie.Need-returns
-returns c = ?
+unfolding rescheds marked
+returns c = rw (← c .before .before .before .before .running .ensures, eq-eqb _ _ (c .before .before .before .if1 .taken)) (c .before .schedule-mark-preempt .ensures)
 
 -- src/preempt.rt:133:8
 needs-reschedule-requires : tie.Need-needs-reschedule-requires
@@ -37,7 +41,8 @@ same-length-2 c = search needs
 
 -- src/preempt.rt:126:1
 returns-2 : tie.Need-returns-2
-returns-2 c = ?
+unfolding rescheds marked
+returns-2 c = rw (← c .before .before .before .before .before .before .before .running .ensures, ne-eqb _ _ (c .before .before .before .before .before .before .if1 .left), ← c .before .before .before .before .needs-reschedule .ensures, c .before .before .before .if2 .taken) (c .before .schedule-mark-preempt2 .ensures)
 
 -- src/preempt.rt:126:1
 same-length-3 : tie.Need-same-length-3
@@ -45,7 +50,8 @@ same-length-3 c = search needs
 
 -- src/preempt.rt:126:1
 returns-3 : tie.Need-returns-3
-returns-3 c = ?
+unfolding rescheds marked
+returns-3 c = rw (← c .before .before .before .before .running .ensures, ne-eqb _ _ (c .before .before .before .if1 .left), ← c .before .needs-reschedule .ensures, c .if2 .left)
 
 pub resched-spec : {M : Type 1} → statement M
 resched-spec =

@@ -1,9 +1,10 @@
+use Rattle.step.specs.Preempt.{rqHasHigher}
 use borrow.Author.Needs.{needs}
 use Rattle.step.proofs.preempt.rq_has_higher.Statement.{statement}
 use Rattle.step.proofs.preempt.rq_has_higher.Tie as tie
 use Rattle.step.proofs.preempt.rq_has_higher.Reads as reads
 use Rattle.step.proofs.preempt.rq_has_higher.Lts as lts
-use Rattle.processor.proofs.load.load_queue.Reads as load-queue-reads
+use Rattle.processor.proofs.rq.load_queue.Reads as load-queue-reads
 use Rattle.runqueue.proofs.rq.RunQueue.current_priority.Reads as current-priority-reads
 use Rattle.step.proofs.preempt.higher.Reads as higher-reads
 use Rattle.thread.proofs.Thread.effective_priority.Reads as effective-priority-reads
@@ -26,7 +27,8 @@ higher-requires c κs = search needs
 
 -- src/preempt.rt:33:1
 returns : tie.Need-returns
-returns c = ?
+unfolding rqHasHigher
+returns c = rw (← c .before .before .before .load-queue .ensures, ← c .before .before .current-priority .ensures, ← c .before .effective-priority .ensures) (c .higher .ensures)
 
 pub rq-has-higher-spec : {M : Type 1} → statement M
 rq-has-higher-spec =

@@ -1,3 +1,6 @@
+use borrow.Author.Tests.{ne-eqb}
+use Rattle.step.specs.Preempt.{swapped}
+use borrow.Author.Tests.{eq-eqb}
 use borrow.Author.Needs.{needs}
 use Rattle.step.proofs.preempt.swap_preempt.Statement.{statement}
 use Rattle.step.proofs.preempt.swap_preempt.Tie as tie
@@ -16,7 +19,8 @@ same-length c = search needs
 
 -- src/preempt.rt:67:9
 returns : tie.Need-returns
-returns c = ?
+unfolding swapped
+returns c = (rw (← c .before .word .ensures, eq-eqb _ _ (c .if1 .taken)), rw (← c .before .word .ensures, eq-eqb _ _ (c .if1 .taken)))
 
 -- src/preempt.rt:69:5
 put-word-requires : tie.Need-put-word-requires
@@ -28,7 +32,8 @@ same-length-2 c = search needs
 
 -- src/preempt.rt:63:1
 returns-2 : tie.Need-returns-2
-returns-2 c = ?
+unfolding swapped
+returns-2 c = (rw (← c .before .before .before .before .word .ensures, ne-eqb _ _ (c .before .before .before .if1 .left)), rw (← c .before .before .before .before .word .ensures, ne-eqb _ _ (c .before .before .before .if1 .left)) (c .before .put-word .ensures))
 
 pub swap-preempt-spec : {M : Type 1} → statement M
 swap-preempt-spec =

@@ -1,3 +1,6 @@
+use borrow.Author.Tests.{ne-eqb}
+use Rattle.step.specs.Rebalance.{rebalanceDue}
+use borrow.Author.Tests.{eq-eqb}
 use borrow.Author.Needs.{needs}
 use Rattle.step.proofs.rebalance.rebalance_due.Statement.{statement}
 use Rattle.step.proofs.rebalance.rebalance_due.Tie as tie
@@ -15,11 +18,13 @@ same-length c = search needs
 
 -- src/rebalance.rt:32:9
 returns : tie.Need-returns
-returns c = ?
+unfolding rebalanceDue
+returns c = rw (eq-eqb _ _ (c .before .before .before .if1 .taken)) (c .before .pass-time .ensures)
 
 -- src/rebalance.rt:28:1
 returns-2 : tie.Need-returns-2
-returns-2 c = ?
+unfolding rebalanceDue
+returns-2 c = (rw (ne-eqb _ _ (c .if1 .left)), rw (ne-eqb _ _ (c .if1 .left)))
 
 pub rebalance-due-spec : {M : Type 1} → statement M
 rebalance-due-spec = tie.close (tie.spec pass-time-requires same-length returns returns-2)

@@ -1,3 +1,4 @@
+use Rattle.step.specs.Running.{mustRebalance}
 use borrow.Author.Needs.{needs}
 use Rattle.step.proofs.running.must_rebalance.Statement.{statement}
 use Rattle.step.proofs.running.must_rebalance.Tie as tie
@@ -11,7 +12,8 @@ word-requires c κs = search needs
 
 -- src/running.rt:47:1
 returns : tie.Need-returns
-returns c = ?
+unfolding mustRebalance
+returns c = rw (c .word .ensures)
 
 pub must-rebalance-spec : {M : Type 1} → statement M
 must-rebalance-spec = tie.close (tie.spec word-requires returns)

@@ -1,3 +1,4 @@
+use Rattle.step.specs.Running.{ranIdle}
 use borrow.Author.Needs.{needs}
 use Rattle.step.proofs.running.run_idle.Statement.{statement}
 use Rattle.step.proofs.running.run_idle.Tie as tie
@@ -29,7 +30,8 @@ same-length c = search needs
 
 -- src/running.rt:66:1
 returns : tie.Need-returns
-returns c = ?
+unfolding ranIdle
+returns c = rw (c .before .put-word2 .ensures, c .before .before .before .before .reset-rebalance .ensures, c .before .before .before .before .before .before .before .put-word .ensures, c .before .before .before .before .before .before .before .before .before .before .enter-idle .ensures)
 
 pub run-idle-spec : {M : Type 1} → statement M
 run-idle-spec =

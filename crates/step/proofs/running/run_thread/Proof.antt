@@ -1,3 +1,4 @@
+use Rattle.step.specs.Running.{ranBy}
 use borrow.Author.Needs.{needs}
 use Rattle.step.proofs.running.run_thread.Statement.{statement}
 use Rattle.step.proofs.running.run_thread.Tie as tie
@@ -39,7 +40,8 @@ same-length c = search needs
 
 -- src/running.rt:54:1
 returns : tie.Need-returns
-returns c = ?
+unfolding ranBy
+returns c = rw (c .before .put-word2 .ensures, c .before .before .before .before .reset-rebalance .ensures, c .before .before .before .before .before .before .before .exit-idle .ensures, c .before .before .before .before .before .before .before .before .before .before .put-word .ensures, c .before .before .before .before .before .before .before .before .before .before .before .before .raw .ensures, c .before .before .before .before .before .before .before .before .before .before .before .before .before .effective-priority .ensures)
 
 pub run-thread-spec : {M : Type 1} → statement M
 run-thread-spec =

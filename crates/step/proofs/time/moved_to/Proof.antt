@@ -1,3 +1,4 @@
+use Rattle.step.specs.Time.{movedTo}
 use borrow.Author.Needs.{needs}
 use Rattle.step.proofs.time.moved_to.Statement.{statement}
 use Rattle.step.proofs.time.moved_to.Tie as tie
@@ -16,7 +17,8 @@ reset-time-requires c κs = search needs
 
 -- src/time.rt:36:1
 returns : tie.Need-returns
-returns c = ?
+unfolding movedTo
+returns c = rw (c .reset-time .ensures, c .before .moving-to-queue .ensures)
 
 pub moved-to-spec : {M : Type 1} → statement M
 moved-to-spec = tie.close (tie.spec moving-to-queue-requires reset-time-requires returns)

@@ -1,3 +1,4 @@
+use Rattle.step.specs.Time.{resetTime}
 use borrow.Author.Needs.{needs}
 use Rattle.step.proofs.time.reset_time.Statement.{statement}
 use Rattle.step.proofs.time.reset_time.Tie as tie
@@ -26,7 +27,8 @@ reset-timeslice-requires c κs = search needs
 
 -- src/time.rt:25:1
 returns : tie.Need-returns
-returns c = ?
+unfolding resetTime
+returns c = rw (c .reset-timeslice .ensures, c .before .set-deadline .ensures, c .before .before .deadline .ensures, c .before .before .before .effective-priority .ensures)
 
 pub reset-time-spec : {M : Type 1} → statement M
 reset-time-spec =
