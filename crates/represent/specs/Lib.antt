@@ -2,7 +2,9 @@ pub mod Linked
 pub mod Shown
 pub mod Counts
 pub mod Parts
-pub mod Standin
 pub mod Well
 pub mod Operations
 pub mod Queues
+pub mod Interface
+pub mod Records
+pub mod System

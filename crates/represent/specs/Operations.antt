@@ -39,7 +39,7 @@ use Rattle.queue.specs.PriorityQueue.{noPriority, pqEmpty, pqHighest, pqInsert,
 use Rattle.queue.specs.Timeshare.{noTimeshare, tsEmpty, tsHighest, tsIndex, tsBucket, tsInsert, tsFront, tsTaken, tsStep, tsAdvance}
 use Rattle.runqueue.specs.RunQueue.{noRunQueue, rqEmpty, raised, saidRealtime, saidTimeshare, counted, withRealtime, withTimeshare, withIdle, advertising, rqInsertRealtime, rqInsertTimeshare, rqInsertIdle, rqInsertInto, rqInsert, firstIn, rqFrontIdle, rqFrontTimeshare, rqFrontRealtime, rqFront}
 use Rattle.runqueue.specs.RunQueue.{uncounted, rqTakenRealtime, rqRecalc, rqTakenTimeshare, rqTakenIdle, rqTakenFrom, rqTaken, rqClock, rqHardtick}
-use Rattle.represent.specs.Standin.{raw-again}
+use Rattle.thread.specs.Priority.{raw-again}
 use Rattle.represent.specs.Linked.{Behind-in, linkAfter, walk, Alike, below-has, has-first, has-later, walk-chain}
 use Rattle.represent.specs.Shown.{Shown, as-found, push-in, push-alike, no-bucket, below-bucket, distinct-bucket}
 use Rattle.represent.specs.Counts.{tally, up-one, down-one, movable-comes, movable-most, moved-up, moved-down}

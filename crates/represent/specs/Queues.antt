@@ -46,11 +46,11 @@ All-follow limit n m qs Rs c (front.At p b x) a =
 
 -- ----
 
-at-here {ℓ} : {A : Type ℓ} (f : ℕ → A) (c : ℕ) (v : A) → at f c v c ≡ v
+pub at-here {ℓ} : {A : Type ℓ} (f : ℕ → A) (c : ℕ) (v : A) → at f c v c ≡ v
 unfolding at
 at-here f c v = rw (eq-eqb c c refl)
 
-at-there {ℓ} : {A : Type ℓ} (f : ℕ → A) (c : ℕ) (v : A) (d : ℕ) → eqb d c ≡ false → at f c v d ≡ f d
+pub at-there {ℓ} : {A : Type ℓ} (f : ℕ → A) (c : ℕ) (v : A) (d : ℕ) → eqb d c ≡ false → at f c v d ≡ f d
 unfolding at
 at-there f c v d e = rw e
 

@@ -17,7 +17,7 @@ use Rattle.rules.specs.State.{is-number}
 
 -- ---- who waits
 
--- one of the takes handed out thread x
+-- one of the takes hands out thread x
 unfoldable pub gone : ℕ → List PutOrTake → Bool
 gone x [] = false
 gone x (a-put p ∷ es) = gone x es
@@ -81,11 +81,13 @@ earlier-part v w = ltb (rank (v .put .part)) (rank (w .put .part))
 unfoldable pub same-part : Wait → Wait → Bool
 same-part v w = eqb (rank (v .put .part)) (rank (w .put .part))
 
+-- how far the bucket of v is onward in the part of w
 unfoldable pub how-far : ℕ → Wait → Wait → ℕ
 how-far i w v = onward (first-bucket (w .put .part) i) (v .put .bucket)
 
--- "One waiting thread is ahead of another in the same run queue if its part is earlier; in the same part, if its bucket is earlier; in the same bucket,
--- if it was put in earlier": v is ahead of w at emptying index i
+-- "One waiting thread is ahead of another in the same run queue if its part (realtime, timeshare, idle) is earlier; in the same part, if its bucket is earlier,
+-- counted from bucket 0, in timeshare from the emptying index onward round the eight; in the same bucket, if it was put in earlier."
+-- v is ahead of w at emptying index i; part and bucket are those of the put.
 unfoldable pub ahead-of : ℕ → Wait → Wait → Bool
 ahead-of i v w =
     earlier-part v w
@@ -121,16 +123,23 @@ served [] = 0
 served (a-put p ∷ es) = served es
 served (a-take s o ∷ es) = counts o + served es
 
+-- how many puts there are
+unfoldable pub puts : List PutOrTake → ℕ
+puts [] = 0
+puts (a-put p ∷ es) = suc (puts es)
+puts (a-take s o ∷ es) = puts es
+
 -- ---- the provisos of the bound
 
--- The arrival does not delay those who wait in timeshare: it is none in the realtime part; in timeshare it comes in neither as the current thread nor while the
--- filling and the emptying bucket are the same, or, where it does, it joins another bucket than the emptying one all the same.
+-- What is asked of each arrival while a timeshare thread waits: it is none in the realtime part; in timeshare it comes in neither as the current thread nor
+-- while the filling and emptying buckets are the same, or, where it does, it joins another bucket than the emptying one all the same. Nothing is asked of those
+-- who wait already, in realtime or elsewhere.
 unfoldable pub calm-in : Part → Put → Bool
 calm-in part.Realtime p = false
 calm-in part.Timeshare p = (not (p .current) && not (eqb (p .insert-idx) (p .take-idx))) || not (eqb (p .bucket) (p .take-idx))
 calm-in part.Idle p = true
 
--- so is every arrival while thread x waits
+-- so it is of every arrival while thread x waits
 unfoldable pub calm-while : ℕ → List PutOrTake → Bool
 calm-while x [] = true
 calm-while x (a-put p ∷ es) = calm-in (p .part) p && calm-while x es

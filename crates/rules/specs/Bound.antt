@@ -1,5 +1,5 @@
 -- How long a timeshare thread can wait: at most k threads leave until it has left, and k falls with each of them. Assumes nothing.
-use Prim.Native.Nat.{ℕ, zero, suc, _+_, _-_, _*_, _%_, _≤_, _<_}
+use Prim.Native.Nat.{ℕ, zero, suc, _+_, _-_, _*_, _≤_, _<_}
 use mathlib.Core.Path.{_≡_, refl, sym, ap, _∙_}
 use mathlib.Core.Logic.{_≢_}
 use mathlib.Core.Bool.{Bool, true, false, not, _&&_, _||_, and-true, false≢true}
@@ -18,7 +18,7 @@ use Rattle.rules.specs.Queue.{Queue, nr-buckets, realtime-line, timeshar
 use Rattle.rules.specs.Queue.{Next, nobody, next-in, first-in, next-idle, next-timeshare, next, next-take-idx, leave, advance-insert-index}
 use Rattle.rules.specs.Puts.{put-made}
 use Rattle.rules.specs.Ahead.{calm-in}
-use Rattle.rules.specs.Effect.{Shape, some-bucket, empty-true, and-left, and-right}
+use Rattle.rules.specs.Effect.{Shape, some-bucket, empty-true, and-left}
 
 -- x waits in timeshare, and at most k leave until x has left: those in realtime, and those of a bucket for each bucket before its own
 pub record Soon (limit x : ℕ) (q : Queue) (k : ℕ) : Type 0 where
@@ -79,6 +79,12 @@ calm-other q v false h e =
     (λ f. absurd (false≢true (rw (f, eq-eqb (timeshare-bucket q v false) (q .take-idx) (sym e)) at h)))
     (λ f. not-emptying q v (eqb-false _ _ f) e)
 
+-- in timeshare a thread comes in as the current thread if it is said to be
+calm-current : (q : Queue) (a : Arrival)
+    → ((not (a .current && true) && not (eqb (q .insert-idx) (q .take-idx))) || not (eqb (timeshare-bucket q (a .value) (a .current)) (q .take-idx))) ≡ true
+    → ((not (a .current) && not (eqb (q .insert-idx) (q .take-idx))) || not (eqb (timeshare-bucket q (a .value) (a .current)) (q .take-idx))) ≡ true
+calm-current q a c = rw and-true at c
+
 pub soon-join : {limit x k : ℕ} (p : Part) (q : Queue) (a : Arrival) (pinned : Bool) → part-for a ≡ p → Shape q → calm-in p (put-made pinned q a) ≡ true → Soon limit x q k
     → Soon limit x (join-in p q (bucket-for p q a) (a .thread)) k
 unfolding calm-in put-made join-in realtime-line bucket-for is-timeshare
@@ -86,7 +92,7 @@ soon-join part.Realtime q a pinned e h c s = absurd (false≢true c)
 soon-join part.Timeshare q a pinned e h c s = record {
   rest = s .rest;
   near = near-join nr-buckets (timeshare-bucket q (a .value) (a .current)) (a .thread) (h .timeshare-full)
-      (rw (mod-eq-of-lt (h .take-idx-in)) (calm-other q (a .value) (a .current) (rw (e, and-true) at c))) (s .near);
+      (rw (mod-eq-of-lt (h .take-idx-in)) (calm-other q (a .value) (a .current) (calm-current q a (rw e at c)))) (s .near);
   sum = s .sum;
 }
 soon-join part.Idle q a pinned e h c s = record { rest = s .rest; near = s .near; sum = s .sum }

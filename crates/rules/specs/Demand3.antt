@@ -3,9 +3,10 @@
 -- "For one put, a is how many threads are ahead of it just after; b counts the later puts into that queue, up to the take looked at, that are ahead of it just
 -- after theirs, a returning thread each time anew. The later takes that hand out a thread, own or stealing, are numbered from 1. While the thread waits, take n
 -- hands it out exactly when n = a + b + 1."
--- A CPU's own take finds nothing exactly when nobody waits there, a stealing one exactly when nobody unpinned does.
--- A timeshare thread is gone within 8,192 of those takes, if the arrivals are calm while it waits.
--- What is said is read off Ahead.antt. Assumes nothing.
+-- A CPU's own take finds nothing exactly when nobody waits in its queue, a stealing one exactly when nobody unpinned does.
+-- A timeshare thread is gone within 8,192 of those takes, if nobody arrives while it waits in the realtime part, as the current thread, or in timeshare while
+-- the filling and emptying buckets are the same.
+-- Waiting, being ahead, a, b, and what is asked of the arrivals are defined in Ahead.antt, over the puts and takes alone. Assumes nothing.
 use Prim.Native.Nat.{ℕ, _+_, _≤_, _<_, _*_}
 use mathlib.Core.Path.{_≡_, refl, _∙_}
 use mathlib.Core.Logic.{_↔_}
@@ -17,14 +18,14 @@ use Rattle.rules.specs.Line.{has, ahead, Distinct}
 use Rattle.rules.specs.Queue.{Queue, nr-buckets, order}
 use Rattle.rules.specs.Puts.{Put, PutOrTake, a-put, a-take}
 use Rattle.rules.specs.Ahead.{Wait, who-waits, threads, In, how-many, unpinned, ahead-of, gone, a-of, b-of, served, calm-while}
-use Rattle.rules.specs.State.{base-limits, start}
+use Rattle.rules.specs.State.{Limits, base-limits, start}
 use Rattle.rules.specs.Commands.{after-calls, history}
 use Rattle.rules.specs.Kept.{Kept}
 use Rattle.rules.specs.Reached.{kept-calls}
 use Rattle.rules.specs.InOrder.{by-ahead}
 
--- What is demanded of a queue and of the puts and takes that made it, oldest first. In `pre ++ (a-put p ∷ mid)` the put looked at is p, pre came before it
--- and mid after it; post comes later still.
+-- What is demanded of a queue and of all its puts and takes, oldest first. The put looked at is p: pre came before it, mid after it, post later still; so
+-- every moment is looked at, also within a call.
 pub record AsDemanded (bound : ℕ) (q : Queue) (log : List PutOrTake) : Type 0 where
   -- 1. It holds exactly the threads that wait, each once, in the order of being ahead.
   pub holds : (x : ℕ) → has x (order q) ≡ has x (threads (who-waits log))
@@ -39,7 +40,7 @@ pub record AsDemanded (bound : ℕ) (q : Queue) (log : List PutOrTake) : Type 0 
   -- 3. An own take finds nothing exactly when nobody waits, a stealing one exactly when nobody unpinned does.
   pub own : (pre post : List PutOrTake) (out : Option ℕ) → log ≡ pre ++ (a-take false out ∷ post) → (out ≡ none) ↔ (who-waits pre ≡ [])
   pub stealing : (pre post : List PutOrTake) (out : Option ℕ) → log ≡ pre ++ (a-take true out ∷ post) → (out ≡ none) ↔ (how-many unpinned (who-waits pre) ≡ 0)
-  -- 4. The bound.
+  -- 4. The number of its turn is bounded for a timeshare thread, if the arrivals are calm while it waits.
   pub within : (pre mid post : List PutOrTake) (p : Put) → log ≡ pre ++ (a-put p ∷ mid) ++ post → p .part ≡ part.Timeshare → calm-while (p .thread) mid ≡ true
       → a-of pre p + b-of pre p mid + 1 ≤ bound
 
@@ -58,7 +59,13 @@ as-demanded {limit} {q} {log} k = record {
   within = λ pre mid post p e. (k .past (pre ++ (a-put p ∷ mid)) post e) .within pre mid p refl;
 }
 
+-- with any limits: the bound is the number of threads times that of buckets
+pub demand-3-of : (limits : Limits) (calls : List (List ℕ)) (c : ℕ)
+    → AsDemanded (limits .threads * nr-buckets) (after-calls (start limits) calls .cpus c .queue) (history (start limits) calls c)
+demand-3-of limits calls c = as-demanded (kept-calls limits calls c)
+
 -- ---- THE THEOREM: for every list of calls from the library's start, of any length, each on any bytes, and every CPU
+
 pub demand-3 : (calls : List (List ℕ)) (c : ℕ) → AsDemanded 8192 (after-calls (start base-limits) calls .cpus c .queue) (history (start base-limits) calls c)
 unfolding base-limits nr-buckets
-demand-3 calls c = as-demanded (kept-calls base-limits calls c)
+demand-3 calls c = demand-3-of base-limits calls c

@@ -1,9 +1,8 @@
 -- What a put, a leaving and `advance_insert_index` do to a queue's buckets and to its order. Assumes nothing.
-use Prim.Native.Nat.{ℕ, zero, suc, _+_, _-_, _%_, _<_}
+use Prim.Native.Nat.{ℕ, zero, suc, _+_, _%_, _<_}
 use mathlib.Core.Path.{_≡_, refl, sym, ap, _∙_}
-use mathlib.Core.Bool.{Bool, true, false, not, _&&_, true≢false, false≢true}
-use mathlib.Core.List.{List, [], _∷_, _++_, tail}
-use mathlib.Core.Logic.{_≢_}
+use mathlib.Core.Bool.{Bool, true, false, not, _&&_, false≢true}
+use mathlib.Core.List.{List, [], _∷_, _++_}
 use lib.ListN.{length, getD-replicate}
 use lib.Dec.{eqb}
 use native.Mathlib.Nat.{mod-lt}
@@ -12,7 +11,7 @@ use Rattle.rules.specs.declared.PriorityClass.{PriorityClass}
 use Rattle.rules.specs.declared.PriorityClass.the-variants as class
 use Rattle.rules.specs.declared.Part.{Part}
 use Rattle.rules.specs.declared.Part.the-variants as part
-use Rattle.rules.specs.Line.{has, both, Comes, comes-behind, comes-before}
+use Rattle.rules.specs.Line.{both, Comes, comes-behind, comes-before}
 use Rattle.rules.specs.Buckets.{Buckets, bucket, around, Found, nothing, found, scan, pop, Hit, scan-nothing, scan-found}
 use Rattle.rules.specs.Buckets.{around-join, around-pop, around-pop-there, around-pop-next, length-join, length-pop, bucket-mod}
 use Rattle.rules.specs.Priority.{nr-values}
@@ -166,6 +165,18 @@ next-idle-is q s r t (found j x) e =
     (rw (r, t) (around-pop nr-buckets (q .idle) 0 j x (s .idle-full) hit))
     (record { realtime-full = s .realtime-full; timeshare-full = s .timeshare-full; idle-full = length-pop nr-buckets _ _ (s .idle-full); take-idx-in = s .take-idx-in })
 
+-- the line of the timeshare part, when its head has left
+timeshare-tail : (q : Queue) → Shape q → (j x : ℕ) → Hit nr-buckets (q .timeshare) (q .take-idx) nr-buckets j x → timeshare-line q ≡ x ∷ timeshare-line (leave part.Timeshare q j)
+unfolding leave timeshare-line
+timeshare-tail q s j x hit =
+    around-pop nr-buckets (q .timeshare) (q .take-idx) j x (s .timeshare-full) hit
+    ∙ ap (λ (l : List ℕ). x ∷ l) (sym (around-next-take-idx (q .insert-idx) (q .timeshare) (q .take-idx) j x (s .timeshare-full) hit))
+
+timeshare-head : (q : Queue) → Shape q → realtime-line q ≡ [] → (j x : ℕ) → Hit nr-buckets (q .timeshare) (q .take-idx) nr-buckets j x
+    → order q ≡ x ∷ order (leave part.Timeshare q j)
+unfolding order leave realtime-line idle-line
+timeshare-head q s r j x hit = rw (r, timeshare-tail q s j x hit)
+
 next-timeshare-is : (q : Queue) → Shape q → realtime-line q ≡ [] → (f : Found) → scan nr-buckets (q .timeshare) (q .take-idx) nr-buckets ≡ f
     → NextIs q (first-in part.Timeshare f (next-idle q))
 unfolding first-in next-idle leave order realtime-line timeshare-line idle-line buckets-of
@@ -174,7 +185,7 @@ next-timeshare-is q s r nothing e =
 next-timeshare-is q s r (found j x) e =
     let hit = scan-found nr-buckets (q .timeshare) (q .take-idx) nr-buckets j x e in
     next-head part.Timeshare j x (hit .rest) refl (hit-in hit) (hit-holds hit)
-    (rw (r, around-pop nr-buckets (q .timeshare) (q .take-idx) j x (s .timeshare-full) hit, around-next-take-idx (q .insert-idx) (q .timeshare) (q .take-idx) j x (s .timeshare-full) hit))
+    (timeshare-head q s r j x hit)
     (record {
       realtime-full = s .realtime-full;
       timeshare-full = length-pop nr-buckets _ _ (s .timeshare-full);
@@ -201,10 +212,6 @@ next-is q s = next-realtime-is q s (scan nr-buckets (q .realtime) 0 nr-buckets) 
 pub advance-order : (q : Queue) → order (advance-insert-index q) ≡ order q
 unfolding advance-insert-index order realtime-line timeshare-line idle-line
 advance-order q = both (empty (timeshare-line q)) (λ p. rw p) (λ p. rw p)
-
-pub advance-take-idx : (q : Queue) → (advance-insert-index q) .take-idx ≡ q .take-idx
-unfolding advance-insert-index
-advance-take-idx q = both (empty (timeshare-line q)) (λ p. rw p) (λ p. rw p)
 
 pub advance-buckets : (p : Part) (q : Queue) → buckets-of p (advance-insert-index q) ≡ buckets-of p q
 unfolding buckets-of advance-insert-index

@@ -1,17 +1,16 @@
 -- The queue's order is that of being ahead. Assumes nothing.
-use Prim.Native.Nat.{ℕ, _+_, _≤_, _<_}
-use mathlib.Core.Path.{_≡_, refl, sym, ap, _∙_}
+use Prim.Native.Nat.{ℕ, _≤_, _<_}
+use mathlib.Core.Path.{_≡_, sym}
 use mathlib.Core.Logic.{_↔_, _⊎_, inl, inr}
-use mathlib.Core.Bool.{Bool, true, false, cond, _&&_, _||_, true≢false, false≢true}
-use mathlib.Core.List.{List, [], _∷_, _++_}
+use mathlib.Core.Bool.{Bool, true, false, false≢true}
+use mathlib.Core.List.{List, [], _∷_}
 use lib.Dec.{eqb, ltb}
-use borrow.Author.Tests.{eqb-true, eqb-false, eq-eqb, ne-eqb, ltb-true, ltb-false, lt-ltb, le-ltb}
+use borrow.Author.Tests.{eqb-true, eq-eqb, ltb-true, ltb-false, lt-ltb, le-ltb}
 use native.Mathlib.Omega.{arith}
-use Rattle.rules.specs.declared.Part.{Part}
-use Rattle.rules.specs.Line.{ahead, both, count}
+use Rattle.rules.specs.Line.{ahead, both}
 use Rattle.rules.specs.Queue.{Queue, order}
 use Rattle.rules.specs.Puts.{PutOrTake}
-use Rattle.rules.specs.Ahead.{Wait, who-waits, In, how-many, rank, first-bucket, onward, earlier-part, same-part, how-far, ahead-of}
+use Rattle.rules.specs.Ahead.{Wait, who-waits, In, how-many, rank, earlier-part, same-part, how-far, ahead-of}
 use Rattle.rules.specs.Waiting.{waiting-rising, placed}
 use Rattle.rules.specs.Held.{same-part-of, place}
 use Rattle.rules.specs.Kept.{Fits}

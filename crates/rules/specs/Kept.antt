@@ -1,28 +1,28 @@
 -- What every put, take and `advance_insert_index` keeps of a queue and its puts and takes, and what follows of demand 3 for one queue. Assumes nothing.
-use Prim.Native.Nat.{ℕ, zero, suc, _+_, _*_, _≤_, _<_}
+use Prim.Native.Nat.{ℕ, suc, _+_, _*_, _≤_, _<_}
 use mathlib.Core.Path.{_≡_, refl, sym, ap, subst, _∙_}
-use mathlib.Core.Logic.{_≢_, _↔_, _⊎_, inl, inr}
-use mathlib.Core.Bool.{Bool, true, false, cond, not, _&&_, _||_, true≢false, false≢true, or-false, or-comm}
+use mathlib.Core.Logic.{_≢_, _↔_, inl, inr}
+use mathlib.Core.Bool.{Bool, true, false, cond, not, _&&_, _||_, true≢false, false≢true, or-false}
 use mathlib.Core.Option.{Option, none, some}
 use mathlib.Core.List.{List, [], _∷_, _++_, append-assoc, append-nil, nil≢cons}
 use lib.ListN.{length, length-append}
-use lib.Dec.{eqb, ltb}
-use borrow.Author.Tests.{eqb-true, eqb-false, eq-eqb, ne-eqb, not-true}
-use native.Mathlib.Nat.{add-zero, add-suc, suc-add, zero-add}
+use lib.Dec.{eqb}
+use borrow.Author.Tests.{eqb-true, eqb-false, eq-eqb, ne-eqb}
+use native.Mathlib.Nat.{zero-add}
 use native.Mathlib.Omega.{arith}
 use Rattle.rules.specs.declared.Part.{Part}
 use Rattle.rules.specs.declared.Part.the-variants as part
-use Rattle.rules.specs.Line.{has, ahead, both, count, Distinct, Below, Comes, comes-has, comes-distinct, comes-below, distinct-length, has-append, without}
-use Rattle.rules.specs.Line.{distinct-without, has-without}
+use Rattle.rules.specs.Line.{has, ahead, both, count, Distinct, Below, Comes, comes-has, comes-distinct, comes-below, comes-length, distinct-length, without}
+use Rattle.rules.specs.Line.{distinct-without}
 use Rattle.rules.specs.Buckets.{bucket}
 use Rattle.rules.specs.Priority.{nr-values}
 use Rattle.rules.specs.Queue.{Queue, nr-buckets, no-queue, order, Arrival, part-for, bucket-for, join-in, insert, movable, Next, nobody, next-in, next, leave, asked, advance-insert-index}
 use Rattle.rules.specs.Puts.{Put, PutOrTake, a-put, a-take, put-made}
 use Rattle.rules.specs.State.{is-number}
-use Rattle.rules.specs.Ahead.{gone, Wait, at-time, waiting, who-waits, threads, In, how-many, ahead-of, put-after, a-of, puts-ahead, b-of, counts, served, calm-in, calm-while, unpinned}
-use Rattle.rules.specs.Effect.{Shape, some-bucket, start-shape, start-order, bucket-for-in, join-comes, join-shape, NextIs, next-nobody, next-head, next-is, buckets-of}
-use Rattle.rules.specs.Effect.{advance-order, advance-take-idx, advance-buckets, advance-shape, and-left, and-right}
-use Rattle.rules.specs.Waiting.{eqb-swap, others, threads-append, how-many-append, others-threads, gone-append, waiting-put, waiting-none, waiting-some, waiting-rising, Placed, placed, put-in-waiting}
+use Rattle.rules.specs.Ahead.{gone, Wait, at-time, waiting, who-waits, threads, In, how-many, ahead-of, put-after, a-of, puts-ahead, b-of, counts, served, puts, calm-in, calm-while, unpinned}
+use Rattle.rules.specs.Effect.{Shape, start-shape, start-order, bucket-for-in, join-comes, join-shape, NextIs, next-nobody, next-head, next-is, buckets-of}
+use Rattle.rules.specs.Effect.{advance-order, advance-buckets, advance-shape, and-left, and-right}
+use Rattle.rules.specs.Waiting.{eqb-swap, others, threads-append, how-many-append, others-threads, gone-append, waiting-put, waiting-none, waiting-some, waiting-rising, placed, put-in-waiting}
 use Rattle.rules.specs.Held.{Held, held-start, held-join, Left, held-left, leave-left, place}
 use Rattle.rules.specs.Bound.{Soon, soon-now, soon-join, soon-in, Falls, falls, soon-advance}
 
@@ -72,6 +72,18 @@ served-take [] s o = omega arith
 served-take (a-put r ∷ es) s o = served-take es s o
 served-take (a-take t r ∷ es) s o = rw (served-take es s o) (omega arith)
 
+puts-put : (es : List PutOrTake) (p : Put) → puts (es ++ (a-put p ∷ [])) ≡ suc (puts es)
+unfolding puts
+puts-put [] p = refl
+puts-put (a-put r ∷ es) p = rw (puts-put es p)
+puts-put (a-take s o ∷ es) p = puts-put es p
+
+puts-take : (es : List PutOrTake) (s : Bool) (o : Option ℕ) → puts (es ++ (a-take s o ∷ [])) ≡ puts es
+unfolding puts
+puts-take [] s o = refl
+puts-take (a-put r ∷ es) s o = rw (puts-take es s o)
+puts-take (a-take t r ∷ es) s o = puts-take es s o
+
 ahead-take : (w : Wait) (n : ℕ) (es : List PutOrTake) (s : Bool) (o : Option ℕ) → puts-ahead w n (es ++ (a-take s o ∷ [])) ≡ puts-ahead w n es
 unfolding puts-ahead
 ahead-take w n [] s o = both (is-number (w .put .thread) o) (λ e. rw e) (λ e. rw e)
@@ -116,6 +128,7 @@ pub record Fits (limit : ℕ) (q : Queue) (l : List PutOrTake) : Type 0 where
   pub holds : (x : ℕ) → has x (order q) ≡ has x (threads (who-waits l))
   pub apart : Distinct (threads (who-waits l))
   pub below : Below limit (order q)
+  pub load-is : length (order q) + served l ≡ puts l
 
 -- of a put p, with pre before it and mid after it
 pub record Turning (limit : ℕ) (q : Queue) (pre : List PutOrTake) (p : Put) (mid : List PutOrTake) : Type 0 where
@@ -142,9 +155,9 @@ pub record Kept (limit : ℕ) (q : Queue) (l : List PutOrTake) : Type 0 where
 -- ---- at the start
 
 pub kept-start : (limit : ℕ) → Kept limit no-queue []
-unfolding waiting threads Distinct Below has
+unfolding waiting threads Distinct Below has served puts
 kept-start limit = record {
-  fits = record { shape = start-shape; held = held-start; once = rw start-order tt; holds = λ x. rw start-order refl; apart = tt; below = rw start-order tt };
+  fits = record { shape = start-shape; held = held-start; once = rw start-order tt; holds = λ x. rw start-order refl; apart = tt; below = rw start-order tt; load-is = rw start-order refl };
   turns = λ pre mid p e. absurd (nil-not pre (a-put p) mid e);
   past = λ pre post e. let f : pre ≡ [] = nil-front pre post e in rw f (record {
     still = λ pre mid p e. absurd (nil-not pre (a-put p) mid e);
@@ -363,7 +376,8 @@ fits-put : {limit : ℕ} {q : Queue} {l : List PutOrTake} (a : Arrival) (pinned 
     → Fits limit (insert q a) (l ++ (a-put (put-made pinned q a) ∷ []))
 unfolding insert put-made threads has
 fits-put {limit} {q} {l} a pinned f v h n =
-    let w : Wait = at-time (length l) (put-made pinned q a) in
+    let r : Put = put-made pinned q a in
+    let w : Wait = at-time (length l) r in
     let j = bucket-for-in (part-for a) q a (f .shape) v in
     let c : Comes (a .thread) (order q) (order (insert q a)) = join-comes (part-for a) q (bucket-for (part-for a) q a) (a .thread) (f .shape) j in
     let ws : who-waits (l ++ (a-put (put-made pinned q a) ∷ [])) ≡ who-waits l ++ (w ∷ []) = waiting-put 0 l (put-made pinned q a) ∙ rw zero-add in
@@ -376,6 +390,7 @@ fits-put {limit} {q} {l} a pinned f v h n =
       holds = λ x. comes-has c x ∙ rw (f .holds x, ws) (sym (comes-has d x));
       apart = rw ws (comes-distinct d (sym (f .holds (a .thread)) ∙ n) (f .apart));
       below = comes-below c limit h (f .below);
+      load-is = omega (arith, comes-length c, served-put l r, puts-put l r, f .load-is);
     }
 
 -- ---- after a leaving, of a thread anywhere in the order
@@ -406,6 +421,7 @@ has-without-is x y (z ∷ l) =
 
 pub fits-left : {limit : ℕ} {q : Queue} {l : List PutOrTake} (q′ : Queue) (s : Bool) (y : ℕ) → Fits limit q l → Shape q′ → Left y q q′ → Comes y (order q′) (order q)
     → Fits limit q′ (l ++ (a-take s (some y) ∷ []))
+unfolding counts
 fits-left {limit} {q} {l} q′ s y f h m c =
     let ws : who-waits (l ++ (a-take s (some y) ∷ [])) ≡ others y (who-waits l) = waiting-some 0 l s y in
     let (d, n) = remove-distinct y (c .front) (c .back) (rw (c .after) at (f .once)) in
@@ -418,12 +434,14 @@ fits-left {limit} {q} {l} q′ s y f h m c =
           (both (eqb y x) (λ e. rw e (rw (eqb-true y x e) at gone-from)) (λ e. rw e));
       apart = rw (ws, others-threads) (distinct-without y (threads (who-waits l)) (f .apart));
       below = rw (c .before) (remove-below limit y (c .front) (c .back) (rw (c .after) at (f .below)));
+      load-is = omega (arith, comes-length c, served-take l s (some y), puts-take l s (some y), f .load-is);
     }
 
 fits-none : {limit : ℕ} {q : Queue} {l : List PutOrTake} (s : Bool) → Fits limit q l → Fits limit q (l ++ (a-take s none ∷ []))
+unfolding counts
 fits-none {limit} {q} {l} s f =
     let ws = waiting-none 0 l s in
-    record { shape = f .shape; held = rw ws (f .held); once = f .once; holds = rw ws (f .holds); apart = rw ws (f .apart); below = f .below }
+    record { shape = f .shape; held = rw ws (f .held); once = f .once; holds = rw ws (f .holds); apart = rw ws (f .apart); below = f .below; load-is = omega (arith, served-take l s none, puts-take l s none, f .load-is) }
 
 -- ---- who is pinned
 
@@ -454,15 +472,19 @@ movable-none : (pinned : ℕ → Bool) (l : List ℕ) → ((x : ℕ) → has x l
 unfolding movable has
 movable-none pinned [] h = refl
 movable-none pinned (y ∷ l) h =
-    rw (h y (rw (eq-eqb y y refl)), movable-none pinned l (λ x i. h x (rw i (both (eqb y x) (λ e. rw e) (λ e. rw e)))))
+    let first : pinned y ≡ true = h y (rw (eq-eqb y y refl)) in
+    let others-none : movable pinned l ≡ 0 = movable-none pinned l (λ x i. h x (rw i (both (eqb y x) (λ e. rw e) (λ e. rw e)))) in
+    rw first (omega arith)
 
 none-movable : (pinned : ℕ → Bool) (l : List ℕ) (x : ℕ) → movable pinned l ≡ 0 → has x l ≡ true → pinned x ≡ true
 unfolding movable has
 none-movable pinned [] x m h = absurd (false≢true h)
 none-movable pinned (y ∷ l) x m h =
     both (pinned y)
-    (λ e. both (eqb y x) (λ f. rw (eqb-true y x f) at e) (λ f. none-movable pinned l x (rw (e, zero-add) at m) (rw f at h)))
-    (λ e. let z : 1 + movable pinned l ≡ 0 = rw e at m in absurd (omega arith))
+    (λ e.
+    let none-later : movable pinned l ≡ 0 = omega (arith, m) in
+    both (eqb y x) (λ f. rw (eqb-true y x f) at e) (λ f. none-movable pinned l x none-later (rw f at h)))
+    (λ e. let none-here : 1 ≤ 0 = omega (arith, rw e at m) in absurd (omega arith))
 
 unpinned-none : (ws : List Wait) → ((v : Wait) → In v ws → v .put .pinned ≡ true) → how-many unpinned ws ≡ 0
 unfolding how-many unpinned In
@@ -629,6 +651,7 @@ kept-advance {limit} {q} {l} k =
         holds = rw o (k .fits .holds);
         apart = k .fits .apart;
         below = rw o (k .fits .below);
+        load-is = rw o (k .fits .load-is);
       };
       turns = λ pre mid p e.
           let t = k .turns pre mid p e in

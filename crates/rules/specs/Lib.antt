@@ -28,4 +28,7 @@ pub mod Sound
 pub mod Steps
 pub mod Reached
 pub mod Demand3
+pub mod Witnesses
+pub mod Places
+pub mod Refused
 pub mod Run

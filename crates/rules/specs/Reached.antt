@@ -1,30 +1,27 @@
 -- What every call keeps, and so every list of calls from the start. Assumes nothing.
 use Prim.Native.Nat.{ℕ, zero, suc, _≤_, _<_}
-use mathlib.Core.Path.{_≡_, refl, sym, ap, subst, _∙_}
-use mathlib.Core.Logic.{_≢_}
-use mathlib.Core.Bool.{Bool, true, false, cond, not, _&&_, _||_, true≢false, false≢true}
+use mathlib.Core.Path.{_≡_, refl, sym, subst, _∙_}
+use mathlib.Core.Bool.{Bool, true, false, not, _&&_, _||_, true≢false, false≢true}
 use mathlib.Core.Option.{Option, none, some}
 use mathlib.Core.List.{List, [], _∷_, _++_, append-assoc, append-nil}
 use lib.Dec.{eqb, ltb, leb}
-use borrow.Author.Tests.{eqb-true, eqb-false, eq-eqb, ne-eqb, ltb-true, leb-true, not-true}
+use borrow.Author.Tests.{eqb-true, eqb-false, eq-eqb, ltb-true, leb-true, not-true}
 use native.Mathlib.Omega.{arith}
-use Rattle.rules.specs.declared.Priority.{Priority}
 use Rattle.rules.specs.Line.{has, both}
 use Rattle.rules.specs.Priority.{nr-values, priority, class-at}
 use Rattle.rules.specs.Times.{Thread, pinned, donated-to, critical-at}
 use Rattle.rules.specs.Queue.{no-queue, order}
 use Rattle.rules.specs.Puts.{PutOrTake}
-use Rattle.rules.specs.State.{at, any-below, is-number, Limits, Topology, Cpu, State, start, new-thread, new-cpu, idle-priority, runs-on, waits-on, blocked}
-use Rattle.rules.specs.Schedule.{World, Got}
-use Rattle.rules.specs.Schedule as sched
+use Rattle.rules.specs.State.{at, any-below, is-number, Limits, Topology, State, start, new-thread, new-cpu, idle-priority, runs-on, waits-on, blocked}
+use Rattle.rules.specs.Schedule.{World}
 use Rattle.rules.specs.Requests.{Request, declare-cpu, add-node, place-cpu, seal, declare-thread, set-tick, schedule-thread, schedule, hardtick, stattick, resched, maybe-preempt, donate, remove-donation, set-critical, Reading, unknown, cut-short, asks, read, flags-of}
-use Rattle.rules.specs.Questions.{Question, question, open-yet, sealed-now, declared, cpu-declared, pin-declared, thread-declared, thread-new, priority-in-range, at-most, thread-blocked, concerning, first-no, room, refusal}
-use Rattle.rules.specs.Commands.{Answer, Step, no-log, refuses, changed, world-of, ran, scheduled-on, schedules, ran-on, obeys, answered, step, after-calls, history}
-use Rattle.rules.specs.Ahead.{Wait, waiting, who-waits, In}
+use Rattle.rules.specs.Questions.{Question, question, sealed-now, declared, cpu-declared, pin-declared, thread-declared, thread-new, priority-in-range, thread-blocked, concerning, first-no, room, refusal}
+use Rattle.rules.specs.Commands.{Answer, no-log, refuses, changed, world-of, ran, scheduled-on, schedules, ran-on, obeys, answered, step, after-calls, history}
+use Rattle.rules.specs.Ahead.{waiting, who-waits, In}
 use Rattle.rules.specs.Effect.{and-left, and-right, start-order}
 use Rattle.rules.specs.Kept.{Kept, kept-start, in-threads}
-use Rattle.rules.specs.Sound.{Under, Valued, Mild, Alike, alike-donated, at-here, at-there, at-keeps, Free, Sound, Same, sound-same, New, not-true-is}
-use Rattle.rules.specs.Steps.{nobody-but, Selected, select-cpu-selected, ok-scheduled, ok-schedule, ok-hardtick, ok-stattick, ok-resched, ok-maybe-preempt, ok-donate}
+use Rattle.rules.specs.Sound.{Under, Valued, Mild, alike-donated, at-keeps, Sound, Same, sound-same, New, not-true-is}
+use Rattle.rules.specs.Steps.{nobody-but, select-cpu-selected, ok-scheduled, ok-schedule, ok-hardtick, ok-stattick, ok-resched, ok-maybe-preempt, ok-donate}
 
 -- H: the puts and takes of each CPU's queue so far
 pub record Reached (H : ℕ → List PutOrTake) (s : State) : Type 0 where
@@ -129,7 +126,7 @@ value-below k v l e =
 
 -- ---- 12: a blocked thread neither waits nor runs
 
-any-not : (n : ℕ) (test : ℕ → Bool) → any-below n test ≡ false → (c : ℕ) → c < n → test c ≡ false
+pub any-not : (n : ℕ) (test : ℕ → Bool) → any-below n test ≡ false → (c : ℕ) → c < n → test c ≡ false
 unfolding any-below
 any-not zero test e c h = absurd (omega arith)
 any-not (suc n) test e c h =
@@ -144,7 +141,7 @@ unfolding is-number
 number-is x none e = cc
 number-is x (some y) e = let z : y ≡ x = cc in eq-eqb y x z
 
-or-none : (s t : Bool) → (s || t) ≡ false → (s ≡ false) × (t ≡ false)
+pub or-none : (s t : Bool) → (s || t) ≡ false → (s ≡ false) × (t ≡ false)
 or-none true t e = absurd (true≢false e)
 or-none false t e = (refl, e)
 

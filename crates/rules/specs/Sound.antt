@@ -1,9 +1,9 @@
 -- What the rules keep of all CPUs and threads: each queue is that of its puts and takes, a thread waits in one queue, runs on one CPU, or does neither.
 -- Assumes nothing.
-use Prim.Native.Nat.{ℕ, zero, suc, _+_, _<_}
+use Prim.Native.Nat.{ℕ, _+_, _<_}
 use mathlib.Core.Path.{_≡_, refl, sym, ap, subst, _∙_}
 use mathlib.Core.Logic.{_≢_, _⊎_, inl, inr}
-use mathlib.Core.Bool.{Bool, true, false, cond, not, _&&_, _||_, true≢false, false≢true, or-false}
+use mathlib.Core.Bool.{Bool, true, false, cond, _||_, true≢false, or-false}
 use mathlib.Core.Option.{Option, none, some}
 use mathlib.Core.List.{List, [], _∷_, _++_, append-assoc}
 use lib.ListN.{length}
@@ -11,14 +11,13 @@ use lib.Dec.{eqb}
 use borrow.Author.Tests.{eqb-true, eqb-false, eq-eqb, ne-eqb}
 use native.Mathlib.Omega.{arith}
 use Rattle.rules.specs.declared.Priority.{Priority}
-use Rattle.rules.specs.declared.Part.{Part}
 use Rattle.rules.specs.Line.{has, both, has-append, Distinct}
 use Rattle.rules.specs.Priority.{nr-values, less, greater-of, effective}
-use Rattle.rules.specs.Times.{Thread, effective-priority, pinned, is-some, donated-to, steadied, moving-to-queue, moving-to-active, reset-time, paid-to}
-use Rattle.rules.specs.Queue.{Queue, order, Arrival, part-for, bucket-for, insert, is-timeshare, Next, nobody, next-in, next, asked, leave, advance-insert-index, said-after-put, said-after-take}
+use Rattle.rules.specs.Times.{Thread, effective-priority, pinned, donated-to, steadied, moving-to-queue, moving-to-active, reset-time, paid-to}
+use Rattle.rules.specs.Queue.{Queue, order, Arrival, part-for, insert, is-timeshare, Next, nobody, next-in, asked, leave, said-after-take}
 use Rattle.rules.specs.Puts.{Put, PutOrTake, a-put, a-take, put-made}
 use Rattle.rules.specs.State.{at, Limits, Topology, Cpu}
-use Rattle.rules.specs.Schedule.{World, Got, with-cpu, with-thread, noted, wakeup, with-queue, with-running, pinned-in, arrival, insert-thread, handed-out, take-thread, clock}
+use Rattle.rules.specs.Schedule.{World, Got, with-cpu, with-thread, noted, wakeup, with-queue, pinned-in, arrival, insert-thread, handed-out, take-thread, clock}
 use Rattle.rules.specs.Ahead.{Wait, at-time, who-waits, threads, In}
 use Rattle.rules.specs.Effect.{advance-order}
 use Rattle.rules.specs.Waiting.{others, threads-append, waiting-put, waiting-none, waiting-some}

@@ -1,27 +1,27 @@
 -- Every function of Schedule.antt keeps what Sound.antt says. Assumes nothing.
 use Prim.Native.Nat.{ℕ, zero, suc, _+_, _-_, _%_, _≤_, _<_}
-use mathlib.Core.Path.{_≡_, refl, sym, ap, subst, _∙_}
+use mathlib.Core.Path.{_≡_, refl, sym, ap, _∙_}
 use mathlib.Core.Logic.{_≢_}
-use mathlib.Core.Bool.{Bool, true, false, cond, not, _&&_, _||_, true≢false, false≢true}
+use mathlib.Core.Bool.{Bool, true, false, cond, not, _&&_, _||_, false≢true}
 use mathlib.Core.Option.{Option, none, some}
 use mathlib.Core.List.{List, [], _∷_, _++_}
 use lib.Dec.{eqb, ltb}
-use borrow.Author.Tests.{eqb-true, eqb-false, eq-eqb, ne-eqb}
+use borrow.Author.Tests.{eqb-true, eqb-false, ne-eqb}
 use native.Mathlib.Omega.{arith}
 use Rattle.rules.specs.declared.Priority.{Priority}
 use Rattle.rules.specs.Line.{has, both, Below}
 use Rattle.rules.specs.Priority.{nr-values, less, donation-accepted}
-use Rattle.rules.specs.Times.{Thread, either, preferred-cpu, effective-priority, moving-to-queue, moving-to-active, reset-time, paid-to, donated-to}
+use Rattle.rules.specs.Times.{Thread, either, preferred-cpu, effective-priority, moving-to-queue, donated-to}
 use Rattle.rules.specs.Queue.{Queue, order, load}
 use Rattle.rules.specs.Puts.{PutOrTake}
 use Rattle.rules.specs.Draw.{next-state, draw}
 use Rattle.rules.specs.State.{at, those-below, join-all, Limits, Topology, Cpu}
-use Rattle.rules.specs.Topology.{leaf, children, cpus-of, visits, visited, on-node}
-use Rattle.rules.specs.Choice.{Best, none-yet, best, lower, score, Searched, find-cpu, Extremes, weigh, extremes, Pair, no-pair, pair, pair-of, Chosen, choose-cpu-balance}
-use Rattle.rules.specs.Schedule.{World, Got, Balancing, Flags, with-cpu, with-thread, with-running, with-draws, with-preempt, set-rebalance, with-rebalance-time, with-ticks, wakeup, same-cpu}
+use Rattle.rules.specs.Topology.{leaf, children, cpus-of, visits, visited}
+use Rattle.rules.specs.Choice.{Best, none-yet, best, lower, Searched, find-cpu, Extremes, weigh, extremes, Pair, no-pair, pair, pair-of, choose-cpu-balance}
+use Rattle.rules.specs.Schedule.{World, Got, Balancing, Flags, with-cpu, with-thread, with-running, with-draws, with-preempt, set-rebalance, with-rebalance-time, with-ticks, same-cpu}
 use Rattle.rules.specs.Schedule as sched
-use Rattle.rules.specs.Sound.{Under, Valued, Mild, Alike, alike-self, alike-queue, alike-active, alike-reset, alike-paid, alike-donated, at-here, at-there, at-keeps, waits, Free, Sound, Same, same-self, same-then, same-free}
-use Rattle.rules.specs.Sound.{same-cpu-changed, same-thread-changed, same-wakeup, sound-same, New, not-true-is, sound-insert, Taken, take-taken, sound-clock}
+use Rattle.rules.specs.Sound.{Under, Valued, Mild, alike-queue, alike-active, alike-reset, alike-paid, alike-donated, at-here, at-there, at-keeps, waits, Free, Sound, Same, same-self, same-then, same-free}
+use Rattle.rules.specs.Sound.{same-cpu-changed, same-thread-changed, same-wakeup, sound-same, New, sound-insert, Taken, take-taken, sound-clock}
 
 -- ---- the CPUs that a search can find
 

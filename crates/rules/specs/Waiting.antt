@@ -1,16 +1,16 @@
 -- Who waits, as puts and takes are added at the end: lemmas of Puts.antt. Assumes nothing.
-use Prim.Native.Nat.{ℕ, zero, suc, _+_, _≤_, _<_}
+use Prim.Native.Nat.{ℕ, suc, _+_, _<_}
 use mathlib.Core.Path.{_≡_, refl, sym, ap, _∙_}
-use mathlib.Core.Bool.{Bool, true, false, cond, not, _&&_, _||_, true≢false, false≢true, or-false, or-assoc}
-use mathlib.Core.Option.{Option, none, some}
-use mathlib.Core.List.{List, [], _∷_, _++_, nil≢cons}
-use mathlib.Core.Logic.{_⊎_, inl, inr}
-use lib.ListN.{length, length-append}
-use lib.Dec.{eqb, ltb}
+use mathlib.Core.Bool.{Bool, true, false, cond, _||_, true≢false, false≢true, or-false, or-assoc}
+use mathlib.Core.Option.{none, some}
+use mathlib.Core.List.{List, [], _∷_, _++_}
+use mathlib.Core.Logic.{inl, inr}
+use lib.ListN.{length}
+use lib.Dec.{eqb}
 use borrow.Author.Tests.{eqb-true, eqb-false, eq-eqb, ne-eqb}
 use native.Mathlib.Nat.{add-zero, add-suc, suc-add}
 use native.Mathlib.Omega.{arith}
-use Rattle.rules.specs.Line.{has, both, count, Distinct, without, has-append}
+use Rattle.rules.specs.Line.{has, both, Distinct, without}
 use Rattle.rules.specs.Puts.{Put, PutOrTake, a-put, a-take}
 use Rattle.rules.specs.State.{is-number}
 use Rattle.rules.specs.Ahead.{gone, Wait, at-time, waiting, threads, how-many, In}

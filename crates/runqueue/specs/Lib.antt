@@ -1,2 +1,1 @@
 pub mod RunQueue
-pub mod Standin

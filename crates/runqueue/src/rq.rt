@@ -11,10 +11,6 @@ ghost use Rattle.runqueue.specs.RunQueue.{noRunQueue, rqEmpty, raised, s
 ghost use Rattle.runqueue.specs.RunQueue.{counted, rqInsertRealtime, rqInsertTimeshare, rqInsertIdle, rqInsert};
 ghost use Rattle.runqueue.specs.RunQueue.{rqFrontRealtime, rqFrontTimeshare, rqFrontIdle, rqFront, frontThread};
 ghost use Rattle.runqueue.specs.RunQueue.{uncounted, rqTakenRealtime, rqRecalc, rqTakenTimeshare, rqTakenIdle, rqTaken, rqClock, rqHardtick};
-use crate::priority::class_number;
-use crate::priority::from_raw;
-use crate::priority::less;
-use crate::priority::raw;
 use queue::lists::Found;
 use queue::num::difference;
 use queue::num::product;
@@ -24,6 +20,10 @@ use rules::Part;
 use rules::Priority;
 use rules::PriorityClass;
 use thread::NONE;
+use thread::priority::class_number;
+use thread::priority::from_raw;
+use thread::priority::less;
+use thread::priority::raw;
 
 // current_priority: what the CPU advertises, raw. load: how many wait; timeshare_load: how many of them in timeshare; movable: how many are not pinned.
 pub struct RunQueue {

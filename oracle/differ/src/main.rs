@@ -3,7 +3,7 @@
 //!
 //! Runs two sides over streams and stops at the first byte that differs, with the shortest stream it can find, or with
 //! `--as-found` at once. `--lines` leaves the state out of the comparison. Run from the top of the repository;
-//! oracle/sides lists the sides.
+//! oracle/sides lists the sides; the first two are compared unless others are named.
 
 use std::{
     fs,
@@ -186,7 +186,8 @@ impl Pair<'_> {
 }
 
 fn main() {
-    let (mut left, mut right) = ("rust".to_string(), "second".to_string());
+    let sides = sides();
+    let (mut left, mut right) = (sides[0].name.clone(), sides[1].name.clone());
     let (mut count, mut without, mut file) = (1000, Vec::new(), None);
     let (mut lines, mut as_found) = (false, false);
     let mut plain = Vec::new();
@@ -206,7 +207,6 @@ fn main() {
             _ => plain.push(argument),
         }
     }
-    let sides = sides();
     let side = |name: &str| {
         sides.iter().find(|s| s.name == name).unwrap_or_else(|| stop(&format!("no side {name}")))
     };

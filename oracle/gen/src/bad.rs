@@ -79,7 +79,8 @@ impl Generator {
     fn some_command(&mut self) -> Vec<u8> {
         let after = [0x10, 0x11, 0x12, 0x12, 0x13, 0x14, 0x15, 0x16, 0x17, 0x18, 0x19, 0x1a];
         let before = [0x01, 0x02, 0x02, 0x03, 0x03, 0x04];
-        let byte = if self.state.sealed == self.random.chance(80) {
+        let late = if self.state.sealed { 80 } else { 60 };
+        let byte = if self.random.chance(late) {
             self.random.of(&after)
         } else {
             self.random.of(&before)

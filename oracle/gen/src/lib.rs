@@ -38,7 +38,7 @@ pub fn generate(seed: u64, profile: &str, count: usize, without: &[u8]) -> Optio
         "endings" => random.below(count as u64 + 1) as usize,
         _ => count,
     };
-    let plan = Plan::draw(profile, &mut random, count);
+    let plan = Plan::draw(profile, seed, &mut random, count);
     let mut generator = Generator {
         random,
         plan,
@@ -407,12 +407,12 @@ impl Generator {
                     self.stream.push(more);
                 }
             }
-            plan::Ending::Cut => {
-                let command = self.random.of(&[
-                    0x01u8, 0x02, 0x03, 0x10, 0x11, 0x12, 0x13, 0x14, 0x15, 0x16, 0x17, 0x18, 0x19, 0x1a,
-                ]);
+            plan::Ending::Cut(number) => {
+                let lengths = |byte: u8| (0..operands(byte).unwrap_or(0)).map(move |kept| (byte, kept));
+                let cuts: Vec<(u8, usize)> = (0..=255).flat_map(lengths).collect();
+                let (command, kept) = cuts[number as usize % cuts.len()];
                 self.stream.push(command);
-                for _ in 0..self.random.below(operands(command).unwrap() as u64) {
+                for _ in 0..kept {
                     let more = self.random.below(4) as u8;
                     self.stream.push(more);
                 }

@@ -26,7 +26,8 @@ pub enum Values {
 pub enum Ending {
     Clean,
     Unknown,
-    Cut,
+    /// One of the 41 places in which a command can be cut.
+    Cut(u64),
 }
 
 pub struct Plan {
@@ -71,7 +72,7 @@ impl Plan {
         }
     }
 
-    pub fn draw(profile: &str, r: &mut Random, count: usize) -> Plan {
+    pub fn draw(profile: &str, seed: u64, r: &mut Random, count: usize) -> Plan {
         let cpus = r.of(&[1, 2, 2, 3, 4, 4, 5, 6, 8, 8, 12, 16]);
         let user: &[u8] = &[2, 2, 2, 2, 2, 2, 3, 1, 0];
         let mixes: [&[u8]; 6] = [user, &[0, 1, 2, 3], &[2], &[2, 2, 3], &[0, 1, 2], &[3, 3, 2, 0]];
@@ -176,7 +177,8 @@ impl Plan {
                 plan.nodes = plan.nodes.min(12);
             }
             "endings" => {
-                plan.ending = r.of(&[Ending::Clean, Ending::Unknown, Ending::Cut, Ending::Cut]);
+                // 123 seeds have every cut.
+                plan.ending = [Ending::Clean, Ending::Unknown, Ending::Cut(seed / 3)][seed as usize % 3];
                 plan.bad = r.of(&[0, 20]);
                 plan.cpus = plan.cpus.min(4);
                 plan.nodes = plan.nodes.min(6);

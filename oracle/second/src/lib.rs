@@ -171,70 +171,58 @@ impl State {
         self.threads[thread as usize].as_mut().unwrap()
     }
 
-    /// The first question that is answered no, and its number.
-    fn refusal(&self, bytes: &[u8]) -> Option<u8> {
+    /// The numbers of the questions answered no, in their order. Those that ask about bytes that are not there are not
+    /// put; the one about a blocked thread is put only to a declared one.
+    pub fn failing(&self, bytes: &[u8]) -> Vec<u8> {
         let command = *bytes.first().unwrap_or(&0);
         let Some(length) = operands(command) else {
-            return Some(1);
+            return vec![1];
         };
         if bytes.len() < 1 + length {
-            return Some(2);
+            return vec![2];
         }
         let r = read(command, &bytes[1..1 + length]);
-        if (command <= 0x04) == self.sealed {
-            return Some(3);
-        }
-        let cpu_ok = match command {
+        let mut failing = Vec::new();
+        let mut question = |number: u8, yes: bool| {
+            if !yes {
+                failing.push(number)
+            }
+        };
+        question(3, (command <= 0x04) != self.sealed);
+        question(4, match command {
             0x01 => (r.cpu as usize) < CPUS && !self.declared(r.cpu),
             0x03 => self.declared(r.cpu) && !self.topology.placed(r.cpu),
             0x10 => r.pin == 0xFF || self.declared(r.pin),
             0x12..=0x18 => self.declared(r.cpu),
             _ => true,
-        };
-        if !cpu_ok {
-            return Some(4);
-        }
-        let thread_ok = match command {
+        });
+        question(5, match command {
             0x10 => (r.thread as usize) < THREADS && self.thread(r.thread).is_none(),
             0x12 | 0x18 | 0x19 | 0x1A => self.thread(r.thread).is_some(),
             _ => true,
-        };
-        if !thread_ok {
-            return Some(5);
-        }
-        let range_ok = match command {
+        });
+        question(6, match command {
             0x02 => self.topology.may_have_child(r.node) && r.kind <= 3,
             0x03 => self.topology.is_leaf(r.node),
             0x10 | 0x18 => r.class <= 3 && r.value <= 127,
             0x13 => r.flags <= 7,
             0x1A => r.mark <= 1,
             _ => true,
-        };
-        if !range_ok {
-            return Some(6);
-        }
-        if command == 0x12 && self.th(r.thread).place != Place::Blocked {
-            return Some(7);
-        }
-        if command == 0x11 && (r.number < self.tick || r.number > LAST_TICK) {
-            return Some(8);
-        }
-        if command == 0x04 {
-            let placed = |cpu: u8| !self.declared(cpu) || self.topology.placed(cpu);
-            if !self.declared(0) || !(0..CPUS as u8).all(placed) {
-                return Some(9);
-            }
-        }
-        if self.accepted >= 4_294_967_295 {
-            return Some(10);
-        }
-        None
+        });
+        let blocked = |thread: u16| self.thread(thread).is_none_or(|t| t.place == Place::Blocked);
+        question(7, command != 0x12 || blocked(r.thread));
+        question(8, command != 0x11 || (self.tick <= r.number && r.number <= LAST_TICK));
+        let placed = |cpu: u8| !self.declared(cpu) || self.topology.placed(cpu);
+        question(9, command != 0x04 || (self.declared(0) && (0..CPUS as u8).all(placed)));
+        question(10, self.accepted < 4_294_967_295);
+        failing
     }
 
     /// One command at the front of the bytes.
     pub fn command(&mut self, bytes: &[u8]) -> Answer {
-        if let Some(number) = self.refusal(bytes) {
-            return Answer::Refused(number);
+        // "A no gives the number, changes nothing, and no later question is put."
+        if let Some(number) = self.failing(bytes).first() {
+            return Answer::Refused(*number);
         }
         self.accepted += 1;
         self.wakeups = 0;

@@ -5,9 +5,9 @@ use Rattle.runqueue.proofs.rq.raised.Statement.{statement}
 use Rattle.runqueue.proofs.rq.raised.Tie as tie
 use Rattle.runqueue.proofs.rq.raised.Reads as reads
 use Rattle.runqueue.proofs.rq.raised.Lts as lts
-use Rattle.runqueue.proofs.priority.from_raw.Reads as from-raw-reads
-use Rattle.runqueue.proofs.priority.less.Reads as less-reads
-use Rattle.runqueue.proofs.priority.raw.Reads as raw-reads
+use Rattle.thread.proofs.priority.from_raw.Reads as from-raw-reads
+use Rattle.thread.proofs.priority.less.Reads as less-reads
+use Rattle.thread.proofs.priority.raw.Reads as raw-reads
 
 -- src/rq.rt:74:9
 from-raw-requires : tie.Need-from-raw-requires

@@ -4,8 +4,8 @@ use Rattle.runqueue.proofs.rq.says.Statement.{statement}
 use Rattle.runqueue.proofs.rq.says.Tie as tie
 use Rattle.runqueue.proofs.rq.says.Reads as reads
 use Rattle.runqueue.proofs.rq.says.Lts as lts
-use Rattle.runqueue.proofs.priority.class_number.Reads as class-number-reads
-use Rattle.runqueue.proofs.priority.from_raw.Reads as from-raw-reads
+use Rattle.thread.proofs.priority.class_number.Reads as class-number-reads
+use Rattle.thread.proofs.priority.from_raw.Reads as from-raw-reads
 
 -- src/rq.rt:93:9
 from-raw-requires : tie.Need-from-raw-requires

@@ -1,0 +1,70 @@
+use Prim.Native.Nat.{_-_}
+use Prim.Native.Nat.{_≤_}
+use borrow.Author.Needs.{needs}
+use Rattle.queue_vectors.proofs.world.bucket_of.Statement.{statement}
+use Rattle.queue_vectors.proofs.world.bucket_of.Tie as tie
+use Rattle.queue_vectors.proofs.world.bucket_of.Reads as reads
+use Rattle.queue_vectors.proofs.world.bucket_of.Lts as lts
+
+abbrev Inv-loop : tie.InvT-loop
+Inv-loop thread lists i₀ i = i ≤ 8
+
+abbrev μ-loop : tie.MeasureT-loop
+μ-loop thread lists i₀ i = 8 - i
+
+-- src/world.rt:130:5
+loop-holds : tie.Need-loop-holds Inv-loop μ-loop
+loop-holds c = search needs
+
+-- src/world.rt:132:20
+mul-head : tie.Need-mul-head Inv-loop μ-loop
+mul-head c = search needs
+
+-- src/world.rt:132:20
+element-copy-out-head : tie.Need-element-copy-out-head Inv-loop μ-loop
+element-copy-out-head c = search needs
+
+-- src/world.rt:133:20
+mul-tail : tie.Need-mul-tail Inv-loop μ-loop
+mul-tail c = search needs
+
+-- src/world.rt:133:20
+element-copy-out-tail : tie.Need-element-copy-out-tail Inv-loop μ-loop
+element-copy-out-tail c = search needs
+
+-- src/world.rt:136:17
+returns : tie.Need-returns Inv-loop μ-loop
+returns c = search needs
+
+-- src/world.rt:139:9
+add-i : tie.Need-add-i Inv-loop μ-loop
+add-i c = search needs
+
+-- src/world.rt:130:5
+loop-less : tie.Need-loop-less Inv-loop μ-loop
+loop-less c = search needs
+
+-- src/world.rt:130:5
+loop-again : tie.Need-loop-again Inv-loop μ-loop
+loop-again c = search needs
+
+-- src/world.rt:128:1
+returns-2 : tie.Need-returns-2 Inv-loop μ-loop
+returns-2 c = search needs
+
+pub bucket-of-spec : {M : Type 1} → statement M
+bucket-of-spec =
+    tie.close
+    (tie.spec
+    Inv-loop
+    μ-loop
+    loop-holds
+    mul-head
+    element-copy-out-head
+    mul-tail
+    element-copy-out-tail
+    returns
+    add-i
+    loop-less
+    loop-again
+    returns-2)

@@ -1,0 +1,133 @@
+-- THE RECORDS: what run queues ask of a list of thread records, and that the writes of a put and of a take are those of Well.antt. Assumes nothing.
+use Prim.Native.Nat.{ℕ, _≤_, _<_}
+use mathlib.Core.Path.{_≡_, refl, sym, ap, _∙_}
+use mathlib.Core.Logic.{_⊎_, inl, inr}
+use mathlib.Core.Bool.{Bool, true, false, cond}
+use mathlib.Core.List.{List}
+use lib.ListN.{length, getD, set, length-set}
+use lib.Seq.{getD-set-same, getD-set-other, set-out}
+use lib.Dec.{eqb, ltb}
+use borrow.Author.Tests.{eqb-true, eqb-false, eq-eqb, ne-eqb, ltb-true, ltb-false}
+use native.Mathlib.Omega.{arith}
+use Rattle.rules.specs.declared.Part.{Part}
+use Rattle.rules.specs.declared.Part.the-variants as part
+use Rattle.rules.specs.Line.{both}
+use Rattle.rules.specs.Times.{pinned, effective-priority, steadied}
+use Rattle.rules.specs.Times as times
+use Rattle.rules.specs.State.{at}
+use Rattle.thread.specs.declared.Thread.{Thread}
+use Rattle.thread.specs.Thread.{blank, NONE, WAITING, with-place, with-next, with-stable}
+use Rattle.thread.specs.Reads.{reads}
+use Rattle.thread.specs.Priority.{stable-effective-priority, reads-stable}
+use Rattle.thread.specs.Place.{reads-place, reads-next}
+use Rattle.represent.specs.Linked.{linkAfter, Behind-in}
+use Rattle.represent.specs.Well.{Marks, value-after}
+use Rattle.represent.specs.Interface.{recordAt, steadyIn, putIn, linkBehind}
+
+-- What run queues ask of the records.
+unfoldable pub marks : List Thread → Marks
+marks ts = record {
+  next = λ z. recordAt ts z .next;
+  pinned = λ z. pinned (reads (recordAt ts z));
+  value = λ z. reads (recordAt ts z) .stable .value;
+}
+
+-- ---- one record is written
+
+pub read-set : (ts : List Thread) (x : ℕ) (t : Thread) (z : ℕ) → x < length ts → recordAt (set ts x t) z ≡ cond (eqb z x) t (recordAt ts z)
+read-set ts x t z h =
+    both (eqb z x) (λ e. rw (e, eqb-true z x e) (getD-set-same ts x t blank h)) (λ e. rw e (getD-set-other ts x z t blank (eqb-false z x e)))
+
+-- a write that keeps a field, wherever it goes
+kept {ℓ} : {A : Type ℓ} (f : Thread → A) (ts : List Thread) (x : ℕ) (t : Thread) (z : ℕ) → f t ≡ f (recordAt ts x) → f (recordAt (set ts x t) z) ≡ f (recordAt ts z)
+kept f ts x t z e =
+    both (ltb x (length ts))
+    (λ l. rw (read-set ts x t z (ltb-true _ _ l)) (both (eqb z x) (λ k. rw (k, eqb-true z x k) e) (λ k. rw k)))
+    (λ l. rw (set-out ts x t (ltb-false _ _ l)))
+
+-- A WRITE THAT KEEPS LINK, PIN AND STABLE VALUE
+pub marks-kept : (ts : List Thread) (x : ℕ) (t : Thread) → t .next ≡ recordAt ts x .next → reads t ≡ reads (recordAt ts x) → marks (set ts x t) ≡ marks ts
+unfolding marks
+marks-kept ts x t n r = λ i. record {
+  next = λ z. kept (λ (u : Thread). u .next) ts x t z n i;
+  pinned = λ z. kept (λ (u : Thread). pinned (reads u)) ts x t z (ap pinned r) i;
+  value = λ z. kept (λ (u : Thread). reads u .stable .value) ts x t z (ap (λ (u : times.Thread). u .stable .value) r) i;
+}
+
+-- ---- a put
+
+put-next : (t : Thread) (p : Part) → putIn t p .next ≡ NONE
+unfolding putIn steadyIn with-next stable-effective-priority with-stable
+put-next t part.Realtime = refl
+put-next t part.Timeshare = refl
+put-next t part.Idle = refl
+
+put-reads : (t : Thread) → reads (with-next (with-place t WAITING) NONE) ≡ reads t
+put-reads t = reads-next (with-place t WAITING) NONE ∙ reads-place t WAITING
+
+put-pinned : (t : Thread) (p : Part) → pinned (reads (putIn t p)) ≡ pinned (reads t)
+unfolding putIn steadyIn pinned steadied
+put-pinned t part.Realtime = rw (put-reads t)
+put-pinned t part.Timeshare = rw (reads-stable, put-reads t)
+put-pinned t part.Idle = rw (put-reads t)
+
+put-value : (t : Thread) (p : Part) → reads (putIn t p) .stable .value ≡ value-after p (λ z. reads t .stable .value) 0 (effective-priority (reads t) .value) 0
+unfolding putIn steadyIn steadied value-after at
+put-value t part.Realtime = rw (put-reads t)
+put-value t part.Timeshare = rw (reads-stable, put-reads t)
+put-value t part.Idle = rw (put-reads t)
+
+value-at : (p : Part) (f : ℕ → ℕ) (x v z : ℕ) → cond (eqb z x) (value-after p (λ y. f x) 0 v 0) (f z) ≡ value-after p f x v z
+unfolding value-after at
+value-at part.Realtime f x v z = both (eqb z x) (λ e. rw (e, eqb-true z x e)) (λ e. rw e)
+value-at part.Timeshare f x v z = both (eqb z x) (λ e. rw e) (λ e. rw e)
+value-at part.Idle f x v z = both (eqb z x) (λ e. rw (e, eqb-true z x e)) (λ e. rw e)
+
+module _ (ts : List Thread) (x : ℕ) (h : x < length ts) (p : Part) (b : ℕ) where
+  abbrev written : List Thread
+  written = set ts x (putIn (recordAt ts x) p)
+
+  field {ℓ} : {A : Type ℓ} (f : Thread → A) (z : ℕ) → f (recordAt written z) ≡ cond (eqb z x) (f (putIn (recordAt ts x) p)) (f (recordAt ts z))
+  field f z = rw (read-set ts x (putIn (recordAt ts x) p) z h) (both (eqb z x) (λ e. rw e) (λ e. rw e))
+
+  -- what the link of b leaves as it is
+  past-link {ℓ} : {A : Type ℓ} (f : Thread → A) (z : ℕ) → f (with-next (recordAt written b) x) ≡ f (recordAt written b) → f (recordAt (linkBehind written b x) z) ≡ f (recordAt written z)
+  unfolding linkBehind
+  past-link f z e = both (eqb b NONE) (λ k. rw k) (λ k. rw k (kept f written b (with-next (recordAt written b) x) z e))
+
+  link-here : (z : ℕ) → recordAt written z .next ≡ at (marks ts .next) x NONE z
+  unfolding at marks
+  link-here z = field (λ (u : Thread). u .next) z ∙ rw (put-next (recordAt ts x) p)
+
+  link-next : (z : ℕ) → Behind-in (length ts) b → recordAt (linkBehind written b x) z .next ≡ linkAfter (marks ts .next) b x z
+  unfolding linkBehind linkAfter
+  link-next z k = both (eqb b NONE) (λ e. rw e (link-here z)) (λ e. rw e (behind-next e k))
+    where
+      behind-next : eqb b NONE ≡ false → Behind-in (length ts) b → recordAt (set written b (with-next (recordAt written b) x)) z .next ≡ at (at (marks ts .next) x NONE) b x z
+      behind-next e (inl n) = absurd (eqb-false b NONE e n)
+      behind-next e (inr l) =
+          rw (read-set written b (with-next (recordAt written b) x) z (rw (length-set ts x (putIn (recordAt ts x) p)) l))
+          (both (eqb z b) (λ q. rw q (unfold at with-next in rw q)) (λ q. rw q (unfold at in rw q (unfold at in link-here z))))
+
+  -- THE WRITES OF A PUT
+  pub marks-put : Behind-in (length ts) b
+      → marks (linkBehind written b x)
+      ≡ record {
+        next = linkAfter (marks ts .next) b x;
+        pinned = marks ts .pinned;
+        value = value-after p (marks ts .value) x (effective-priority (reads (recordAt ts x)) .value);
+      }
+  unfolding marks
+  marks-put k = λ i. record { next = λ z. link-next z k i; pinned = λ z. pins z i; value = λ z. values z i }
+    where
+      pins : (z : ℕ) → pinned (reads (recordAt (linkBehind written b x) z)) ≡ pinned (reads (recordAt ts z))
+      pins z = past-link (λ (u : Thread). pinned (reads u)) z (ap pinned (reads-next (recordAt written b) x))
+          ∙ field (λ (u : Thread). pinned (reads u)) z ∙ both (eqb z x) (λ e. rw (e, eqb-true z x e) (put-pinned (recordAt ts x) p)) (λ e. rw e)
+
+      values : (z : ℕ) → reads (recordAt (linkBehind written b x) z) .stable .value ≡ value-after p (λ y. reads (recordAt ts y) .stable .value) x (effective-priority (reads (recordAt ts x)) .value) z
+      values z = past-link (λ (u : Thread). reads u .stable .value) z (ap (λ (u : times.Thread). u .stable .value) (reads-next (recordAt written b) x))
+          ∙ field (λ (u : Thread). reads u .stable .value) z ∙ rw (put-value (recordAt ts x) p) (value-at p (λ y. reads (recordAt ts y) .stable .value) x _ z)
+
+  pub length-put : length (linkBehind written b x) ≡ length ts
+  unfolding linkBehind
+  length-put = both (eqb b NONE) (λ e. rw e (length-set ts x _)) (λ e. rw e (length-set written b _ ∙ length-set ts x _))
