@@ -1,4 +1,5 @@
 pub mod Donate
+pub mod Option
 pub mod Preempt
 pub mod Rebalance
 pub mod Running
