@@ -97,7 +97,7 @@ without-head : (x : ℕ) (l : List ℕ) → Distinct (x ∷ l) → l ≡ without
 unfolding Distinct without
 without-head x l d = rw (eq-eqb x x refl) (sym (without-absent x l (d .0)))
 
-has-head : (x : ℕ) (l : List ℕ) → has x (x ∷ l) ≡ true
+pub has-head : (x : ℕ) (l : List ℕ) → has x (x ∷ l) ≡ true
 unfolding has
 has-head x l = rw (eq-eqb x x refl)
 

@@ -340,7 +340,7 @@ is-head : (x y : ℕ) (l m : List ℕ) → l ≡ y ∷ m → eqb y x ≡ true �
 unfolding ahead
 is-head x y l m e f = rw (e, f)
 
-or-both : (s t : Bool) → (s || t) ≡ false → (s ≡ false) × (t ≡ false)
+pub or-both : (s t : Bool) → (s || t) ≡ false → (s ≡ false) × (t ≡ false)
 or-both true t e = absurd (true≢false e)
 or-both false t e = (refl, e)
 

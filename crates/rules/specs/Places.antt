@@ -14,7 +14,8 @@ use Rattle.rules.specs.Commands.{world-of, after-calls, history}
 use Rattle.rules.specs.Ahead.{served, puts}
 use Rattle.rules.specs.Steps.{nobody-but}
 use Rattle.rules.specs.Sound.{not-true-is}
-use Rattle.rules.specs.Reached.{Reached, reached-start, reached-calls, kept-calls, any-not, or-none}
+use Rattle.rules.specs.Reached.{Reached, reached-start, reached-calls, kept-calls, any-not}
+use Rattle.rules.specs.Kept.{or-both}
 
 -- A thread runs on one CPU, waits in one queue, or is blocked, and no two of these. One that runs or waits is declared.
 pub record InOnePlace (s : State) : Type 0 where
@@ -45,7 +46,7 @@ reached-places {H} {s} r = record {
   else-blocked = λ x. (
     λ b c.
         let neither : (d : ℕ) → d < s .limits .cpus → (is-number x (s .cpus d .running) ≡ false) × (has x (order (s .cpus d .queue)) ≡ false) =
-        λ d i. or-none _ _ (any-not (s .limits .cpus) _ (not-true _ b) d i) in (
+        λ d i. or-both _ _ (any-not (s .limits .cpus) _ (not-true _ b) d i) in (
           not-true-is _ (λ t. true≢false (sym t ∙ neither c (r .sound .runs c x (is-some-number x _ t) .0) .0)),
           not-true-is _ (λ t. true≢false (sym t ∙ neither c (r .sound .placed c x t .0) .1)),
         ),

@@ -1,7 +1,6 @@
 -- A run queue by document 01, its buckets as lists of thread numbers: what a put, a take and `advance_insert_index` do to it, the order of those who
 -- wait, and the priority that a CPU advertises. Assumes nothing.
-use Prim.Native.Nat.{ℕ, zero, suc, _+_, _-_, _*_, _/_, _%_, _<_}
-use mathlib.Core.Path.{_≡_}
+use Prim.Native.Nat.{ℕ, zero, suc, _+_, _-_, _*_, _/_, _%_}
 use mathlib.Core.Bool.{Bool, true, false, cond, not, _&&_}
 use mathlib.Core.Option.{Option, none, some}
 use mathlib.Core.List.{List, [], _∷_, _++_}
@@ -12,7 +11,7 @@ use Rattle.rules.specs.declared.PriorityClass.the-variants as class
 use Rattle.rules.specs.declared.Priority.{Priority}
 use Rattle.rules.specs.declared.Part.{Part}
 use Rattle.rules.specs.declared.Part.the-variants as part
-use Rattle.rules.specs.Line.{has, count}
+use Rattle.rules.specs.Line.{count}
 use Rattle.rules.specs.Buckets.{Buckets, bucket, around, Found, nothing, found, scan, join, pop}
 use Rattle.rules.specs.Priority.{nr-values, priority, less, class-number}
 
@@ -236,43 +235,3 @@ unfoldable pub said-after-take : Part → (ℕ → ℕ) → Priority → Queue �
 said-after-take part.Realtime value said q = cond (is-class class.Realtime said) (said-realtime q) said
 said-after-take part.Timeshare value said q = cond (is-class class.User said) (said-timeshare value q) said
 said-after-take part.Idle value said q = said-idle q
-
--- ---- any event of one queue: a put, a take (true: stealing), or `clock`, which advances the insert index
-
-pub data Event : Type 0 where
-  put : Arrival → Event
-  taking : Bool → Event
-  clock : Event
-
-unfoldable pub does : (ℕ → Bool) → Queue → Event → Done
-does pinned q (put a) = record { out = none; left = insert q a }
-does pinned q (taking stealing) = take pinned q stealing
-does pinned q clock = record { out = none; left = advance-insert-index q }
-
--- the thread that an event puts in
-unfoldable pub arriving : Event → Option ℕ
-arriving (put a) = some (a .thread)
-arriving (taking stealing) = none
-arriving clock = none
-
--- the thread that an event hands out
-abbrev pub handed : (ℕ → Bool) → Queue → Event → Option ℕ
-handed pinned q e = (does pinned q e) .out
-
-abbrev pub after : (ℕ → Bool) → Queue → Event → Queue
-after pinned q e = (does pinned q e) .left
-
-unfoldable pub run : (ℕ → Bool) → Queue → List Event → Queue
-run pinned q [] = q
-run pinned q (e ∷ es) = run pinned (after pinned q e) es
-
--- ---- lists of events that can be: values below 128, and no thread is put in while it waits
-
-unfoldable pub Fits : Queue → Event → Type 0
-Fits q (put a) = (a .value < nr-values) × (has (a .thread) (order q) ≡ false)
-Fits q (taking stealing) = Unit
-Fits q clock = Unit
-
-unfoldable pub Proper : (ℕ → Bool) → Queue → List Event → Type 0
-Proper pinned q [] = Unit
-Proper pinned q (e ∷ es) = Fits q e × Proper pinned (after pinned q e) es

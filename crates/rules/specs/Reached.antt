@@ -1,7 +1,7 @@
 -- What every call keeps, and so every list of calls from the start. Assumes nothing.
 use Prim.Native.Nat.{ℕ, zero, suc, _≤_, _<_}
 use mathlib.Core.Path.{_≡_, refl, sym, subst, _∙_}
-use mathlib.Core.Bool.{Bool, true, false, not, _&&_, _||_, true≢false, false≢true}
+use mathlib.Core.Bool.{Bool, true, false, not, _&&_, true≢false, false≢true}
 use mathlib.Core.Option.{Option, none, some}
 use mathlib.Core.List.{List, [], _∷_, _++_, append-assoc, append-nil}
 use lib.Dec.{eqb, ltb, leb}
@@ -19,8 +19,8 @@ use Rattle.rules.specs.Questions.{Question, question, sealed-now, declar
 use Rattle.rules.specs.Commands.{Answer, no-log, refuses, changed, world-of, ran, scheduled-on, schedules, ran-on, obeys, answered, step, after-calls, history}
 use Rattle.rules.specs.Ahead.{waiting, who-waits, In}
 use Rattle.rules.specs.Effect.{and-left, and-right, start-order}
-use Rattle.rules.specs.Kept.{Kept, kept-start, in-threads}
-use Rattle.rules.specs.Sound.{Under, Valued, Mild, alike-donated, at-keeps, Sound, Same, sound-same, New, not-true-is}
+use Rattle.rules.specs.Kept.{Kept, kept-start, in-threads, or-both}
+use Rattle.rules.specs.Sound.{Under, Valued, Mild, alike-donated, alike-critical, at-keeps, Sound, Same, sound-same, New, not-true-is}
 use Rattle.rules.specs.Steps.{nobody-but, select-cpu-selected, ok-scheduled, ok-schedule, ok-hardtick, ok-stattick, ok-resched, ok-maybe-preempt, ok-donate}
 
 -- H: the puts and takes of each CPU's queue so far
@@ -141,10 +141,6 @@ unfolding is-number
 number-is x none e = cc
 number-is x (some y) e = let z : y ≡ x = cc in eq-eqb y x z
 
-pub or-none : (s t : Bool) → (s || t) ≡ false → (s ≡ false) × (t ≡ false)
-or-none true t e = absurd (true≢false e)
-or-none false t e = (refl, e)
-
 blocked-new : {H : ℕ → List PutOrTake} {s : State} (c x : ℕ) → Reached H s → blocked s x ≡ true → s .known x ≡ true → c < s .limits .cpus
     → New (s .limits) (s .known) nobody-but (world-of s) c x
 unfolding blocked runs-on waits-on world-of
@@ -156,7 +152,7 @@ blocked-new {H} {s} c x r b k h = record {
 }
   where
     neither : (d : ℕ) → d < s .limits .cpus → (is-number x (s .cpus d .running) ≡ false) × (has x (order (s .cpus d .queue)) ≡ false)
-    neither d i = or-none _ _ (any-not (s .limits .cpus) _ (not-true _ b) d i)
+    neither d i = or-both _ _ (any-not (s .limits .cpus) _ (not-true _ b) d i)
 
 reached-scheduled : {H : ℕ → List PutOrTake} {s : State} (us x : ℕ) (w : World) (o : Option ℕ) → Reached H s → us < s .limits .cpus → s .known x ≡ true → blocked s x ≡ true
     → Same (s .limits) (world-of s) w → Under (s .limits .cpus) o → Reached (λ c. H c ++ scheduled-on s us x w o .log c) (scheduled-on s us x w o .state)
@@ -240,8 +236,7 @@ module _ {H : ℕ → List PutOrTake} {s : State} (r : Reached H s) where
   goes (maybe-preempt c) e = reached-ran _ _ r (ok-maybe-preempt (s .limits) (s .topology) (s .tick) c (s .known) (r .numbered) H (runs-below s c _ e .0) (world-of s) (r .sound))
   goes (donate c x k v) e = donate-goes c x k v e
   goes (remove-donation x) e = reached-thread x (donated-to (s .threads x) none) r refl (alike-donated (s .limits) (s .threads x) none tt .mild-alike (r .sound .mild x))
-  goes (set-critical x m) e = reached-thread x (critical-at (s .threads x) (eqb m 1)) r refl
-      (let d = r .sound .mild x in record { own = d .own; donated = d .donated; pin = d .pin; last = d .last })
+  goes (set-critical x m) e = reached-thread x (critical-at (s .threads x) (eqb m 1)) r refl (alike-critical (s .limits) (s .threads x) (eqb m 1) .mild-alike (r .sound .mild x))
 
 -- ---- each call
 

@@ -13,7 +13,7 @@ use native.Mathlib.Omega.{arith}
 use Rattle.rules.specs.declared.Priority.{Priority}
 use Rattle.rules.specs.Line.{has, both, has-append, Distinct}
 use Rattle.rules.specs.Priority.{nr-values, less, greater-of, effective}
-use Rattle.rules.specs.Times.{Thread, effective-priority, pinned, donated-to, steadied, moving-to-queue, moving-to-active, reset-time, paid-to}
+use Rattle.rules.specs.Times.{Thread, effective-priority, pinned, is-some, critical-at, donated-to, steadied, moving-to-queue, moving-to-active, reset-time, paid-to}
 use Rattle.rules.specs.Queue.{Queue, order, Arrival, part-for, insert, is-timeshare, Next, nobody, next-in, asked, leave, said-after-take}
 use Rattle.rules.specs.Puts.{Put, PutOrTake, a-put, a-take, put-made}
 use Rattle.rules.specs.State.{at, Limits, Topology, Cpu}
@@ -21,6 +21,7 @@ use Rattle.rules.specs.Schedule.{World, Got, with-cpu, with-thread, note
 use Rattle.rules.specs.Ahead.{Wait, at-time, who-waits, threads, In}
 use Rattle.rules.specs.Effect.{advance-order}
 use Rattle.rules.specs.Waiting.{others, threads-append, waiting-put, waiting-none, waiting-some}
+use Rattle.rules.specs.Held.{has-head}
 use Rattle.rules.specs.Kept.{Kept, Fits, Agrees, Head, asked-head, kept-put, kept-none, kept-leave, kept-advance}
 
 -- ---- threads
@@ -54,32 +55,48 @@ pub record Alike (limits : Limits) (t u : Thread) : Type 0 where
   pub pinned-alike : pinned u ≡ pinned t
   pub mild-alike : Mild limits t → Mild limits u
 
+pub alike-fields : (limits : Limits) (t u : Thread) → u .own ≡ t .own → u .donated ≡ t .donated → u .pin ≡ t .pin → u .last ≡ t .last → Alike limits t u
+unfolding pinned
+alike-fields limits t u a b c d = record {
+  pinned-alike = ap is-some c;
+  mild-alike = λ m. record {
+    own = subst (λ (p : Priority). p .value < nr-values) (sym a) (m .own);
+    donated = subst Valued (sym b) (m .donated);
+    pin = subst (Under (limits .cpus)) (sym c) (m .pin);
+    last = subst (Under (limits .cpus)) (sym d) (m .last);
+  };
+}
+
+pub alike-self : (limits : Limits) (t : Thread) → Alike limits t t
+alike-self limits t = record { pinned-alike = refl; mild-alike = λ m. m }
+
 pub alike-steadied : (limits : Limits) (t : Thread) → Alike limits t (steadied t)
-unfolding steadied pinned
-alike-steadied limits t = record { pinned-alike = refl; mild-alike = λ m. record { own = m .own; donated = m .donated; pin = m .pin; last = m .last } }
+unfolding steadied
+alike-steadied limits t = alike-fields limits t (steadied t) refl refl refl refl
 
 pub alike-queue : (limits : Limits) (t : Thread) (c : ℕ) → Alike limits t (moving-to-queue t c)
-unfolding moving-to-queue pinned
-alike-queue limits t c = record { pinned-alike = refl; mild-alike = λ m. record { own = m .own; donated = m .donated; pin = m .pin; last = m .last } }
+unfolding moving-to-queue
+alike-queue limits t c = alike-fields limits t (moving-to-queue t c) refl refl refl refl
+
+pub alike-reset : (limits : Limits) (t : Thread) (d : ℕ) → Alike limits t (reset-time t d)
+unfolding reset-time
+alike-reset limits t d = alike-fields limits t (reset-time t d) refl refl refl refl
+
+pub alike-paid : (limits : Limits) (t : Thread) (n : ℕ) → Alike limits t (paid-to t n)
+unfolding paid-to
+alike-paid limits t n = alike-fields limits t (paid-to t n) refl refl refl refl
+
+pub alike-critical : (limits : Limits) (t : Thread) (m : Bool) → Alike limits t (critical-at t m)
+unfolding critical-at
+alike-critical limits t m = alike-fields limits t (critical-at t m) refl refl refl refl
 
 pub alike-active : (limits : Limits) (t : Thread) (c : ℕ) → c < limits .cpus → Alike limits t (moving-to-active t c)
 unfolding moving-to-active pinned Under
 alike-active limits t c h = record { pinned-alike = refl; mild-alike = λ m. record { own = m .own; donated = m .donated; pin = m .pin; last = h } }
 
-pub alike-reset : (limits : Limits) (t : Thread) (d : ℕ) → Alike limits t (reset-time t d)
-unfolding reset-time pinned
-alike-reset limits t d = record { pinned-alike = refl; mild-alike = λ m. record { own = m .own; donated = m .donated; pin = m .pin; last = m .last } }
-
-pub alike-paid : (limits : Limits) (t : Thread) (n : ℕ) → Alike limits t (paid-to t n)
-unfolding paid-to pinned
-alike-paid limits t n = record { pinned-alike = refl; mild-alike = λ m. record { own = m .own; donated = m .donated; pin = m .pin; last = m .last } }
-
 pub alike-donated : (limits : Limits) (t : Thread) (d : Option Priority) → Valued d → Alike limits t (donated-to t d)
 unfolding donated-to pinned
 alike-donated limits t d v = record { pinned-alike = refl; mild-alike = λ m. record { own = m .own; donated = v; pin = m .pin; last = m .last } }
-
-pub alike-self : (limits : Limits) (t : Thread) → Alike limits t t
-alike-self limits t = record { pinned-alike = refl; mild-alike = λ m. m }
 
 -- ---- functions changed at a number
 
@@ -95,6 +112,10 @@ at-there f x v y h = rw (ne-eqb y x h)
 pub at-keeps {ℓ κ} : {A : Type ℓ} {B : Type κ} (g : A → B) (f : ℕ → A) (x : ℕ) (v : A) → g v ≡ g (f x) → (y : ℕ) → g (at f x v y) ≡ g (f y)
 unfolding at
 at-keeps g f x v e y = both (eqb y x) (λ h. rw (h, eqb-true y x h) e) (λ h. rw h)
+
+pub alike-at : (limits : Limits) (f : ℕ → Thread) (x : ℕ) (t : Thread) → Alike limits (f x) t → (y : ℕ) → Alike limits (f y) (at f x t y)
+unfolding at
+alike-at limits f x t a y = both (eqb y x) (λ e. rw (e, eqb-true y x e) a) (λ e. rw e (alike-self limits (f y)))
 
 -- ---- what is kept
 
@@ -149,12 +170,12 @@ same-cpu-changed limits w c p q r = record {
 }
 
 pub same-thread-changed : (limits : Limits) (w : World) (x : ℕ) (t : Thread) → Alike limits (w .threads x) t → Same limits w (with-thread w x t)
-unfolding with-thread at
+unfolding with-thread
 same-thread-changed limits w x t a = record {
   queues = λ d. refl;
   logs = λ d. refl;
   running = λ d. refl;
-  alike = λ y. both (eqb y x) (λ e. rw (e, eqb-true y x e) a) (λ e. rw e (alike-self limits (w .threads y)));
+  alike = alike-at limits (w .threads) x t a;
 }
 
 pub same-wakeup : (limits : Limits) (w : World) (b : Bool) → Same limits w (wakeup w b)
@@ -254,10 +275,6 @@ module _ {limits : Limits} {known : ℕ → Bool} {H : ℕ → List PutOrTake} {
   }
 
 -- ---- a put
-
-alike-at : (limits : Limits) (f : ℕ → Thread) (x : ℕ) (t : Thread) → Alike limits (f x) t → (y : ℕ) → Alike limits (f y) (at f x t y)
-unfolding at
-alike-at limits f x t a y = both (eqb y x) (λ e. rw (e, eqb-true y x e) a) (λ e. rw e (alike-self limits (f y)))
 
 alike-if : (limits : Limits) (t : Thread) (b : Bool) → Alike limits t (cond b (steadied t) t)
 alike-if limits t true = alike-steadied limits t
@@ -372,10 +389,6 @@ module _ (limits : Limits) (topology : Topology) (tick us : ℕ) (known : ℕ �
   unfolding has
   has-tail x y l m e h = rw (e, h) (both (eqb y x) (λ t. rw t) (λ t. rw t))
 
-  has-head-of : (y : ℕ) (l m : List ℕ) → l ≡ y ∷ m → has y l ≡ true
-  unfolding has
-  has-head-of y l m e = rw (e, eq-eqb y y refl)
-
   left-not : (y : ℕ) (l m : List ℕ) → Distinct l → l ≡ y ∷ m → has y m ≡ false
   unfolding Distinct
   left-not y l m d e = (rw e at d) .0
@@ -402,7 +415,7 @@ module _ (limits : Limits) (topology : Topology) (tick us : ℕ) (known : ℕ �
       let o = only-left w c (leave p q j) (said-after-take p (λ z. w .threads z .stable .value) (w .cpus c .advertised) (leave p q j)) (a-take s (some y)) in
       let h : Head (pinned-in w) q s p j y = asked-head (pinned-in w) q s p j y (d .kept c .fits .shape) a in
       let fewer : (x : ℕ) → has x (order (leave p q j)) ≡ true → waits w c x ≡ true = λ x t. has-tail x y (order q) (order (leave p q j)) (h .first) t in
-      let was : waits w c y ≡ true = has-head-of y (order q) (order (leave p q j)) (h .first) in
+      let was : waits w c y ≡ true = rw (h .first) (has-head y (order (leave p q j))) in
       record {
         sound = sound-only o d (rw e (kept-leave (pinned-in w) s p j y (d .kept c) (d .pins c) a))
             (rw (e, waiting-some 0 l s y) (λ u i. d .pins c u (in-others u y (who-waits l) i))) (λ x t. inl (fewer x t));

@@ -3,6 +3,7 @@
 
 pub mod bad;
 pub mod draws;
+pub mod mangled;
 pub mod plan;
 pub mod random;
 
@@ -20,7 +21,7 @@ pub struct Generator {
     written: usize,
     count: usize,
     without: Vec<u8>,
-    /// The CPUs declared, and those that are most often used.
+    /// The CPUs and threads declared.
     cpus: Vec<u8>,
     threads: Vec<u16>,
 }
@@ -29,6 +30,9 @@ pub struct Generator {
 pub fn generate(seed: u64, profile: &str, count: usize, without: &[u8]) -> Option<Vec<u8>> {
     if profile == draws::PROFILE {
         return Some(draws::generate(count));
+    }
+    if profile == mangled::PROFILE {
+        return Some(mangled::generate(seed, count, without));
     }
     let number = PROFILES.iter().position(|name| *name == profile)?;
     let mut random = Random::new(seed, number as u64);
@@ -360,7 +364,7 @@ impl Generator {
     fn tick(&mut self) -> u64 {
         let now = self.state.tick;
         let jump = match self.random.below(100) {
-            0 if self.plan.far => return (1 << 32) + now.max(1 << 32) - (1 << 32),
+            0 if self.plan.far => return now.max(1 << 32),
             1 if self.plan.far => (1 << 32) - 1 + self.random.below(3),
             2 if self.plan.far => (1 << 32) * (1 + self.random.below(5)) + self.random.below(120),
             3 if self.plan.far => self.random.next() >> (2 + self.random.below(40)),

@@ -2,9 +2,9 @@
 
 use crate::random::Random;
 
-pub const PROFILES: [&str; 17] = [
+pub const PROFILES: [&str; 18] = [
     "solo", "leaf", "flat", "deep", "uneven", "nodes", "wide", "queues", "pins", "classes", "ticks", "balance",
-    "steal", "donate", "refuse", "endings", "mixed",
+    "steal", "donate", "refuse", "endings", "mixed", "mangled",
 ];
 
 #[derive(Clone, Copy)]
