@@ -1,3 +1,5 @@
+pub mod Balance
+pub mod Choose
 pub mod Donate
 pub mod Option
 pub mod Preempt

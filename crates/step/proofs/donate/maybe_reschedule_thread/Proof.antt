@@ -2,33 +2,23 @@ use Rattle.step.specs.Donate.{maybeReschedule}
 use borrow.Author.Needs.{needs}
 use Rattle.step.proofs.donate.maybe_reschedule_thread.Statement.{statement}
 use Rattle.step.proofs.donate.maybe_reschedule_thread.Tie as tie
-use Rattle.step.proofs.donate.maybe_reschedule_thread.Reads as reads
-use Rattle.step.proofs.donate.maybe_reschedule_thread.Lts as lts
-use Rattle.step.proofs.donate.maybe_wakeup.Reads as maybe-wakeup-reads
-use Rattle.thread.proofs.Thread.current_cpu_rq.Reads as current-cpu-rq-reads
 
--- src/donate.rt:37:9
 current-cpu-rq-requires : tie.Need-current-cpu-rq-requires
 current-cpu-rq-requires c κs = search needs
 
--- src/donate.rt:39:25
 enum-known-queue : tie.Need-enum-known-queue
 enum-known-queue c = search needs
 
--- src/donate.rt:39:31
 maybe-wakeup-requires : tie.Need-maybe-wakeup-requires
 maybe-wakeup-requires c κs = search needs
 
--- src/donate.rt:40:28
 enum-told : tie.Need-enum-told
 enum-told c = search needs
 
--- src/donate.rt:34:1
 returns : tie.Need-returns
 unfolding maybeReschedule
 returns c = rw (← c .before .before .before .before .current-cpu-rq .ensures, c .before .before .queue .given .1) (c .maybe-wakeup .ensures)
 
--- src/donate.rt:34:1
 returns-2 : tie.Need-returns-2
 unfolding maybeReschedule
 returns-2 c = rw (← c .before .before .current-cpu-rq .ensures, c .enum-told .given .1)

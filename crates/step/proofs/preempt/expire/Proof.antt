@@ -2,37 +2,27 @@ use Rattle.step.specs.Preempt.{expires, marked}
 use borrow.Author.Needs.{needs}
 use Rattle.step.proofs.preempt.expire.Statement.{statement}
 use Rattle.step.proofs.preempt.expire.Tie as tie
-use Rattle.step.proofs.preempt.expire.Reads as reads
-use Rattle.step.proofs.preempt.expire.Lts as lts
-use Rattle.step.proofs.preempt.schedule_mark_preempt.Reads as schedule-mark-preempt-reads
 
--- src/preempt.rt:117:9
 schedule-mark-preempt-requires : tie.Need-schedule-mark-preempt-requires
 schedule-mark-preempt-requires c κs = search needs
 
--- src/preempt.rt:118:9
 same-length : tie.Need-same-length
 same-length c = search needs
 
--- src/preempt.rt:118:9
 returns : tie.Need-returns
 unfolding expires marked
 returns c = rw (c .before .before .before .if1 .taken) (c .before .schedule-mark-preempt .ensures)
 
--- src/preempt.rt:121:9
 schedule-mark-preempt-requires-2 : tie.Need-schedule-mark-preempt-requires-2
 schedule-mark-preempt-requires-2 c κs = search needs
 
--- src/preempt.rt:113:1
 same-length-2 : tie.Need-same-length-2
 same-length-2 c = search needs
 
--- src/preempt.rt:113:1
 returns-2 : tie.Need-returns-2
 unfolding expires marked
 returns-2 c = rw (c .before .before .before .before .if1 .left, c .before .before .before .if2 .taken) (c .before .schedule-mark-preempt2 .ensures)
 
--- src/preempt.rt:113:1
 returns-3 : tie.Need-returns-3
 unfolding expires marked
 returns-3 c = search needs

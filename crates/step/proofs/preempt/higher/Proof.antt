@@ -2,30 +2,21 @@ use Rattle.step.specs.Preempt.{higher}
 use borrow.Author.Needs.{needs}
 use Rattle.step.proofs.preempt.higher.Statement.{statement}
 use Rattle.step.proofs.preempt.higher.Tie as tie
-use Rattle.step.proofs.preempt.higher.Reads as reads
-use Rattle.step.proofs.preempt.higher.Lts as lts
-use Rattle.thread.proofs.priority.at_most.Reads as at-most-reads
-use Rattle.thread.proofs.priority.less.Reads as less-reads
 
--- src/preempt.rt:24:8
 less-requires : tie.Need-less-requires
 less-requires c κs = search needs
 
--- src/preempt.rt:25:9
 returns : tie.Need-returns
 unfolding higher
 returns c = rw (← c .before .less .ensures, c .if1 .taken)
 
--- src/preempt.rt:28:9
 at-most-requires : tie.Need-at-most-requires
 at-most-requires c κs = search needs
 
--- src/preempt.rt:28:9
 returns-2 : tie.Need-returns-2
 unfolding higher
 returns-2 c = rw (← c .before .before .before .less .ensures, c .before .before .if1 .left, c .before .if2 .taken) (c .at-most .ensures)
 
--- src/preempt.rt:21:1
 returns-3 : tie.Need-returns-3
 unfolding higher
 returns-3 c = rw (← c .before .before .less .ensures, c .before .if1 .left, c .if2 .left)

@@ -3,20 +3,13 @@ use Rattle.thread.specs.Thread.{with-timeslice}
 use borrow.Author.Needs.{needs}
 use Rattle.step.proofs.preempt.idle_payer.Statement.{statement}
 use Rattle.step.proofs.preempt.idle_payer.Tie as tie
-use Rattle.step.proofs.preempt.idle_payer.Reads as reads
-use Rattle.step.proofs.preempt.idle_payer.Lts as lts
-use Rattle.processor.proofs.words.word.Reads as word-reads
-use Rattle.thread.proofs.blank.Reads as blank-reads
 
--- src/preempt.rt:95:9
 blank-requires : tie.Need-blank-requires
 blank-requires c κs = search needs
 
--- src/preempt.rt:96:9
 word-requires : tie.Need-word-requires
 word-requires c κs = search needs
 
--- src/preempt.rt:92:1
 returns : tie.Need-returns
 unfolding idlePayer with-timeslice
 returns c = rw (c .before .blank .ensures, c .word .ensures)

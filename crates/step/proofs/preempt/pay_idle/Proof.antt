@@ -2,29 +2,19 @@ use Rattle.step.specs.Preempt.{idlePaid}
 use borrow.Author.Needs.{needs}
 use Rattle.step.proofs.preempt.pay_idle.Statement.{statement}
 use Rattle.step.proofs.preempt.pay_idle.Tie as tie
-use Rattle.step.proofs.preempt.pay_idle.Reads as reads
-use Rattle.step.proofs.preempt.pay_idle.Lts as lts
-use Rattle.processor.proofs.words.put_word.Reads as put-word-reads
-use Rattle.step.proofs.preempt.idle_payer.Reads as idle-payer-reads
-use Rattle.step.proofs.preempt.pay.Reads as pay-reads
 
--- src/preempt.rt:105:9
 idle-payer-requires : tie.Need-idle-payer-requires
 idle-payer-requires c κs = search needs
 
--- src/preempt.rt:106:9
 pay-requires : tie.Need-pay-requires
 pay-requires c κs = search needs
 
--- src/preempt.rt:108:5
 put-word-requires : tie.Need-put-word-requires
 put-word-requires c κs = search needs
 
--- src/preempt.rt:102:1
 same-length : tie.Need-same-length
 same-length c = search needs
 
--- src/preempt.rt:102:1
 returns : tie.Need-returns
 unfolding idlePaid
 returns c = (rw (c .before .before .before .before .pay .ensures, c .before .before .before .before .before .before .idle-payer .ensures), rw (c .before .put-word .ensures, c .before .before .before .before .pay .ensures, c .before .before .before .before .before .before .idle-payer .ensures))

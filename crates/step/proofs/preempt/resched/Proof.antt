@@ -1,54 +1,38 @@
-use borrow.Author.Tests.{ne-eqb}
+use borrow.Author.Tests.{ne-eqb, eq-eqb}
 use Rattle.step.specs.Preempt.{marked, rescheds}
-use borrow.Author.Tests.{eq-eqb}
 use borrow.Author.Needs.{needs}
 use Rattle.step.proofs.preempt.resched.Statement.{statement}
 use Rattle.step.proofs.preempt.resched.Tie as tie
-use Rattle.step.proofs.preempt.resched.Reads as reads
-use Rattle.step.proofs.preempt.resched.Lts as lts
-use Rattle.step.proofs.preempt.needs_reschedule.Reads as needs-reschedule-reads
-use Rattle.step.proofs.preempt.schedule_mark_preempt.Reads as schedule-mark-preempt-reads
-use Rattle.step.proofs.running.running.Reads as running-reads
 
--- src/preempt.rt:129:8
 running-requires : tie.Need-running-requires
 running-requires c κs = search needs
 
--- src/preempt.rt:130:9
 schedule-mark-preempt-requires : tie.Need-schedule-mark-preempt-requires
 schedule-mark-preempt-requires c κs = search needs
 
--- src/preempt.rt:131:9
 same-length : tie.Need-same-length
 same-length c = search needs
 
--- src/preempt.rt:131:9
 returns : tie.Need-returns
 unfolding rescheds marked
 returns c = rw (← c .before .before .before .before .running .ensures, eq-eqb _ _ (c .before .before .before .if1 .taken)) (c .before .schedule-mark-preempt .ensures)
 
--- src/preempt.rt:133:8
 needs-reschedule-requires : tie.Need-needs-reschedule-requires
 needs-reschedule-requires c κs = search needs
 
--- src/preempt.rt:134:9
 schedule-mark-preempt-requires-2 : tie.Need-schedule-mark-preempt-requires-2
 schedule-mark-preempt-requires-2 c κs = search needs
 
--- src/preempt.rt:126:1
 same-length-2 : tie.Need-same-length-2
 same-length-2 c = search needs
 
--- src/preempt.rt:126:1
 returns-2 : tie.Need-returns-2
 unfolding rescheds marked
 returns-2 c = rw (← c .before .before .before .before .before .before .before .running .ensures, ne-eqb _ _ (c .before .before .before .before .before .before .if1 .left), ← c .before .before .before .before .needs-reschedule .ensures, c .before .before .before .if2 .taken) (c .before .schedule-mark-preempt2 .ensures)
 
--- src/preempt.rt:126:1
 same-length-3 : tie.Need-same-length-3
 same-length-3 c = search needs
 
--- src/preempt.rt:126:1
 returns-3 : tie.Need-returns-3
 unfolding rescheds marked
 returns-3 c = rw (← c .before .before .before .before .running .ensures, ne-eqb _ _ (c .before .before .before .if1 .left), ← c .before .needs-reschedule .ensures, c .if2 .left)

@@ -1,36 +1,25 @@
-use borrow.Author.Tests.{ne-eqb}
+use borrow.Author.Tests.{ne-eqb, eq-eqb}
 use Rattle.step.specs.Preempt.{swapped}
-use borrow.Author.Tests.{eq-eqb}
 use borrow.Author.Needs.{needs}
 use Rattle.step.proofs.preempt.swap_preempt.Statement.{statement}
 use Rattle.step.proofs.preempt.swap_preempt.Tie as tie
-use Rattle.step.proofs.preempt.swap_preempt.Reads as reads
-use Rattle.step.proofs.preempt.swap_preempt.Lts as lts
-use Rattle.processor.proofs.words.put_word.Reads as put-word-reads
-use Rattle.processor.proofs.words.word.Reads as word-reads
 
--- src/preempt.rt:66:8
 word-requires : tie.Need-word-requires
 word-requires c κs = search needs
 
--- src/preempt.rt:67:9
 same-length : tie.Need-same-length
 same-length c = search needs
 
--- src/preempt.rt:67:9
 returns : tie.Need-returns
 unfolding swapped
 returns c = (rw (← c .before .word .ensures, eq-eqb _ _ (c .if1 .taken)), rw (← c .before .word .ensures, eq-eqb _ _ (c .if1 .taken)))
 
--- src/preempt.rt:69:5
 put-word-requires : tie.Need-put-word-requires
 put-word-requires c κs = search needs
 
--- src/preempt.rt:63:1
 same-length-2 : tie.Need-same-length-2
 same-length-2 c = search needs
 
--- src/preempt.rt:63:1
 returns-2 : tie.Need-returns-2
 unfolding swapped
 returns-2 c = (rw (← c .before .before .before .before .word .ensures, ne-eqb _ _ (c .before .before .before .if1 .left)), rw (← c .before .before .before .before .word .ensures, ne-eqb _ _ (c .before .before .before .if1 .left)) (c .before .put-word .ensures))

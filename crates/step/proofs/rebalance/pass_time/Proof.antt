@@ -1,49 +1,34 @@
-use borrow.Author.Tests.{le-ltb}
+use borrow.Author.Tests.{le-ltb, lt-ltb}
 use Rattle.step.specs.Rebalance.{timePassed}
-use borrow.Author.Tests.{lt-ltb}
 use borrow.Author.Needs.{needs}
 use Rattle.step.proofs.rebalance.pass_time.Statement.{statement}
 use Rattle.step.proofs.rebalance.pass_time.Tie as tie
-use Rattle.step.proofs.rebalance.pass_time.Reads as reads
-use Rattle.step.proofs.rebalance.pass_time.Lts as lts
-use Rattle.processor.proofs.random.quick_random.Reads as quick-random-reads
-use Rattle.processor.proofs.words.put_word.Reads as put-word-reads
-use Rattle.processor.proofs.words.word.Reads as word-reads
 
--- src/rebalance.rt:15:9
 word-requires : tie.Need-word-requires
 word-requires c κs = search needs
 
--- src/rebalance.rt:17:13
 quick-random-requires : tie.Need-quick-random-requires
 quick-random-requires c κs = search needs
 
--- src/rebalance.rt:18:48
 add-put-word : tie.Need-add-put-word
 add-put-word c = search needs
 
--- src/rebalance.rt:18:9
 put-word-requires : tie.Need-put-word-requires
 put-word-requires c κs = search needs
 
--- src/rebalance.rt:19:9
 same-length : tie.Need-same-length
 same-length c = search needs
 
--- src/rebalance.rt:19:9
 returns : tie.Need-returns
 unfolding timePassed
 returns c = (rw (← c .before .before .before .before .before .before .before .word .ensures, lt-ltb _ _ (c .before .before .before .before .before .before .if1 .taken)), rw (← c .before .before .before .before .before .before .before .word .ensures, lt-ltb _ _ (c .before .before .before .before .before .before .if1 .taken), ← c .before .before .before .before .quick-random .ensures .0, ← c .before .before .before .before .quick-random .ensures .1) (c .before .put-word .ensures))
 
--- src/rebalance.rt:21:5
 put-word-requires-2 : tie.Need-put-word-requires-2
 put-word-requires-2 c κs = search needs
 
--- src/rebalance.rt:12:1
 same-length-2 : tie.Need-same-length-2
 same-length-2 c = search needs
 
--- src/rebalance.rt:12:1
 returns-2 : tie.Need-returns-2
 unfolding timePassed
 returns-2 c = (rw (← c .before .before .before .before .word .ensures, le-ltb _ _ (c .before .before .before .if1 .left)), rw (← c .before .before .before .before .word .ensures, le-ltb _ _ (c .before .before .before .if1 .left)) (c .before .put-word2 .ensures))

@@ -2,33 +2,22 @@ use Rattle.step.specs.Running.{ranIdle}
 use borrow.Author.Needs.{needs}
 use Rattle.step.proofs.running.run_idle.Statement.{statement}
 use Rattle.step.proofs.running.run_idle.Tie as tie
-use Rattle.step.proofs.running.run_idle.Reads as reads
-use Rattle.step.proofs.running.run_idle.Lts as lts
-use Rattle.processor.proofs.words.put_word.Reads as put-word-reads
-use Rattle.step.proofs.running.enter_idle.Reads as enter-idle-reads
-use Rattle.step.proofs.running.reset_rebalance.Reads as reset-rebalance-reads
 
--- src/running.rt:69:5
 enter-idle-requires : tie.Need-enter-idle-requires
 enter-idle-requires c κs = search needs
 
--- src/running.rt:70:5
 put-word-requires : tie.Need-put-word-requires
 put-word-requires c κs = search needs
 
--- src/running.rt:71:5
 reset-rebalance-requires : tie.Need-reset-rebalance-requires
 reset-rebalance-requires c κs = search needs
 
--- src/running.rt:72:5
 put-word-requires-2 : tie.Need-put-word-requires-2
 put-word-requires-2 c κs = search needs
 
--- src/running.rt:66:1
 same-length : tie.Need-same-length
 same-length c = search needs
 
--- src/running.rt:66:1
 returns : tie.Need-returns
 unfolding ranIdle
 returns c = rw (c .before .put-word2 .ensures, c .before .before .before .before .reset-rebalance .ensures, c .before .before .before .before .before .before .before .put-word .ensures, c .before .before .before .before .before .before .before .before .before .before .enter-idle .ensures)

@@ -2,43 +2,28 @@ use Rattle.step.specs.Running.{ranBy}
 use borrow.Author.Needs.{needs}
 use Rattle.step.proofs.running.run_thread.Statement.{statement}
 use Rattle.step.proofs.running.run_thread.Tie as tie
-use Rattle.step.proofs.running.run_thread.Reads as reads
-use Rattle.step.proofs.running.run_thread.Lts as lts
-use Rattle.processor.proofs.words.put_word.Reads as put-word-reads
-use Rattle.step.proofs.running.exit_idle.Reads as exit-idle-reads
-use Rattle.step.proofs.running.reset_rebalance.Reads as reset-rebalance-reads
-use Rattle.thread.proofs.Thread.effective_priority.Reads as effective-priority-reads
-use Rattle.thread.proofs.priority.raw.Reads as raw-reads
 
--- src/running.rt:57:9
 effective-priority-requires : tie.Need-effective-priority-requires
 effective-priority-requires c κs = search needs
 
--- src/running.rt:58:9
 raw-requires : tie.Need-raw-requires
 raw-requires c κs = search needs
 
--- src/running.rt:59:5
 put-word-requires : tie.Need-put-word-requires
 put-word-requires c κs = search needs
 
--- src/running.rt:60:5
 exit-idle-requires : tie.Need-exit-idle-requires
 exit-idle-requires c κs = search needs
 
--- src/running.rt:61:5
 reset-rebalance-requires : tie.Need-reset-rebalance-requires
 reset-rebalance-requires c κs = search needs
 
--- src/running.rt:62:5
 put-word-requires-2 : tie.Need-put-word-requires-2
 put-word-requires-2 c κs = search needs
 
--- src/running.rt:54:1
 same-length : tie.Need-same-length
 same-length c = search needs
 
--- src/running.rt:54:1
 returns : tie.Need-returns
 unfolding ranBy
 returns c = rw (c .before .put-word2 .ensures, c .before .before .before .before .reset-rebalance .ensures, c .before .before .before .before .before .before .before .exit-idle .ensures, c .before .before .before .before .before .before .before .before .before .before .put-word .ensures, c .before .before .before .before .before .before .before .before .before .before .before .before .raw .ensures, c .before .before .before .before .before .before .before .before .before .before .before .before .before .effective-priority .ensures)

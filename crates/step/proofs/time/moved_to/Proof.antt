@@ -2,20 +2,13 @@ use Rattle.step.specs.Time.{movedTo}
 use borrow.Author.Needs.{needs}
 use Rattle.step.proofs.time.moved_to.Statement.{statement}
 use Rattle.step.proofs.time.moved_to.Tie as tie
-use Rattle.step.proofs.time.moved_to.Reads as reads
-use Rattle.step.proofs.time.moved_to.Lts as lts
-use Rattle.step.proofs.time.reset_time.Reads as reset-time-reads
-use Rattle.thread.proofs.Thread.moving_to_queue.Reads as moving-to-queue-reads
 
--- src/time.rt:39:9
 moving-to-queue-requires : tie.Need-moving-to-queue-requires
 moving-to-queue-requires c κs = search needs
 
--- src/time.rt:40:5
 reset-time-requires : tie.Need-reset-time-requires
 reset-time-requires c κs = search needs
 
--- src/time.rt:36:1
 returns : tie.Need-returns
 unfolding movedTo
 returns c = rw (c .reset-time .ensures, c .before .moving-to-queue .ensures)

@@ -1,48 +1,32 @@
-use borrow.Author.Tests.{ne-eqb}
+use borrow.Author.Tests.{ne-eqb, eq-eqb}
 use Rattle.step.specs.Time.{shouldSignal}
-use borrow.Author.Tests.{eq-eqb}
 use borrow.Author.Needs.{needs}
 use Rattle.step.proofs.time.should_signal.Statement.{statement}
 use Rattle.step.proofs.time.should_signal.Tie as tie
-use Rattle.step.proofs.time.should_signal.Reads as reads
-use Rattle.step.proofs.time.should_signal.Lts as lts
-use Rattle.processor.proofs.rq.load_queue.Reads as load-queue-reads
-use Rattle.runqueue.proofs.rq.RunQueue.current_priority.Reads as current-priority-reads
-use Rattle.runqueue.proofs.rq.RunQueue.is_empty.Reads as is-empty-reads
-use Rattle.thread.proofs.Thread.effective_priority.Reads as effective-priority-reads
-use Rattle.thread.proofs.priority.at_most.Reads as at-most-reads
 
--- src/time.rt:48:9
 returns : tie.Need-returns
 unfolding shouldSignal
 returns c = rw (eq-eqb _ _ (c .if1 .taken))
 
--- src/time.rt:50:9
 load-queue-requires : tie.Need-load-queue-requires
 load-queue-requires c κs = search needs
 
--- src/time.rt:51:8
 is-empty-requires : tie.Need-is-empty-requires
 is-empty-requires c κs = search needs
 
--- src/time.rt:52:9
 returns-2 : tie.Need-returns-2
 unfolding shouldSignal
 returns-2 c = rw (ne-eqb _ _ (c .before .before .before .if1 .left), ← c .before .before .load-queue .ensures, ← c .before .is-empty .ensures, c .if2 .taken)
 
--- src/time.rt:54:9
 current-priority-requires : tie.Need-current-priority-requires
 current-priority-requires c κs = search needs
 
--- src/time.rt:55:9
 effective-priority-requires : tie.Need-effective-priority-requires
 effective-priority-requires c κs = search needs
 
--- src/time.rt:56:5
 at-most-requires : tie.Need-at-most-requires
 at-most-requires c κs = search needs
 
--- src/time.rt:44:1
 returns-3 : tie.Need-returns-3
 unfolding shouldSignal
 returns-3 c = rw (ne-eqb _ _ (c .before .before .before .before .before .before .if1 .left), ← c .before .before .before .before .before .load-queue .ensures, ← c .before .before .before .before .is-empty .ensures, c .before .before .before .if2 .left, ← c .before .before .current-priority .ensures, ← c .before .effective-priority .ensures) (c .at-most .ensures)
