@@ -2,9 +2,9 @@
 // words of the donor alone, so a choice is made without the thread records, and the move after it.
 ghost use mathlib.Core.Path.{_≡_};
 ghost use Rattle.step.specs.Balance.{begun, again, passed, stopped, without, moving, isDone, isSomebody, handsOut, outcome, pairStep, balanceStep, findMove};
+use crate::running::set_rebalance;
 use choice::balance::Pair;
 use choice::balance::choose_cpu_balance;
-use crate::running::set_rebalance;
 use processor::cpu::current_load;
 use processor::rq::load_queue;
 use processor::words::LOAD;
@@ -143,13 +143,11 @@ pub fn hands_out(cpus: &[[u64; 96]], donor: u64, recipient: u64) -> bool
 
 // A pair was chosen: a donor with no load ends it, before it is marked.
 pub fn balance_pair(cpus: &mut [[u64; 96]], b: Balancing, donor: u64, recipient: u64) -> Balancing
-    ensures {
-        λ r.
+    ensures { λ r.
         ⌜
-            (r ≡ pairStep (now (cpus .entry)) b donor recipient .balancing)
-            × (now (cpus .exit) ≡ pairStep (now (cpus .entry)) b donor recipient .cpus)
-        ⌝
-    }
+        (r ≡ pairStep (now (cpus .entry)) b donor recipient .balancing)
+        × (now (cpus .exit) ≡ pairStep (now (cpus .entry)) b donor recipient .cpus)
+        ⌝ }
 {
     let load = current_load(cpus, donor);
     if load == 0 {
@@ -162,14 +160,18 @@ pub fn balance_pair(cpus: &mut [[u64; 96]], b: Balancing, donor: u64, recipient:
 }
 
 // One choice, with its draws.
-pub fn balance_step(cpus: &mut [[u64; 96]], nodes: &[[u64; 32]], us: u64, limit: u64, b: Balancing) -> Balancing
-    ensures {
-        λ r.
+pub fn balance_step(
+    cpus: &mut [[u64; 96]],
+    nodes: &[[u64; 32]],
+    us: u64,
+    limit: u64,
+    b: Balancing,
+) -> Balancing
+    ensures { λ r.
         ⌜
-            (r ≡ balanceStep (now (cpus .entry)) (now (nodes .entry)) us limit b .balancing)
-            × (now (cpus .exit) ≡ balanceStep (now (cpus .entry)) (now (nodes .entry)) us limit b .cpus)
-        ⌝
-    }
+        (r ≡ balanceStep (now (cpus .entry)) (now (nodes .entry)) us limit b .balancing)
+        × (now (cpus .exit) ≡ balanceStep (now (cpus .entry)) (now (nodes .entry)) us limit b .cpus)
+        ⌝ }
 {
     let draws = word(cpus, us, RAND_STATE);
     let allowed = b.allowed;
@@ -183,14 +185,18 @@ pub fn balance_step(cpus: &mut [[u64; 96]], nodes: &[[u64; 32]], us: u64, limit:
 }
 
 // Choices until one moves a thread or it ends: at most twenty.
-pub fn find_move(cpus: &mut [[u64; 96]], nodes: &[[u64; 32]], us: u64, limit: u64, begin: Balancing) -> Balancing
-    ensures {
-        λ r.
+pub fn find_move(
+    cpus: &mut [[u64; 96]],
+    nodes: &[[u64; 32]],
+    us: u64,
+    limit: u64,
+    begin: Balancing,
+) -> Balancing
+    ensures { λ r.
         ⌜
-            (r ≡ findMove 20 (now (cpus .entry)) (now (nodes .entry)) us limit (again begin) .balancing)
-            × (now (cpus .exit) ≡ findMove 20 (now (cpus .entry)) (now (nodes .entry)) us limit (again begin) .cpus)
-        ⌝
-    }
+        (r ≡ findMove 20 (now (cpus .entry)) (now (nodes .entry)) us limit (again begin) .balancing)
+        × (now (cpus .exit) ≡ findMove 20 (now (cpus .entry)) (now (nodes .entry)) us limit (again begin) .cpus)
+        ⌝ }
 {
     let mut b = begin.again();
     let mut fuel: u64 = MAX_STEPS;

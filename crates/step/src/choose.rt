@@ -1,9 +1,9 @@
 // The CPU for a thread whose record is given, and the CPU from which to steal.
 ghost use mathlib.Core.Path.{_≡_};
 ghost use Rattle.step.specs.Choose.{preferredOf, selectFor, selectedFor, reinsertAt, stealFrom};
+use crate::running::must_rebalance;
 use choice::select::select_cpu;
 use choice::steal::choose_cpu_steal_via_topo;
-use crate::running::must_rebalance;
 use processor::words::PLACED;
 use processor::words::word;
 use thread::Thread;
@@ -29,13 +29,11 @@ pub fn select_for(
     t: Thread,
     avoid: OptionCpu,
 ) -> OptionCpu
-    ensures {
-        λ r.
+    ensures { λ r.
         ⌜
-            (r ≡ selectFor (now (cpus .entry)) (now (nodes .entry)) us limit t avoid)
-            × (now (cpus .exit) ≡ selectedFor (now (cpus .entry)) (now (nodes .entry)) us limit t avoid)
-        ⌝
-    }
+        (r ≡ selectFor (now (cpus .entry)) (now (nodes .entry)) us limit t avoid)
+        × (now (cpus .exit) ≡ selectedFor (now (cpus .entry)) (now (nodes .entry)) us limit t avoid)
+        ⌝ }
 {
     let p = t.preferred_cpu();
     let preferred = preferred_of(p);
@@ -44,14 +42,18 @@ pub fn select_for(
 }
 
 // Where the thread running goes back into a queue: another CPU if this one must rebalance.
-pub fn reinsert_at(cpus: &mut [[u64; 96]], nodes: &[[u64; 32]], us: u64, limit: u64, t: Thread) -> OptionCpu
-    ensures {
-        λ r.
+pub fn reinsert_at(
+    cpus: &mut [[u64; 96]],
+    nodes: &[[u64; 32]],
+    us: u64,
+    limit: u64,
+    t: Thread,
+) -> OptionCpu
+    ensures { λ r.
         ⌜
-            (r ≡ reinsertAt (now (cpus .entry)) (now (nodes .entry)) us limit t .chosen)
-            × (now (cpus .exit) ≡ reinsertAt (now (cpus .entry)) (now (nodes .entry)) us limit t .cpus)
-        ⌝
-    }
+        (r ≡ reinsertAt (now (cpus .entry)) (now (nodes .entry)) us limit t .chosen)
+        × (now (cpus .exit) ≡ reinsertAt (now (cpus .entry)) (now (nodes .entry)) us limit t .cpus)
+        ⌝ }
 {
     if must_rebalance(cpus, us) {
         return select_for(cpus, nodes, us, limit, t, OptionCpu::Some(us));

@@ -1,9 +1,9 @@
 // When the boot CPU balances.
 ghost use mathlib.Core.Path.{_≡_};
 ghost use Rattle.step.specs.Rebalance.{timePassed, rebalanceDue};
+use processor::random::quick_random;
 use processor::words::CUR_REBALANCE_TIME;
 use processor::words::put_word;
-use processor::random::quick_random;
 use processor::words::word;
 
 pub const REBALANCE_TIME: u64 = 1000000000;
@@ -15,7 +15,12 @@ pub fn pass_time(cpus: &mut [[u64; 96]], us: u64, dt: u64) -> bool
     let left = word(cpus, us, CUR_REBALANCE_TIME);
     if left < dt {
         let drawn = quick_random(cpus, us);
-        put_word(cpus, us, CUR_REBALANCE_TIME, REBALANCE_TIME / 2 + drawn % REBALANCE_TIME);
+        put_word(
+            cpus,
+            us,
+            CUR_REBALANCE_TIME,
+            REBALANCE_TIME / 2 + drawn % REBALANCE_TIME,
+        );
         return true;
     }
     put_word(cpus, us, CUR_REBALANCE_TIME, left - dt);

@@ -7,13 +7,7 @@ use thread::Thread;
 use thread::priority::at_most;
 
 // The deadline of a thread of this class that goes into the queue of CPU c now.
-pub fn deadline(
-    cpus: &[[u64; 96]],
-    c: u64,
-    tick: u64,
-    shortest: u64,
-    class: PriorityClass,
-) -> u64
+pub fn deadline(cpus: &[[u64; 96]], c: u64, tick: u64, shortest: u64, class: PriorityClass) -> u64
     ensures { λ r. ⌜ r ≡ deadlineAt (now (cpus .entry)) c tick shortest class ⌝ }
 {
     let q = load_queue(cpus, c);
