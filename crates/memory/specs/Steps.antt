@@ -12,7 +12,7 @@ use borrow.Author.Tests.{eqb-true, eqb-false, eq-eqb, ne-eqb}
 use native.Mathlib.Omega.{arith}
 use Rattle.rules.specs.declared.Priority.{Priority}
 use Rattle.rules.specs.Line.{has, both}
-use Rattle.rules.specs.Priority.{from-raw, raw, less, at-most, effective}
+use Rattle.rules.specs.Priority.{from-raw, raw, class-at, cut, nr-values, less, at-most, effective}
 use Rattle.rules.specs.Times as times
 use Rattle.rules.specs.Times.{deadline-distance, effective-priority, is-some, pinned, reset-time}
 use Rattle.rules.specs.Queue.{Queue, order, load, timeshare-load}
@@ -36,7 +36,7 @@ use Rattle.step.specs.Time.{deadlineAt, resetTime, movedTo, shouldSignal}
 use Rattle.step.specs.Running.{runningAt, mustRebalance, ranBy, ranIdle}
 use Rattle.step.specs.Preempt.{higher, rqHasHigher, needsReschedule, marked, swapped, rescheds}
 use Rattle.memory.specs.Shows.{reading-of, number-or-none, mark-in, Words-show, Places, Small, Shows}
-use Rattle.memory.specs.Frames.{kept, Beside, beside-put, beside-then, word-here, places-same, in-records, in-rows, shows-alike, shows-beside, shows-fields, shows-preempt}
+use Rattle.memory.specs.Frames.{kept, Beside, Written, written-none, written-put, places-same, in-records, in-rows, shows-alike, shows-beside, shows-fields, shows-preempt}
 use Rattle.memory.specs.Queues.{shows-insert}
 use Rattle.memory.specs.Numbers.{load-shown, timeshare-load-shown, advertised-shown, empty-shown, deadline-shown}
 
@@ -65,6 +65,15 @@ critical-reads t = refl
 critical-blank : critical-in (blank .critical) ≡ false
 unfolding critical-in
 critical-blank = refl
+
+raw-idle : from-raw 0 ≡ idle-priority
+unfolding from-raw class-at cut nr-values idle-priority
+raw-idle = refl
+
+-- a thread that is about to run keeps its priority
+active-effective : (t : times.Thread) (c : ℕ) → effective-priority (times.moving-to-active t c) ≡ effective-priority t
+unfolding effective-priority times.moving-to-active
+active-effective t c = refl
 
 none-number : (o : Option ℕ) → ((x : ℕ) → o ≡ some x → x < NONE) → eqb (number-or-none o) NONE ≡ not (is-some o)
 unfolding number-or-none is-some
@@ -229,3 +238,75 @@ module _ (limits : Limits) (topology : Topology) (tick us : ℕ) (known : ℕ �
         both (eqb (word cs us 78) 0)
         (λ e. rw e)
         (λ e. absurd (true≢false (rw e at (s .words us us-in .preempt) ∙ m)))
+
+    -- ---- `switch_to`
+
+    ran-by : (x : ℕ) (t : Thread) → Written cs (ranBy cs us x t) us
+        (λ i. cond (eqb i 74) x (cond (eqb i 77) 0 (cond (eqb i 76) 0 (cond (eqb i 75) (raw (effective-priority (reads t))) (word cs us i)))))
+    unfolding ranBy
+    ran-by x t =
+        let l = in-rows s us us-in in
+        let r = s .rows us us-in in
+        written-put 74 x l r (omega arith) (omega arith) (written-put 77 0 l r (omega arith) (omega arith) (written-put 76 0 l r (omega arith) (omega arith)
+        (written-put 75 (raw (effective-priority (reads t))) l r (omega arith) (omega arith) (written-none cs us))))
+
+    ran-idle : Written cs (ranIdle cs us) us (λ i. cond (eqb i 74) NONE (cond (eqb i 77) 0 (cond (eqb i 75) 0 (cond (eqb i 76) 1 (word cs us i)))))
+    unfolding ranIdle
+    ran-idle =
+        let l = in-rows s us us-in in
+        let r = s .rows us us-in in
+        written-put 74 NONE l r (omega arith) (omega arith) (written-put 77 0 l r (omega arith) (omega arith) (written-put 75 0 l r (omega arith) (omega arith)
+        (written-put 76 1 l r (omega arith) (omega arith) (written-none cs us))))
+
+    abbrev was : Words-show topology cs us (w .cpus us)
+    was = s .words us us-in
+
+    -- a thread runs now
+    pub shows-ran-by : (x : ℕ) (t : Thread) → Shows limits topology known active ts (ranBy cs us x t) (with-cpu w us (with-running (w .cpus us) (some x) (effective-priority (reads t))))
+    unfolding with-running reading-of mark-in number-or-none is-some
+    shows-ran-by x t =
+        let f = ran-by x t in
+        shows-beside s (ranBy cs us x t) us (with-running (w .cpus us) (some x) (effective-priority (reads t))) (f .beside) refl (record {
+          declared = rw (f .words 72 (omega arith)) (was .declared);
+          placed = rw (f .words 73 (omega arith)) (was .placed);
+          running = rw (f .words 74 (omega arith));
+          own-priority = rw (f .words 75 (omega arith)) (raw-again (effective-priority (reads t)) (effective-below t));
+          is-idle = rw (f .words 76 (omega arith));
+          must-rebalance = rw (f .words 77 (omega arith));
+          preempt = rw (f .words 78 (omega arith)) (was .preempt);
+          draw-state = rw (f .words 79 (omega arith)) (was .draw-state);
+          rebalance-time = rw (f .words 80 (omega arith)) (was .rebalance-time);
+          idle-timeslice = rw (f .words 81 (omega arith)) (was .idle-timeslice);
+        })
+
+    -- the idle thread runs now
+    pub shows-ran-idle : Shows limits topology known active ts (ranIdle cs us) (sched.switch-to limits topology tick us w none)
+    unfolding sched.switch-to sched.activated priority-running with-running reading-of mark-in number-or-none is-some
+    shows-ran-idle =
+        let f = ran-idle in
+        shows-beside s (ranIdle cs us) us (with-running (w .cpus us) none idle-priority) (f .beside) refl (record {
+          declared = rw (f .words 72 (omega arith)) (was .declared);
+          placed = rw (f .words 73 (omega arith)) (was .placed);
+          running = rw (f .words 74 (omega arith));
+          own-priority = rw (f .words 75 (omega arith)) raw-idle;
+          is-idle = rw (f .words 76 (omega arith));
+          must-rebalance = rw (f .words 77 (omega arith));
+          preempt = rw (f .words 78 (omega arith)) (was .preempt);
+          draw-state = rw (f .words 79 (omega arith)) (was .draw-state);
+          rebalance-time = rw (f .words 80 (omega arith)) (was .rebalance-time);
+          idle-timeslice = rw (f .words 81 (omega arith)) (was .idle-timeslice);
+        })
+
+  -- `switch_to` a thread: its record, and the words of the CPU
+  pub shows-switched : {active : ℕ → Bool} {ts : List Thread} {cs : List (List ℕ)} {w : World} (s : Shows limits topology known active ts cs w) (us-in : us < limits .cpus) (x : ℕ) → x < limits .threads
+      → (let t = moving-to-active (recordAt ts x) us in
+      Shows limits topology known active (set ts x t) (ranBy cs us x t) (sched.switch-to limits topology tick us w (some x)))
+  unfolding sched.switch-to sched.activated priority-running with-cpu moving-to-active with-queue with-last times.moving-to-active pinned Under
+  shows-switched {active} {ts} {cs} {w} s us-in x h =
+      let t : Thread = moving-to-active (recordAt ts x) us in
+      let r : reads t ≡ times.moving-to-active (w .threads x) us =
+      reads-moving-to-active (recordAt ts x) us (omega (arith, small .cpus)) ∙ ap (λ (u : times.Thread). times.moving-to-active u us) (s .threads x h) in
+      let e : effective-priority (reads t) ≡ effective-priority (w .threads x) = ap effective-priority r ∙ active-effective (w .threads x) us in
+      let first : Shows limits topology known active ts (ranBy cs us x t) (with-cpu w us (with-running (w .cpus us) (some x) (effective-priority (w .threads x)))) =
+      subst (λ (p : Priority). Shows limits topology known active ts (ranBy cs us x t) (with-cpu w us (with-running (w .cpus us) (some x) p))) e (shows-ran-by s us-in x t) in
+      shows-fields first x t _ h r refl refl refl refl tt
