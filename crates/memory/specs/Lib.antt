@@ -2,4 +2,3 @@ pub mod Shows
 pub mod Frames
 pub mod Queues
 pub mod Numbers
-pub mod Steps
