@@ -1,26 +1,28 @@
 -- On words that are a tree of nodes and show the CPUs of a world, each choice is the choice of the rules. Assumes nothing.
 use Prim.Native.Nat.{ℕ, zero, suc, _%_, _^_, _<_}
 use mathlib.Core.Path.{_≡_, refl, sym, ap, _∙_}
-use mathlib.Core.Bool.{Bool, true, false, cond, not, _||_, _&&_, true≢false, false≢true}
+use mathlib.Core.Bool.{Bool, true, false, cond, false≢true, or-true}
 use mathlib.Core.Option.{Option, none, some}
-use mathlib.Core.List.{List, [], _∷_, _++_}
+use mathlib.Core.List.{List, [], _∷_}
 use native.Mathlib.Omega.{arith}
 use native.Mathlib.Nat.{mod-eq-of-lt}
-use lib.Dec.{eqb, ltb, leb}
-use borrow.Author.Tests.{eqb-true, eqb-false, eq-eqb, ne-eqb}
+use lib.Dec.{eqb}
+use lib.ListN.{length, getD}
+use borrow.Author.Tests.{eqb-true, eq-eqb}
 use Rattle.rules.specs.declared.Priority.{Priority}
 use Rattle.rules.specs.Line.{has, both, has-append}
 use Rattle.rules.specs.Priority.{less}
-use Rattle.rules.specs.Times.{Thread, effective-priority, preferred-cpu}
+use Rattle.rules.specs.Times.{effective-priority, preferred-cpu}
 use Rattle.rules.specs.Queue.{load}
-use Rattle.rules.specs.State.{at, Limits, Topology, Cpu, join-all, those-below}
+use Rattle.rules.specs.State.{at, Limits, Topology, Cpu, join-all}
 use Rattle.rules.specs.Topology.{nr-nodes, children, leaf, cpus-of, visits, visited, nearest-from, nearest, above}
 use Rattle.rules.specs.Choice as rule
-use Rattle.rules.specs.Choice.{Best, none-yet, best, Searched, find-cpu, first-that, may-steal-from, Extremes, extremes, Chosen, choose-cpu-balance}
+use Rattle.rules.specs.Choice.{Best, none-yet, best, Searched, find-cpu, first-that, may-steal-from, Extremes, extremes, choose-cpu-balance}
 use Rattle.rules.specs.Schedule as sched
 use Rattle.rules.specs.Schedule.{World, Got, with-cpu, with-draws, current-load, current-priority, movable-on, same-cpu, skips, cpu-of}
-use Rattle.nodes.specs.Walk.{cpus-at, visited-at, nearest-at}
-use Rattle.processor.specs.Words.{word}
+use Rattle.nodes.specs.Walk.{cpus-at, nearest-at}
+use Rattle.processor.specs.Words.{word, put-word, word-put-same, word-put-other}
+use Rattle.processor.specs.Cpu.{current-load as words-load, current-priority as words-priority}
 use Rattle.choice.specs.Reads.{load-at, weight-at, priority-at, queue-load-at, movable-at, skips-at, draw-word}
 use Rattle.choice.specs.Found.{begun}
 use Rattle.choice.specs.Select.{runs-at-once, at-once, cpu-found, accepted, search-from, search-again, search-twice, select-cpu}
@@ -38,10 +40,6 @@ pub record Shows (limits : Limits) (cpus : List (List ℕ)) (w : World) : Type 0
   pub small : (c : ℕ) → c < limits .cpus → current-load (w .cpus c) < 2 ^ 56
 
 -- ---- searches that agree on the CPUs of a list
-
-or-true : (b : Bool) → (b || true) ≡ true
-or-true true = refl
-or-true false = refl
 
 find-same : (us : ℕ) (skip skip′ : ℕ → Bool) (weight weight′ : ℕ → ℕ) (l : List ℕ) (f : Searched) → ((c : ℕ) → has c l ≡ true → (skip c ≡ skip′ c) × (weight c ≡ weight′ c))
     → find-cpu us skip weight l f ≡ find-cpu us skip′ weight′ l f
@@ -122,12 +120,12 @@ module _ (limits : Limits) (t : Topology) (tick us : ℕ) (cpus nodes : List (Li
     unfolding may-steal-from
     may c h = rw (shows .loads c h, shows .movables c h)
 
-    pub steal-law : (m : ℕ) → t .placed us ≡ some m → m < nr-nodes limits t
+    pub steal-law : (m : ℕ) → t .placed us ≡ some m
         → first-that (may-steal-from us (load-at cpus) (movable-at cpus)) (nearest-at nodes (limits .cpus) m) ≡ sched.choose-cpu-steal-via-topo limits t tick us w
     unfolding sched.choose-cpu-steal-via-topo nearest
-    steal-law m e h =
+    steal-law m e =
         rw e
-        (ap (first-that (may-steal-from us (load-at cpus) (movable-at cpus))) (nearest-same limits nodes t tree m h)
+        (ap (first-that (may-steal-from us (load-at cpus) (movable-at cpus))) (nearest-same limits nodes t tree m (tree .sound .placed-there us m e .1 .0))
         ∙ first-same (may-steal-from us (load-at cpus) (movable-at cpus)) (may-steal-from us (λ c. current-load (w .cpus c)) (movable-on w)) (nearest-from limits t (some m))
         (λ c q. may c (nearest-below limits t (some m) c q)))
 
@@ -207,6 +205,37 @@ shows-drawn limits cpus us w d s = record {
   priorities = λ c h. s .priorities c h ∙ sym (kept current-priority priority-kept us w d c);
   small = λ c h. rw (kept current-load load-kept us w d c) (s .small c h);
 }
+
+-- the same in the words: nothing that a choice reads but the draw state changes
+module _ (limits : Limits) (cpus : List (List ℕ)) (us d : ℕ) where
+  abbrev after : List (List ℕ)
+  after = put-word cpus us draw-word d
+
+  word-kept : (c u : ℕ) → (u % 96 ≡ 79 → ⊥) → word after c u ≡ word cpus c u
+  word-kept c u n = word-put-other cpus us c draw-word u d (λ e q. n e)
+
+  load-after : (c : ℕ) → load-at after c ≡ load-at cpus c
+  unfolding words-load
+  load-after c = rw (word-kept c 76 (λ r. let e : 76 ≡ 79 = r in omega arith), word-kept c 62 (λ r. let e : 62 ≡ 79 = r in omega arith))
+
+  priority-after : (c : ℕ) → priority-at after c ≡ priority-at cpus c
+  unfolding words-priority
+  priority-after c = rw (word-kept c 61 (λ r. let e : 61 ≡ 79 = r in omega arith), word-kept c 75 (λ r. let e : 75 ≡ 79 = r in omega arith))
+
+  pub shows-after : (w : World) → Shows limits cpus w → Shows limits after (drawn us w d)
+  unfolding queue-load-at movable-at
+  shows-after w shown =
+      let s : Shows limits cpus (drawn us w d) = shows-drawn limits cpus us w d shown in
+      record {
+        loads = λ c h. load-after c ∙ s .loads c h;
+        waiting = λ c h. word-kept c 62 (λ r. let e : 62 ≡ 79 = r in omega arith) ∙ s .waiting c h;
+        movables = λ c h. word-kept c 64 (λ r. let e : 64 ≡ 79 = r in omega arith) ∙ s .movables c h;
+        priorities = λ c h. priority-after c ∙ s .priorities c h;
+        small = s .small;
+      }
+
+  pub state-after : (w : World) → us < length cpus → length (getD cpus us []) ≡ 96 → word after us draw-word ≡ drawn us w d .cpus us .draw-state
+  state-after w h l = word-put-same cpus us draw-word d h (rw l (omega arith)) ∙ sym (ap (λ (c : Cpu). c .draw-state) (drawn-at us w d) ∙ unfold with-draws in refl)
 
 module _ (limits : Limits) (t : Topology) (tick us : ℕ) (cpus nodes : List (List ℕ)) (tree : Tree limits nodes t) where
   got-found : (b : Best) → cpu-of limits t tick us b ≡ cpu-found b
