@@ -1,13 +1,11 @@
 -- On words that are a tree of nodes and show the CPUs of a world, each choice is the choice of the rules. Assumes nothing.
-use Prim.Native.Nat.{ℕ, zero, suc, _%_, _^_, _<_}
+use Prim.Native.Nat.{ℕ, zero, suc, _^_, _<_}
 use mathlib.Core.Path.{_≡_, refl, sym, ap, _∙_}
 use mathlib.Core.Bool.{Bool, true, false, cond, false≢true, or-true}
 use mathlib.Core.Option.{Option, none, some}
 use mathlib.Core.List.{List, [], _∷_}
-use native.Mathlib.Omega.{arith}
 use native.Mathlib.Nat.{mod-eq-of-lt}
 use lib.Dec.{eqb}
-use lib.ListN.{length, getD}
 use borrow.Author.Tests.{eqb-true, eq-eqb}
 use Rattle.rules.specs.declared.Priority.{Priority}
 use Rattle.rules.specs.Line.{has, both, has-append}
@@ -21,8 +19,7 @@ use Rattle.rules.specs.Choice.{Best, none-yet, best, Searched, find-cpu, first-
 use Rattle.rules.specs.Schedule as sched
 use Rattle.rules.specs.Schedule.{World, Got, with-cpu, with-draws, current-load, current-priority, movable-on, same-cpu, skips, cpu-of}
 use Rattle.nodes.specs.Walk.{cpus-at, nearest-at}
-use Rattle.processor.specs.Words.{word, put-word, word-put-same, word-put-other}
-use Rattle.processor.specs.Cpu.{current-load as words-load, current-priority as words-priority}
+use Rattle.processor.specs.Words.{word}
 use Rattle.choice.specs.Reads.{load-at, weight-at, priority-at, queue-load-at, movable-at, skips-at, draw-word}
 use Rattle.choice.specs.Found.{begun}
 use Rattle.choice.specs.Select.{runs-at-once, at-once, cpu-found, accepted, search-from, search-again, search-twice, select-cpu}
@@ -32,7 +29,7 @@ use Rattle.tree.specs.Tree.{Tree, cpus-same, nearest-same, visited-same}
 -- ---- what the words must say of the CPUs of a world
 
 -- Of each CPU below the limit its load, how many wait, how many of them are not pinned, and its priority; no load is so large that a score wraps.
-pub record Shows (limits : Limits) (cpus : List (List ℕ)) (w : World) : Type 0 where
+pub record Choice-reads (limits : Limits) (cpus : List (List ℕ)) (w : World) : Type 0 where
   pub loads : (c : ℕ) → c < limits .cpus → load-at cpus c ≡ current-load (w .cpus c)
   pub waiting : (c : ℕ) → c < limits .cpus → queue-load-at cpus c ≡ load (w .cpus c .queue)
   pub movables : (c : ℕ) → c < limits .cpus → movable-at cpus c ≡ movable-on w c
@@ -96,7 +93,7 @@ module _ (limits : Limits) (t : Topology) where
 -- ---- the laws
 
 module _ (limits : Limits) (t : Topology) (tick us : ℕ) (cpus nodes : List (List ℕ)) (tree : Tree limits nodes t) where
-  module _ (w : World) (shows : Shows limits cpus w) where
+  module _ (w : World) (shows : Choice-reads limits cpus w) where
     weights : (c : ℕ) → c < limits .cpus → weight-at cpus c ≡ current-load (w .cpus c)
     unfolding weight-at
     weights c h = rw (shows .loads c h) (mod-eq-of-lt (shows .small c h))
@@ -197,45 +194,14 @@ movable-kept : (us : ℕ) (w : World) (d c : ℕ) → movable-on (drawn us w d) 
 unfolding movable-on
 movable-kept us w d c = rw (threads-kept us w d, kept (λ (p : Cpu). p .queue) queue-kept us w d c)
 
-shows-drawn : (limits : Limits) (cpus : List (List ℕ)) (us : ℕ) (w : World) (d : ℕ) → Shows limits cpus w → Shows limits cpus (drawn us w d)
-shows-drawn limits cpus us w d s = record {
+reads-drawn : (limits : Limits) (cpus : List (List ℕ)) (us : ℕ) (w : World) (d : ℕ) → Choice-reads limits cpus w → Choice-reads limits cpus (drawn us w d)
+reads-drawn limits cpus us w d s = record {
   loads = λ c h. s .loads c h ∙ sym (kept current-load load-kept us w d c);
   waiting = λ c h. s .waiting c h ∙ sym (kept (λ (p : Cpu). load (p .queue)) (λ p e. ap load (queue-kept p e)) us w d c);
   movables = λ c h. s .movables c h ∙ sym (movable-kept us w d c);
   priorities = λ c h. s .priorities c h ∙ sym (kept current-priority priority-kept us w d c);
   small = λ c h. rw (kept current-load load-kept us w d c) (s .small c h);
 }
-
--- the same in the words: nothing that a choice reads but the draw state changes
-module _ (limits : Limits) (cpus : List (List ℕ)) (us d : ℕ) where
-  abbrev after : List (List ℕ)
-  after = put-word cpus us draw-word d
-
-  word-kept : (c u : ℕ) → (u % 96 ≡ 79 → ⊥) → word after c u ≡ word cpus c u
-  word-kept c u n = word-put-other cpus us c draw-word u d (λ e q. n e)
-
-  load-after : (c : ℕ) → load-at after c ≡ load-at cpus c
-  unfolding words-load
-  load-after c = rw (word-kept c 76 (λ r. let e : 76 ≡ 79 = r in omega arith), word-kept c 62 (λ r. let e : 62 ≡ 79 = r in omega arith))
-
-  priority-after : (c : ℕ) → priority-at after c ≡ priority-at cpus c
-  unfolding words-priority
-  priority-after c = rw (word-kept c 61 (λ r. let e : 61 ≡ 79 = r in omega arith), word-kept c 75 (λ r. let e : 75 ≡ 79 = r in omega arith))
-
-  pub shows-after : (w : World) → Shows limits cpus w → Shows limits after (drawn us w d)
-  unfolding queue-load-at movable-at
-  shows-after w shown =
-      let s : Shows limits cpus (drawn us w d) = shows-drawn limits cpus us w d shown in
-      record {
-        loads = λ c h. load-after c ∙ s .loads c h;
-        waiting = λ c h. word-kept c 62 (λ r. let e : 62 ≡ 79 = r in omega arith) ∙ s .waiting c h;
-        movables = λ c h. word-kept c 64 (λ r. let e : 64 ≡ 79 = r in omega arith) ∙ s .movables c h;
-        priorities = λ c h. priority-after c ∙ s .priorities c h;
-        small = s .small;
-      }
-
-  pub state-after : (w : World) → us < length cpus → length (getD cpus us []) ≡ 96 → word after us draw-word ≡ drawn us w d .cpus us .draw-state
-  state-after w h l = word-put-same cpus us draw-word d h (rw l (omega arith)) ∙ sym (ap (λ (c : Cpu). c .draw-state) (drawn-at us w d) ∙ unfold with-draws in refl)
 
 module _ (limits : Limits) (t : Topology) (tick us : ℕ) (cpus nodes : List (List ℕ)) (tree : Tree limits nodes t) where
   got-found : (b : Best) → cpu-of limits t tick us b ≡ cpu-found b
@@ -247,7 +213,7 @@ module _ (limits : Limits) (t : Topology) (tick us : ℕ) (cpus nodes : List (Li
   unfoldable searched : World → Searched → Got
   searched w f = record { got = cpu-found (f .found); world = drawn us w (f .draws) }
 
-  find-got : (w : World) → Shows limits cpus w → (p : Option Priority) (d : ℕ) → w .cpus us .draw-state ≡ d
+  find-got : (w : World) → Choice-reads limits cpus w → (p : Option Priority) (d : ℕ) → w .cpus us .draw-state ≡ d
       → sched.find-cpu-from-topo limits t tick us w p ≡ searched w (search-from cpus nodes us (limits .cpus) p d)
   unfolding sched.find-cpu-from-topo drawn searched begun with-draws
   find-got w s p d e =
@@ -258,7 +224,7 @@ module _ (limits : Limits) (t : Topology) (tick us : ℕ) (cpus nodes : List (Li
         world = with-cpu w us (with-draws (w .cpus us) (search-from cpus nodes us (limits .cpus) p d .draws));
       }))
 
-  module _ (w : World) (shows : Shows limits cpus w) (state : word cpus us draw-word ≡ w .cpus us .draw-state) (x : ℕ) (avoid : Option ℕ) where
+  module _ (w : World) (shows : Choice-reads limits cpus w) (state : word cpus us draw-word ≡ w .cpus us .draw-state) (x : ℕ) (avoid : Option ℕ) where
     abbrev p : Priority
     p = effective-priority (w .threads x)
 
@@ -277,7 +243,7 @@ module _ (limits : Limits) (t : Topology) (tick us : ℕ) (cpus nodes : List (Li
     second : (d : ℕ) → sched.find-cpu-from-topo limits t tick us (drawn us w d) none ≡ searched w (search-from cpus nodes us (limits .cpus) none d)
     unfolding searched
     second d =
-        find-got (drawn us w d) (shows-drawn limits cpus us w d shows) none d (ap (λ (c : Cpu). c .draw-state) (drawn-at us w d) ∙ unfold with-draws in refl)
+        find-got (drawn us w d) (reads-drawn limits cpus us w d shows) none d (ap (λ (c : Cpu). c .draw-state) (drawn-at us w d) ∙ unfold with-draws in refl)
         ∙ (λ i. record { got = cpu-found (search-from cpus nodes us (limits .cpus) none d .found); world = drawn-again us w d (search-from cpus nodes us (limits .cpus) none d .draws) i })
 
     -- 2, else 3
