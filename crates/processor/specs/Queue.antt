@@ -5,7 +5,7 @@ use lib.Dec.{eqb, ltb}
 use borrow.Author.Tests.{eqb-true, eqb-false, ltb-true, ltb-false}
 use mathlib.Core.Path.{_≡_, refl, sym, ap, _∙_}
 use mathlib.Core.List.{List, [], _∷_}
-use Rattle.processor.specs.Words.{width, word}
+use Rattle.processor.specs.Words.{width, word, put-word, put-row-other}
 use lib.ListN.{length, getD, set, replicate, length-set, getD-replicate, List·getD-eq-default}
 use lib.Seq.{getD-set-same, getD-set-other, set-out}
 use native.Mathlib.Omega.{arith}
@@ -175,6 +175,12 @@ queue-same ws vs b h =
       load-same ws vs (b + 40 + 8) 8 (λ j m. rw (add-assoc (b + 40) 8 j, add-assoc b 40 (8 + j)) (h (40 + (8 + j)) (omega arith))),
     )
 
+length-stored : (ws : List ℕ) (at : ℕ) (q : RunQueue) → length (storedFrom ws at q) ≡ length ws
+unfolding storedFrom
+length-stored ws at q =
+    length-place _ (at + 64) (lastTwo q) 8 ∙ length-place _ (at + 56) (firstEight q) 8 ∙ length-lists _ (at + 40) (q .idle .queues)
+    ∙ length-lists _ (at + 24) (q .timeshare .queues) ∙ length-place _ (at + 16) (q .timeshare .priorities) 8 ∙ length-lists ws at (q .realtime .queues)
+
 -- ---- the queue of one CPU
 
 -- read off a row of words, and stored into it
@@ -232,3 +238,24 @@ word-after-store cs c d q w h =
     (λ l. rw (eqb-true d c e, getD-set-same cs c (storedFrom (getD cs c []) 0 q) [] (ltb-true _ _ l)) (stored-away (getD cs c []) 0 q (w % width) (λ j k r. omega arith)))
     (λ l. rw (set-out cs c (storedFrom (getD cs c []) 0 q) (ltb-false _ _ l))))
     (λ e. rw (getD-set-other cs c d (storedFrom (getD cs c []) 0 q) [] (eqb-false d c e)))
+
+-- a load after a store of a word that is none of the queue's
+pub queue-after-put : (cs : List (List ℕ)) (c d w v : ℕ) → 72 ≤ w % width → queueAt (put-word cs c w v) d ≡ queueAt cs d
+unfolding queueAt queueIn
+queue-after-put cs c d w v h =
+    queue-same (getD cs d []) (getD (put-word cs c w v) d []) 0
+    (λ j l. put-row-other cs c d w (0 + j) v (λ e. omega arith))
+
+-- rows keep their lengths
+pub row-length-store : (cs : List (List ℕ)) (c d : ℕ) (q : RunQueue) → length (getD (queueStored cs c q) d []) ≡ length (getD cs d [])
+unfolding queueStored queueInto
+row-length-store cs c d q =
+    both (eqb d c)
+    (λ e. both (ltb c (length cs))
+    (λ l. rw (eqb-true d c e, getD-set-same cs c (storedFrom (getD cs c []) 0 q) [] (ltb-true _ _ l)) (length-stored (getD cs c []) 0 q))
+    (λ l. rw (set-out cs c (storedFrom (getD cs c []) 0 q) (ltb-false _ _ l))))
+    (λ e. rw (getD-set-other cs c d (storedFrom (getD cs c []) 0 q) [] (eqb-false d c e)))
+
+pub length-store : (cs : List (List ℕ)) (c : ℕ) (q : RunQueue) → length (queueStored cs c q) ≡ length cs
+unfolding queueStored
+length-store cs c q = length-set cs c (queueInto (getD cs c []) q)

@@ -52,3 +52,23 @@ word-put-other rows n m w u v h =
 pub row-put-other : (rows : List (List ℕ)) (n m w v : ℕ) → (m ≡ n → ⊥) → getD (put-word rows n w v) m [] ≡ getD rows m []
 unfolding put-word
 row-put-other rows n m w v h = getD-set-other rows n m (set (getD rows n []) (w % width) v) [] h
+
+-- another word of any row
+pub put-row-other : (rows : List (List ℕ)) (n m w i v : ℕ) → (i ≡ w % width → ⊥) → getD (getD (put-word rows n w v) m []) i 0 ≡ getD (getD rows m []) i 0
+unfolding put-word
+put-row-other rows n m w i v h =
+    both (eqb m n)
+    (λ e. both (ltb n (length rows))
+    (λ l. rw (eqb-true m n e, getD-set-same rows n (set (getD rows n []) (w % width) v) [] (ltb-true _ _ l)) (getD-set-other (getD rows n []) (w % width) i v 0 h))
+    (λ l. rw (set-out rows n (set (getD rows n []) (w % width) v) (ltb-false _ _ l))))
+    (λ e. rw (getD-set-other rows n m (set (getD rows n []) (w % width) v) [] (eqb-false m n e)))
+
+-- rows keep their lengths
+pub row-length-put : (rows : List (List ℕ)) (n m w v : ℕ) → length (getD (put-word rows n w v) m []) ≡ length (getD rows m [])
+unfolding put-word
+row-length-put rows n m w v =
+    both (eqb m n)
+    (λ e. both (ltb n (length rows))
+    (λ l. rw (eqb-true m n e, getD-set-same rows n (set (getD rows n []) (w % width) v) [] (ltb-true _ _ l)) (length-set (getD rows n []) (w % width) v))
+    (λ l. rw (set-out rows n (set (getD rows n []) (w % width) v) (ltb-false _ _ l))))
+    (λ e. rw (getD-set-other rows n m (set (getD rows n []) (w % width) v) [] (eqb-false m n e)))

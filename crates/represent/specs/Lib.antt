@@ -5,6 +5,5 @@ pub mod Parts
 pub mod Well
 pub mod Operations
 pub mod Queues
-pub mod Interface
 pub mod Records
 pub mod System

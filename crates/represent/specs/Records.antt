@@ -22,7 +22,7 @@ use Rattle.thread.specs.Priority.{stable-effective-priority, reads-stable}
 use Rattle.thread.specs.Place.{reads-place, reads-next}
 use Rattle.represent.specs.Linked.{linkAfter, Behind-in}
 use Rattle.represent.specs.Well.{Marks, value-after}
-use Rattle.represent.specs.Interface.{recordAt, steadyIn, putIn, linkBehind}
+use Rattle.lent.specs.Rq.{recordAt, steadyIn, putIn, linkBehind}
 
 -- What run queues ask of the records.
 unfoldable pub marks : List Thread → Marks

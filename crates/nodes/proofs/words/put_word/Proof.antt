@@ -29,7 +29,7 @@ same-length c = search needs
 
 -- src/words.rt:18:1
 returns : tie.Need-returns
-unfolding put-word width
+unfolding put-word
 returns c = search needs
 
 -- src/words.rt:18:1

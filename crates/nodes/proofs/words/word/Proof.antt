@@ -25,7 +25,7 @@ index-2-result c = search needs
 
 -- src/words.rt:13:9
 returns : tie.Need-returns
-unfolding word width
+unfolding word
 returns c = search needs
 
 -- src/words.rt:7:1

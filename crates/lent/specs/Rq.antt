@@ -2,7 +2,6 @@
 -- CPUs. Each is total: past the end of the slice a record is blank and a write does nothing, and so with the words of a CPU. Assumes nothing.
 use Prim.Native.Nat.{ℕ}
 use mathlib.Core.Bool.{Bool, true, false, cond}
-use mathlib.Core.Option.{Option, none, some}
 use mathlib.Core.List.{List}
 use lib.ListN.{getD, set}
 use lib.Dec.{eqb, leb}
@@ -21,6 +20,8 @@ use Rattle.runqueue.specs.declared.rq.Front.{Front}
 use Rattle.runqueue.specs.declared.rq.Front.the-variants as front
 use Rattle.runqueue.specs.RunQueue.{rqInsert, rqFront, rqTaken, rqClock, rqHardtick}
 use Rattle.processor.specs.Queue.{queueAt, queueStored}
+use Rattle.lent.specs.declared.rq.Taken.{Taken}
+use Rattle.lent.specs.declared.rq.Taken.the-variants as taken
 
 -- the record of thread x
 abbrev pub recordAt : List Thread → ℕ → Thread
@@ -54,7 +55,7 @@ pub record Inserted : Type 0 where
   pub threads : List Thread
   pub cpus : List (List ℕ)
 
-abbrev pub insertDef : List Thread → List (List ℕ) → ℕ → ℕ → ℕ → Bool → Inserted
+unfoldable pub insertDef : List Thread → List (List ℕ) → ℕ → ℕ → ℕ → Bool → Inserted
 insertDef ts cs c x tick current = record {
   threads = linkBehind (set ts x (putIn (recordAt ts x) (putOf ts cs c x tick current .part))) (putOf ts cs c x tick current .behind) x;
   cpus = queueStored cs c (putOf ts cs c x tick current .queue);
@@ -62,35 +63,39 @@ insertDef ts cs c x tick current = record {
 
 -- ---- a take
 
+unfoldable pub isNothing : Front → Bool
+isNothing (front.At p b x) = false
+isNothing front.Nothing = true
+
 -- the queue that the thread with record t, which it found, has left: it was the head of its list, so nobody stands before it
 unfoldable pub leftBy : RunQueue → Front → Thread → RunQueue
 leftBy q f t = rqTaken q f NONE (t .next) (from-raw (t .«stable_priority») .value) (pinned (reads t))
 
 pub record Took : Type 0 where
-  pub answer : Option ℕ
+  pub answer : Taken
   pub threads : List Thread
   pub cpus : List (List ℕ)
 
 -- the thread that the queue found is handed out, to run; where it found none, nothing changes
 unfoldable pub tookFrom : List Thread → List (List ℕ) → ℕ → Front → Took
-tookFrom ts cs c front.Nothing = record { answer = none; threads = ts; cpus = cs }
+tookFrom ts cs c front.Nothing = record { answer = taken.Nobody; threads = ts; cpus = cs }
 tookFrom ts cs c (front.At p b x) = record {
-  answer = some x;
+  answer = taken.Thread x;
   threads = set ts x (with-place (recordAt ts x) RUNNING);
   cpus = queueStored cs c (leftBy (queueAt cs c) (front.At p b x) (recordAt ts x));
 }
 
-abbrev pub takeDef : List Thread → List (List ℕ) → ℕ → Bool → Took
+unfoldable pub takeDef : List Thread → List (List ℕ) → ℕ → Bool → Took
 takeDef ts cs c stealing = tookFrom ts cs c (rqFront (queueAt cs c) stealing)
 
 -- ---- clock and hard tick
 
-abbrev pub clockDef : List (List ℕ) → ℕ → List (List ℕ)
+unfoldable pub clockDef : List (List ℕ) → ℕ → List (List ℕ)
 clockDef cs c = queueStored cs c (rqClock (queueAt cs c))
 
 pub record Ticked : Type 0 where
   pub ticks : ℕ
   pub cpus : List (List ℕ)
 
-abbrev pub hardtickDef : List (List ℕ) → ℕ → ℕ → Ticked
+unfoldable pub hardtickDef : List (List ℕ) → ℕ → ℕ → Ticked
 hardtickDef cs c tick = record { ticks = rqHardtick (queueAt cs c) tick .ticks; cpus = queueStored cs c (rqHardtick (queueAt cs c) tick .queue) }

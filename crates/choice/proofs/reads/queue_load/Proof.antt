@@ -1,0 +1,16 @@
+use Rattle.choice.specs.Reads.{queue-load-at}
+use borrow.Author.Needs.{needs}
+use Rattle.choice.proofs.reads.queue_load.Statement.{statement}
+use Rattle.choice.proofs.reads.queue_load.Tie as tie
+
+-- src/reads.rt:49:5
+word-requires : tie.Need-word-requires
+word-requires c κs = search needs
+
+-- src/reads.rt:46:1
+returns : tie.Need-returns
+unfolding queue-load-at
+returns c = search needs
+
+pub queue-load-spec : {M : Type 1} → statement M
+queue-load-spec = tie.close (tie.spec word-requires returns)

@@ -1,0 +1,5 @@
+pub mod Reads
+pub mod Found
+pub mod Steal
+pub mod Balance
+pub mod Select
