@@ -21,7 +21,7 @@ use Rattle.rules.specs.Puts.{PutOrTake, a-take}
 use Rattle.rules.specs.Queue.{Queue, order, timeshare-line, movable, highest-value, said-timeshare, said-after-take, Next, nobody, next-in, asked, leave, insert, is-timeshare, part-of, part-for, said-after-put}
 use Rattle.rules.specs.State.{at, Limits, Topology, Cpu}
 use Rattle.rules.specs.Schedule.{World, Got, with-cpu, with-thread, with-queue, noted, pinned-in, arrival, insert-thread, take-thread, handed-out}
-use Rattle.rules.specs.Sound.{at-here, at-there, at-keeps, waits, Free, New, Sound, take-taken}
+use Rattle.rules.specs.Sound.{at-here, at-there, at-keeps, Under, waits, Free, New, Sound, take-taken}
 use Rattle.rules.specs.Sound as sound
 use Rattle.rules.specs.Kept.{asked-head}
 use Rattle.thread.specs.declared.Thread.{Thread}
@@ -46,7 +46,7 @@ use Rattle.represent.specs.Queues as queues
 use Rattle.lent.specs.declared.rq.Taken.{Taken}
 use Rattle.lent.specs.declared.rq.Taken.the-variants as taken
 use Rattle.lent.specs.Rq.{recordAt, arrivalOf, steadyIn, putIn, linkBehind, putOf, insertDef, leftBy, Took, tookFrom, takeDef}
-use Rattle.represent.specs.Records.{marks, read-set}
+use Rattle.represent.specs.Records.{marks, read-set, length-put}
 use Rattle.represent.specs.System.{Good, arriving, put-law, Taken-as, take-law}
 use Rattle.memory.specs.Shows.{reading-of, Words-show, place-at, Places, Small, Shows}
 use Rattle.memory.specs.Frames.{kept, words-same, at-map, places-same, in-records}
@@ -87,15 +87,18 @@ words-queue cs c p q said s = record {
 
 -- the queue of one CPU is stored, and with it records may have changed
 module _ {limits : Limits} {topology : Topology} {known active : ℕ → Bool} {ts : List Thread} {cs : List (List ℕ)} {w : World} (s : Shows limits topology known active ts cs w) where
-  pub shows-stored : {active′ : ℕ → Bool} (c : ℕ) (ts′ : List Thread) (q : RunQueue) (p : Cpu) (v : World) → v .cpus ≡ at (w .cpus) c p
+  pub shows-stored : {active′ : ℕ → Bool} (c : ℕ) (ts′ : List Thread) (q : RunQueue) (p : Cpu) (v : World) → v .cpus ≡ at (w .cpus) c p → length ts′ ≡ length ts
       → Good (limits .threads) (limits .cpus) ts′ (queueStored cs c q) (at (λ d. reading-of (w .cpus d)) c (reading-of p))
-      → Words-show topology cs c p → ((x : ℕ) → x < limits .threads → reads (recordAt ts′ x) ≡ v .threads x) → Places (limits .threads) known active′ ts′ v
+      → Words-show topology cs c p → ((x : ℕ) → x < limits .threads → reads (recordAt ts′ x) ≡ v .threads x)
+      → ((x : ℕ) → x < limits .threads → Under (limits .cpus) (v .threads x .queue-cpu)) → Places (limits .threads) known active′ ts′ v
       → Shows limits topology known active′ ts′ (queueStored cs c q) v
-  shows-stored c ts′ q p v e g k t l = record {
+  shows-stored c ts′ q p v e n g k t u l = record {
     queues = subst (λ (Rs : ℕ → Reading). Good (limits .threads) (limits .cpus) ts′ (queueStored cs c q) Rs)
         (λ i d. (at-map reading-of (w .cpus) c p d ∙ ap (λ (f : ℕ → Cpu). reading-of (f d)) (sym e)) i) g;
+    none-past = rw n (s .none-past);
     rows = λ d h. row-stored cs c d q ∙ s .rows d h;
     threads = t;
+    queue-cpus = u;
     words = λ d h. subst (λ (f : ℕ → Cpu). Words-show topology (queueStored cs c q) d (f d)) (sym e) (both (eqb d c)
         (λ r. rw (eqb-true d c r, at-here (w .cpus) c p) (words-stored cs c c q p k))
         (λ r. rw (at-there (w .cpus) c p d (eqb-false d c r)) (words-stored cs c d q (w .cpus d) (s .words d h))));
@@ -133,6 +136,11 @@ put-field f past ts x p b z h =
     let first : f (recordAt written z) ≡ cond (eqb z x) (f (putIn (recordAt ts x) p)) (f (recordAt ts z)) =
     rw (read-set ts x (putIn (recordAt ts x) p) z h) (both (eqb z x) (λ e. rw e) (λ e. rw e)) in
     both (eqb b NONE) (λ e. rw e first) (λ e. rw e (kept f written b (with-next (recordAt written b) x) z (past (recordAt written b) x) ∙ first))
+
+steady-home : (n : ℕ) (b : Bool) (t : times.Thread) → Under n (t .queue-cpu) → Under n (cond b (steadied t) t .queue-cpu)
+unfolding steadied
+steady-home n true t h = h
+steady-home n false t h = h
 
 -- ---- a put
 
@@ -217,12 +225,13 @@ module _ (limits : Limits) (topology : Topology) (tick us : ℕ) (known : ℕ �
         Shows limits topology known (at active x false) (d .threads) (d .cpus) (insert-thread limits topology tick us w c x current))
     unfolding insertDef insert-thread noted with-thread with-cpu
     shows-insert =
-        shows-stored s c (insertDef ts cs c x tick current .threads) (putOf ts cs c x tick current .queue) there v refl
+        shows-stored s c (insertDef ts cs c x tick current .threads) (putOf ts cs c x tick current .queue) there v refl (length-put ts x (in-records s x below) (putOf ts cs c x tick current .part) (putOf ts cs c x tick current .behind))
         (subst (λ (R : Reading). Good (limits .threads) (limits .cpus) (insertDef ts cs c x tick current .threads) (insertDef ts cs c x tick current .cpus) (at (λ d. reading-of (w .cpus d)) c R)) read-there
         (put-law (limits .threads) (limits .cpus) ts cs (λ y. reading-of (w .cpus y)) (s .queues) c (n .near) (fits small) x tick current below nobody-reads))
         (words-queue cs c (w .cpus c) _ _ (s .words c (n .near)))
         (λ z h. put-field reads reads-next ts x (putOf ts cs c x tick current .part) (putOf ts cs c x tick current .behind) z (in-records s x below)
         ∙ (unfold at in both (eqb z x) (λ e. rw e thread-there) (λ e. rw e (s .threads z h))))
+        (λ z h. unfold at in both (eqb z x) (λ e. rw e (steady-home (limits .cpus) (is-timeshare (part-for (arrival limits topology tick us (w .threads x) x current))) (w .threads x) (s .queue-cpus x below))) (λ e. rw e (s .queue-cpus z h)))
         put-places
 
 -- ---- what a take asks of the records
@@ -353,10 +362,11 @@ module _ (limits : Limits) (topology : Topology) (tick us : ℕ) (known : ℕ �
         some-shows p′ b′ g = record {
           answer = refl;
           left =
-              shows-stored s c running-now (leftBy (queueAt cs c) (front.At p′ b′ x) (recordAt ts x)) left-cpu (got .world) refl
+              shows-stored s c running-now (leftBy (queueAt cs c) (front.At p′ b′ x) (recordAt ts x)) left-cpu (got .world) refl (length-set ts x (with-place (recordAt ts x) RUNNING))
               (subst (λ (R : Reading). Good (limits .threads) (limits .cpus) running-now (queueStored cs c (leftBy (queueAt cs c) (front.At p′ b′ x) (recordAt ts x))) (at (λ d. reading-of (w .cpus d)) c R)) read-left g)
               (words-queue cs c (w .cpus c) _ _ (s .words c near))
               (λ z h. kept reads ts x (with-place (recordAt ts x) RUNNING) z (reads-place (recordAt ts x) RUNNING) ∙ s .threads z h)
+              (s .queue-cpus)
               take-places;
         }
 
@@ -364,7 +374,7 @@ module _ (limits : Limits) (topology : Topology) (tick us : ℕ) (known : ℕ �
       unfolding tookFrom handed-out active-with as-taken noted
       none-shows = record {
         answer = refl;
-        left = record { queues = s .queues; rows = s .rows; threads = s .threads; words = s .words; places = places-same w (noted w c (a-take stealing none)) (λ d x. refl) (s .places) };
+        left = record { queues = s .queues; none-past = s .none-past; rows = s .rows; threads = s .threads; queue-cpus = s .queue-cpus; words = s .words; places = places-same w (noted w c (a-take stealing none)) (λ d x. refl) (s .places) };
       }
 
       go : (f : Front) (n : Next) → asked (pinned-in w) Q stealing ≡ n → Taken-as (limits .threads) (limits .cpus) ts cs (λ d. reading-of (w .cpus d)) c (tookFrom ts cs c f) n

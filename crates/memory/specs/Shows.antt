@@ -11,7 +11,7 @@ use Rattle.rules.specs.Priority.{from-raw}
 use Rattle.rules.specs.Times.{is-some}
 use Rattle.rules.specs.State.{Limits, Topology, Cpu}
 use Rattle.rules.specs.Schedule.{World}
-use Rattle.rules.specs.Sound.{waits, Free}
+use Rattle.rules.specs.Sound.{Under, waits, Free}
 use Rattle.thread.specs.declared.Thread.{Thread}
 use Rattle.thread.specs.declared.place.Place.{Place}
 use Rattle.thread.specs.declared.place.Place.the-variants as place
@@ -71,11 +71,13 @@ pub record Small (limits : Limits) : Type 0 where
   pub threads : limits .threads ≤ 2147483648
   pub shortest : limits .shortest ≤ 2147483648
 
--- There are records and rows enough; each run queue is well formed and reads as the rules' (represent's `Good`); each record below the limit reads as the
--- rules' thread, and each other word of a CPU as the rules' field; the places of threads agree with who waits.
+-- There are records and rows enough, and no record has the number for none; each run queue is well formed and reads as the rules' (represent's `Good`); each record below the limit reads as the
+-- rules' thread, whose queue is that of a CPU, and each other word of a CPU as the rules' field; the places of threads agree with who waits.
 pub record Shows (limits : Limits) (topology : Topology) (known active : ℕ → Bool) (ts : List Thread) (cs : List (List ℕ)) (w : World) : Type 0 where
   pub queues : Good (limits .threads) (limits .cpus) ts cs (λ c. reading-of (w .cpus c))
+  pub none-past : length ts ≤ NONE
   pub rows : (c : ℕ) → c < limits .cpus → length (getD cs c []) ≡ width
   pub threads : (x : ℕ) → x < limits .threads → reads (recordAt ts x) ≡ w .threads x
+  pub queue-cpus : (x : ℕ) → x < limits .threads → Under (limits .cpus) (w .threads x .queue-cpu)
   pub words : (c : ℕ) → c < limits .cpus → Words-show topology cs c (w .cpus c)
   pub places : Places (limits .threads) known active ts w

@@ -7,3 +7,5 @@ pub mod Operations
 pub mod Queues
 pub mod Records
 pub mod System
+pub mod Middle
+pub mod Worlds

@@ -129,7 +129,7 @@ module _ (limit : ℕ) (small : limit ≤ NONE) (Q : Queue) (numbered : Below li
     il-most : length (idle-line Q) ≤ NONE
     il-most = omega (arith, room-all, lengths Q)
 
-movable-same : (f g : ℕ → Bool) (l : List ℕ) → ((z : ℕ) → has z l ≡ true → f z ≡ g z) → movable f l ≡ movable g l
+pub movable-same : (f g : ℕ → Bool) (l : List ℕ) → ((z : ℕ) → has z l ≡ true → f z ≡ g z) → movable f l ≡ movable g l
 unfolding movable has
 movable-same f g [] h = refl
 movable-same f g (x ∷ l) h = rw (h x (has-first x l), movable-same f g l (λ z e. h z (has-later z x l e)))

@@ -39,7 +39,7 @@ read-set ts x t z h =
     both (eqb z x) (λ e. rw (e, eqb-true z x e) (getD-set-same ts x t blank h)) (λ e. rw e (getD-set-other ts x z t blank (eqb-false z x e)))
 
 -- a write that keeps a field, wherever it goes
-kept {ℓ} : {A : Type ℓ} (f : Thread → A) (ts : List Thread) (x : ℕ) (t : Thread) (z : ℕ) → f t ≡ f (recordAt ts x) → f (recordAt (set ts x t) z) ≡ f (recordAt ts z)
+pub kept {ℓ} : {A : Type ℓ} (f : Thread → A) (ts : List Thread) (x : ℕ) (t : Thread) (z : ℕ) → f t ≡ f (recordAt ts x) → f (recordAt (set ts x t) z) ≡ f (recordAt ts z)
 kept f ts x t z e =
     both (ltb x (length ts))
     (λ l. rw (read-set ts x t z (ltb-true _ _ l)) (both (eqb z x) (λ k. rw (k, eqb-true z x k) e) (λ k. rw k)))
