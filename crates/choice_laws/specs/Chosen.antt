@@ -1,25 +1,24 @@
 -- On words that are a tree of nodes and show the CPUs of a world, each choice is the choice of the rules. Assumes nothing.
-use Prim.Native.Nat.{ℕ, zero, suc, _%_, _^_, _<_}
+use Prim.Native.Nat.{ℕ, zero, suc, _^_, _<_}
 use mathlib.Core.Path.{_≡_, refl, sym, ap, _∙_}
-use mathlib.Core.Bool.{Bool, true, false, cond, not, _||_, _&&_, true≢false, false≢true}
+use mathlib.Core.Bool.{Bool, true, false, cond, false≢true, or-true}
 use mathlib.Core.Option.{Option, none, some}
-use mathlib.Core.List.{List, [], _∷_, _++_}
-use native.Mathlib.Omega.{arith}
+use mathlib.Core.List.{List, [], _∷_}
 use native.Mathlib.Nat.{mod-eq-of-lt}
-use lib.Dec.{eqb, ltb, leb}
-use borrow.Author.Tests.{eqb-true, eqb-false, eq-eqb, ne-eqb}
+use lib.Dec.{eqb}
+use borrow.Author.Tests.{eqb-true, eq-eqb}
 use Rattle.rules.specs.declared.Priority.{Priority}
 use Rattle.rules.specs.Line.{has, both, has-append}
 use Rattle.rules.specs.Priority.{less}
-use Rattle.rules.specs.Times.{Thread, effective-priority, preferred-cpu}
+use Rattle.rules.specs.Times.{effective-priority, preferred-cpu}
 use Rattle.rules.specs.Queue.{load}
-use Rattle.rules.specs.State.{at, Limits, Topology, Cpu, join-all, those-below}
+use Rattle.rules.specs.State.{at, Limits, Topology, Cpu, join-all}
 use Rattle.rules.specs.Topology.{nr-nodes, children, leaf, cpus-of, visits, visited, nearest-from, nearest, above}
 use Rattle.rules.specs.Choice as rule
-use Rattle.rules.specs.Choice.{Best, none-yet, best, Searched, find-cpu, first-that, may-steal-from, Extremes, extremes, Chosen, choose-cpu-balance}
+use Rattle.rules.specs.Choice.{Best, none-yet, best, Searched, find-cpu, first-that, may-steal-from, Extremes, extremes, choose-cpu-balance}
 use Rattle.rules.specs.Schedule as sched
 use Rattle.rules.specs.Schedule.{World, Got, with-cpu, with-draws, current-load, current-priority, movable-on, same-cpu, skips, cpu-of}
-use Rattle.nodes.specs.Walk.{cpus-at, visited-at, nearest-at}
+use Rattle.nodes.specs.Walk.{cpus-at, nearest-at}
 use Rattle.processor.specs.Words.{word}
 use Rattle.choice.specs.Reads.{load-at, weight-at, priority-at, queue-load-at, movable-at, skips-at, draw-word}
 use Rattle.choice.specs.Found.{begun}
@@ -30,7 +29,7 @@ use Rattle.tree.specs.Tree.{Tree, cpus-same, nearest-same, visited-same}
 -- ---- what the words must say of the CPUs of a world
 
 -- Of each CPU below the limit its load, how many wait, how many of them are not pinned, and its priority; no load is so large that a score wraps.
-pub record Shows (limits : Limits) (cpus : List (List ℕ)) (w : World) : Type 0 where
+pub record Choice-reads (limits : Limits) (cpus : List (List ℕ)) (w : World) : Type 0 where
   pub loads : (c : ℕ) → c < limits .cpus → load-at cpus c ≡ current-load (w .cpus c)
   pub waiting : (c : ℕ) → c < limits .cpus → queue-load-at cpus c ≡ load (w .cpus c .queue)
   pub movables : (c : ℕ) → c < limits .cpus → movable-at cpus c ≡ movable-on w c
@@ -38,10 +37,6 @@ pub record Shows (limits : Limits) (cpus : List (List ℕ)) (w : World) : Type 0
   pub small : (c : ℕ) → c < limits .cpus → current-load (w .cpus c) < 2 ^ 56
 
 -- ---- searches that agree on the CPUs of a list
-
-or-true : (b : Bool) → (b || true) ≡ true
-or-true true = refl
-or-true false = refl
 
 find-same : (us : ℕ) (skip skip′ : ℕ → Bool) (weight weight′ : ℕ → ℕ) (l : List ℕ) (f : Searched) → ((c : ℕ) → has c l ≡ true → (skip c ≡ skip′ c) × (weight c ≡ weight′ c))
     → find-cpu us skip weight l f ≡ find-cpu us skip′ weight′ l f
@@ -98,7 +93,7 @@ module _ (limits : Limits) (t : Topology) where
 -- ---- the laws
 
 module _ (limits : Limits) (t : Topology) (tick us : ℕ) (cpus nodes : List (List ℕ)) (tree : Tree limits nodes t) where
-  module _ (w : World) (shows : Shows limits cpus w) where
+  module _ (w : World) (shows : Choice-reads limits cpus w) where
     weights : (c : ℕ) → c < limits .cpus → weight-at cpus c ≡ current-load (w .cpus c)
     unfolding weight-at
     weights c h = rw (shows .loads c h) (mod-eq-of-lt (shows .small c h))
@@ -122,12 +117,12 @@ module _ (limits : Limits) (t : Topology) (tick us : ℕ) (cpus nodes : List (Li
     unfolding may-steal-from
     may c h = rw (shows .loads c h, shows .movables c h)
 
-    pub steal-law : (m : ℕ) → t .placed us ≡ some m → m < nr-nodes limits t
+    pub steal-law : (m : ℕ) → t .placed us ≡ some m
         → first-that (may-steal-from us (load-at cpus) (movable-at cpus)) (nearest-at nodes (limits .cpus) m) ≡ sched.choose-cpu-steal-via-topo limits t tick us w
     unfolding sched.choose-cpu-steal-via-topo nearest
-    steal-law m e h =
+    steal-law m e =
         rw e
-        (ap (first-that (may-steal-from us (load-at cpus) (movable-at cpus))) (nearest-same limits nodes t tree m h)
+        (ap (first-that (may-steal-from us (load-at cpus) (movable-at cpus))) (nearest-same limits nodes t tree m (tree .sound .placed-there us m e .1 .0))
         ∙ first-same (may-steal-from us (load-at cpus) (movable-at cpus)) (may-steal-from us (λ c. current-load (w .cpus c)) (movable-on w)) (nearest-from limits t (some m))
         (λ c q. may c (nearest-below limits t (some m) c q)))
 
@@ -199,8 +194,8 @@ movable-kept : (us : ℕ) (w : World) (d c : ℕ) → movable-on (drawn us w d) 
 unfolding movable-on
 movable-kept us w d c = rw (threads-kept us w d, kept (λ (p : Cpu). p .queue) queue-kept us w d c)
 
-shows-drawn : (limits : Limits) (cpus : List (List ℕ)) (us : ℕ) (w : World) (d : ℕ) → Shows limits cpus w → Shows limits cpus (drawn us w d)
-shows-drawn limits cpus us w d s = record {
+reads-drawn : (limits : Limits) (cpus : List (List ℕ)) (us : ℕ) (w : World) (d : ℕ) → Choice-reads limits cpus w → Choice-reads limits cpus (drawn us w d)
+reads-drawn limits cpus us w d s = record {
   loads = λ c h. s .loads c h ∙ sym (kept current-load load-kept us w d c);
   waiting = λ c h. s .waiting c h ∙ sym (kept (λ (p : Cpu). load (p .queue)) (λ p e. ap load (queue-kept p e)) us w d c);
   movables = λ c h. s .movables c h ∙ sym (movable-kept us w d c);
@@ -218,7 +213,7 @@ module _ (limits : Limits) (t : Topology) (tick us : ℕ) (cpus nodes : List (Li
   unfoldable searched : World → Searched → Got
   searched w f = record { got = cpu-found (f .found); world = drawn us w (f .draws) }
 
-  find-got : (w : World) → Shows limits cpus w → (p : Option Priority) (d : ℕ) → w .cpus us .draw-state ≡ d
+  find-got : (w : World) → Choice-reads limits cpus w → (p : Option Priority) (d : ℕ) → w .cpus us .draw-state ≡ d
       → sched.find-cpu-from-topo limits t tick us w p ≡ searched w (search-from cpus nodes us (limits .cpus) p d)
   unfolding sched.find-cpu-from-topo drawn searched begun with-draws
   find-got w s p d e =
@@ -229,7 +224,7 @@ module _ (limits : Limits) (t : Topology) (tick us : ℕ) (cpus nodes : List (Li
         world = with-cpu w us (with-draws (w .cpus us) (search-from cpus nodes us (limits .cpus) p d .draws));
       }))
 
-  module _ (w : World) (shows : Shows limits cpus w) (state : word cpus us draw-word ≡ w .cpus us .draw-state) (x : ℕ) (avoid : Option ℕ) where
+  module _ (w : World) (shows : Choice-reads limits cpus w) (state : word cpus us draw-word ≡ w .cpus us .draw-state) (x : ℕ) (avoid : Option ℕ) where
     abbrev p : Priority
     p = effective-priority (w .threads x)
 
@@ -248,7 +243,7 @@ module _ (limits : Limits) (t : Topology) (tick us : ℕ) (cpus nodes : List (Li
     second : (d : ℕ) → sched.find-cpu-from-topo limits t tick us (drawn us w d) none ≡ searched w (search-from cpus nodes us (limits .cpus) none d)
     unfolding searched
     second d =
-        find-got (drawn us w d) (shows-drawn limits cpus us w d shows) none d (ap (λ (c : Cpu). c .draw-state) (drawn-at us w d) ∙ unfold with-draws in refl)
+        find-got (drawn us w d) (reads-drawn limits cpus us w d shows) none d (ap (λ (c : Cpu). c .draw-state) (drawn-at us w d) ∙ unfold with-draws in refl)
         ∙ (λ i. record { got = cpu-found (search-from cpus nodes us (limits .cpus) none d .found); world = drawn-again us w d (search-from cpus nodes us (limits .cpus) none d .draws) i })
 
     -- 2, else 3

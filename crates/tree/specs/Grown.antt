@@ -1,27 +1,27 @@
 -- The root alone, and a new last child: the words are then the topology of the rules. Assumes nothing.
 use Prim.Native.Nat.{ℕ, zero, suc, _+_, _-_, _/_, _%_, _^_, _≤_, _<_}
 use mathlib.Core.Path.{_≡_, refl, sym, ap, _∙_}
-use mathlib.Core.Bool.{Bool, true, false, cond, not, _||_, _&&_, true≢false, false≢true}
+use mathlib.Core.Bool.{true, false, not, _||_, _&&_, true≢false, false≢true, and-true, and-false, or-true}
 use mathlib.Core.Option.{Option, none, some}
 use mathlib.Core.List.{List, [], _∷_, _++_, append-nil}
 use native.Mathlib.Omega.{arith}
 use native.Mathlib.Nat.{zero-div}
 use lib.Dec.{eqb, ltb}
-use lib.ListN.{length, getD, set, replicate, getD-replicate, length-set, length-replicate, List·getD-append}
-use lib.Seq.{getD-set-other, getD-append-seam}
-use borrow.Author.Tests.{eqb-true, eqb-false, eq-eqb, ne-eqb, lt-ltb, le-ltb, ltb-true, ltb-false}
+use lib.ListN.{length, getD, getD-replicate, length-set, List·getD-append}
+use lib.Seq.{getD-append-seam}
+use borrow.Author.Tests.{eqb-true, eqb-false, eq-eqb, ne-eqb, ltb-true}
 use Rattle.rules.specs.Line.{has, both, Distinct}
 use Rattle.rules.specs.State.{Limits, Node, Topology, start, those-below, join-all, any-below, is-number}
-use Rattle.rules.specs.Topology.{nr-nodes, parent-of, children, no-nodes, leaf, upward, above, holds, on-node}
+use Rattle.rules.specs.Topology.{nr-nodes, parent-of, children, no-nodes, leaf, upward, above, on-node}
 use Rattle.rules.specs.Commands.{with-node}
 use Rattle.topology.specs.CpuSet.{max-cpu-id, bit}
 use Rattle.nodes.specs.Words.{word, width, put-word, length-put}
-use Rattle.nodes.specs.Node.{parent, level-type, children as children-word, next, prev, first, end, sets, no-cpu, new-node, put-node, new-root, linked, add-child, has-children, contains-at}
+use Rattle.nodes.specs.Node.{parent, level-type, children as children-word, next, prev, first, end, new-node, put-node, new-root, linked, add-child, has-children, contains-at}
 use Rattle.tree.specs.Lists.{any-true, ins, ins-none}
 use Rattle.tree.specs.Links.{Linked, linked-back, linked-back-end, linked-prev, linked-prev-end, linked-ins, linked-end}
 use Rattle.tree.specs.Rows.{Sized, put-same, put-other, put-elsewhere, sized-put, node-same, node-other, sized-node}
-use Rattle.tree.specs.Order.{met, met-first, Sound, nr-grown, parent-old, parent-new, children-grown, children-none, first-grown, has-grown, distinct-grown}
-use Rattle.tree.specs.Tree.{type-of, Ranged, Tree, holds-has, up-enough, up-within, number-is}
+use Rattle.tree.specs.Order.{met-first, Sound, nr-grown, parent-old, parent-new, children-grown, children-none, first-grown, has-grown, distinct-grown}
+use Rattle.tree.specs.Tree.{type-of, Ranged, Tree, holds-has, up-enough, up-within}
 
 -- ---- a new node
 
@@ -76,18 +76,6 @@ ranged-none limit rows n h e = record {
   inside = λ c l q. absurd (true≢false (sym q ∙ h c));
   last = λ z. absurd (omega arith);
 }
-
-and-false : (b : Bool) → (b && false) ≡ false
-and-false true = refl
-and-false false = refl
-
-and-same : (b : Bool) → (b && true) ≡ b
-and-same true = refl
-and-same false = refl
-
-or-true : (b : Bool) → (b || true) ≡ true
-or-true true = refl
-or-true false = refl
 
 -- ---- THE ROOT ALONE
 
@@ -321,7 +309,7 @@ module _ (limits : Limits) (rows : List (List ℕ)) (t : Topology) (tree : Tree 
   leaf-grown z =
       no-nodes-any (children limits t′ z) ∙ ap (no-nodes limits t) (children-grown limits t p k (tree .sound .root) z)
       ∙ both (eqb p z) (λ e. rw e (no-nodes-more (children limits t z) ∙ sym (and-false (no-nodes limits t (children limits t z)))))
-      (λ e. rw (e, append-nil (children limits t z)) (sym (and-same (no-nodes limits t (children limits t z)))))
+      (λ e. rw (e, append-nil (children limits t z)) (sym (and-true (no-nodes limits t (children limits t z)))))
 
   leaf-new : leaf limits t′ n ≡ true
   leaf-new = leaf-grown n ∙ rw (ne-eqb p n pn) (unfold leaf in rw (children-none limits t p k (tree .sound .root) (tree .sound .parents) p-there) (unfold no-nodes in refl))
@@ -445,7 +433,7 @@ module _ (limits : Limits) (rows : List (List ℕ)) (t : Topology) (tree : Tree 
       (λ r. rw (eqb-true z p r, mark-p, leaf-grown p, eq-eqb p p refl) (sym (ap not (and-false (leaf limits t p)))))
       (λ r.
       let d : z ≡ n → ⊥ = eqb-false z n e in
-      rw (mark-else z d (eqb-false z p r), leaf-grown z, ne-eqb p z (λ b. eqb-false z p r (sym b)), and-same (leaf limits t z)) (unfold has-children in tree .children-is z (omega arith))))
+      rw (mark-else z d (eqb-false z p r), leaf-grown z, ne-eqb p z (λ b. eqb-false z p r (sym b)), and-true (leaf limits t z)) (unfold has-children in tree .children-is z (omega arith))))
 
   order-now : Linked (λ z. word rows₃ z next) (λ z. word rows₃ z prev) 0 (met-first limits t′) 0
   order-now =

@@ -1,17 +1,17 @@
 -- The order in which a search meets the nodes: each after its children. What a new node does to it. Assumes nothing.
-use Prim.Native.Nat.{ℕ, zero, suc, _+_, _-_, _≤_, _<_}
+use Prim.Native.Nat.{ℕ, zero, suc, _-_, _≤_, _<_}
 use mathlib.Core.Path.{_≡_, refl, sym, ap, _∙_}
-use mathlib.Core.Bool.{Bool, true, false, cond, not, _||_, _&&_, true≢false, false≢true}
-use mathlib.Core.Option.{Option, none, some}
+use mathlib.Core.Bool.{Bool, true, false, cond, _||_, _&&_, false≢true}
+use mathlib.Core.Option.{some}
 use mathlib.Core.List.{List, [], _∷_, _++_, append-assoc, append-nil}
 use native.Mathlib.Omega.{arith}
 use lib.Dec.{eqb, ltb}
-use lib.ListN.{length, length-append, getD, List·getD-append}
+use lib.ListN.{length-append, List·getD-append}
 use lib.Seq.{getD-append-seam}
 use borrow.Author.Tests.{eqb-true, eqb-false, eq-eqb, ne-eqb, lt-ltb, ltb-true}
-use Rattle.rules.specs.Line.{has, both, Distinct, Comes, comes-distinct, has-append}
+use Rattle.rules.specs.Line.{has, both, Distinct, comes-distinct, has-append}
 use Rattle.rules.specs.State.{Limits, Node, Topology, those-below, join-all}
-use Rattle.rules.specs.Topology.{nr-nodes, parent-of, children, no-nodes, leaf, upward, above, holds, cpus-of, visits, visited}
+use Rattle.rules.specs.Topology.{nr-nodes, parent-of, children, no-nodes, leaf, cpus-of, visits, visited}
 use Rattle.rules.specs.Commands.{with-node}
 use Rattle.tree.specs.Lists.{below-same, below-none, below-has, join-append, join-join, join-same, ins, ins-append, ins-join, ins-none, has-ins, distinct-ins}
 

@@ -1,34 +1,26 @@
 -- A CPU put on a leaf and all nodes above, and a CPU declared: the words are then the topology of the rules. Assumes nothing.
 use Prim.Native.Nat.{ℕ, zero, suc, _+_, _-_, _/_, _%_, _≤_, _<_}
 use mathlib.Core.Path.{_≡_, refl, sym, ap, _∙_}
-use mathlib.Core.Bool.{Bool, true, false, cond, not, _||_, _&&_, true≢false, false≢true}
+use mathlib.Core.Bool.{Bool, true, false, _||_, _&&_, and-true, and-false, or-true, or-false}
 use mathlib.Core.Option.{Option, none, some}
-use mathlib.Core.List.{List, [], _∷_, _++_}
+use mathlib.Core.List.{List, [], _∷_}
 use native.Mathlib.Omega.{arith}
 use lib.Dec.{eqb, ltb}
 use lib.ListN.{length}
 use borrow.Author.Tests.{eqb-true, eqb-false, eq-eqb, ne-eqb, lt-ltb, ltb-true, ltb-false}
 use Rattle.rules.specs.Line.{has, both}
-use Rattle.rules.specs.State.{at, Limits, Topology, is-number}
+use Rattle.rules.specs.State.{at, Limits, Topology}
 use Rattle.rules.specs.Topology.{nr-nodes, parent-of, children, no-nodes, leaf, upward, above, on-node}
 use Rattle.rules.specs.Commands.{with-placed, with-cpu-declared}
-use Rattle.topology.specs.CpuSet.{max-cpu-id, bit, set-bit, set-same, set-other}
+use Rattle.topology.specs.CpuSet.{max-cpu-id, set-bit, set-same, set-other}
 use Rattle.nodes.specs.Words.{word, put-word, length-put}
-use Rattle.nodes.specs.Node.{parent, level-type, children as children-word, next, prev, first, end, sets, lesser, greater, has-children, contains-at, put-cpu, length-put-cpu, set-cpu-up, set-cpu}
+use Rattle.nodes.specs.Node.{parent, next, prev, first, end, sets, lesser, greater, has-children, contains-at, put-cpu, length-put-cpu, set-cpu-up, set-cpu}
 use Rattle.nodes.specs.Walk.{to-root}
-use Rattle.tree.specs.Links.{Linked, linked-same}
+use Rattle.tree.specs.Links.{linked-same}
 use Rattle.tree.specs.Rows.{Sized, put-same, put-other, put-elsewhere, sized-put}
 use Rattle.tree.specs.Order.{met-first, Sound}
 use Rattle.tree.specs.Tree.{type-of, Ranged, Tree, holds-has, up-within, above-same}
 use Rattle.tree.specs.Grown.{contains-words, ranged-words}
-
-or-false : (b : Bool) → (b || false) ≡ b
-or-false true = refl
-or-false false = refl
-
-or-true : (b : Bool) → (b || true) ≡ true
-or-true true = refl
-or-true false = refl
 
 -- ---- a CPU put on one node
 
@@ -334,17 +326,9 @@ module _ (limits : Limits) (rows : List (List ℕ)) (t : Topology) (tree : Tree 
       ∙ both (eqb d c)
       (λ q.
       let k : d ≡ c = eqb-true d c q in
-      rw (k, eq-eqb c c refl, tree .set-is n h c c-fits, unplaced) (and-true-same (has n (above limits t m)) ∙ sym (holds-has limits t n (above limits t m))))
+      rw (k, eq-eqb c c refl, tree .set-is n h c c-fits, unplaced) (and-true (has n (above limits t m)) ∙ sym (holds-has limits t n (above limits t m))))
       (λ q.
-      rw (q, ne-eqb c d (λ r. eqb-false d c q (sym r)), and-nothing (has n (above limits t m))) (or-false (contains-at rows n d) ∙ tree .set-is n h d l))
-    where
-      and-true-same : (b : Bool) → (false || (b && true)) ≡ b
-      and-true-same true = refl
-      and-true-same false = refl
-
-      and-nothing : (b : Bool) → (b && false) ≡ false
-      and-nothing true = refl
-      and-nothing false = refl
+      rw (q, ne-eqb c d (λ r. eqb-false d c q (sym r)), and-false (has n (above limits t m))) (or-false (contains-at rows n d) ∙ tree .set-is n h d l))
 
   pub tree-placed : Tree limits (set-cpu rows m c) (with-placed t m c)
   unfolding with-placed

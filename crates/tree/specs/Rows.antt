@@ -1,12 +1,11 @@
 -- A word read after one was written. Assumes nothing.
-use Prim.Native.Nat.{ℕ, zero, suc, _%_, _≤_, _<_}
-use mathlib.Core.Path.{_≡_, refl, sym, ap, _∙_}
-use mathlib.Core.Bool.{Bool, true, false, cond}
+use Prim.Native.Nat.{ℕ, _%_, _<_}
+use mathlib.Core.Path.{_≡_, refl, _∙_}
 use mathlib.Core.List.{List, []}
 use native.Mathlib.Omega.{arith}
 use lib.Dec.{eqb, ltb}
-use lib.ListN.{length, getD, set, length-set, List·getD-eq-default}
-use lib.Seq.{getD-set-same, getD-set-other, set-out, set-getD}
+use lib.ListN.{length, getD, set, length-set}
+use lib.Seq.{getD-set-same, getD-set-other, set-out}
 use borrow.Author.Tests.{eqb-true, eqb-false, ltb-true, ltb-false}
 use Rattle.rules.specs.Line.{both}
 use Rattle.nodes.specs.Words.{width, word, put-word}

@@ -1,15 +1,15 @@
 -- What the words of the nodes must be to be a topology of the rules; the orders in which they are walked are then those of the rules. Assumes nothing.
-use Prim.Native.Nat.{ℕ, zero, suc, _+_, _-_, _≤_, _<_}
+use Prim.Native.Nat.{ℕ, zero, suc, _-_, _≤_, _<_}
 use mathlib.Core.Path.{_≡_, refl, sym, ap, _∙_}
-use mathlib.Core.Bool.{Bool, true, false, cond, not, _||_, _&&_, true≢false, false≢true}
+use mathlib.Core.Bool.{Bool, true, false, not, _||_, _&&_, true≢false, false≢true}
 use mathlib.Core.Option.{Option, none, some}
 use mathlib.Core.List.{List, [], _∷_, _++_, append-nil}
 use native.Mathlib.Omega.{arith}
 use lib.Dec.{eqb, ltb}
 use lib.ListN.{length, getD, length-append}
-use borrow.Author.Tests.{eqb-true, eqb-false, eq-eqb, ne-eqb, lt-ltb, le-ltb, ltb-true, ltb-false}
-use Rattle.rules.specs.Line.{has, both, Distinct, Below, Comes, comes-distinct, distinct-length, has-append}
-use Rattle.rules.specs.State.{Limits, Node, Topology, those-below, join-all, any-below, is-number}
+use borrow.Author.Tests.{eqb-true, eqb-false, eq-eqb, ne-eqb, lt-ltb, ltb-true, ltb-false}
+use Rattle.rules.specs.Line.{has, both, Distinct, Below, comes-distinct, distinct-length, has-append}
+use Rattle.rules.specs.State.{Limits, Topology, join-all, any-below, is-number}
 use Rattle.rules.specs.Topology.{nr-nodes, parent-of, children, no-nodes, leaf, upward, above, holds, on-node, cpus-of, visited, nearest-from}
 use Rattle.topology.specs.CpuSet.{max-cpu-id}
 use Rattle.nodes.specs.Words.{word}

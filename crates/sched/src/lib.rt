@@ -1,2 +1,0 @@
-// Scheduling (processor/sched.rs) over the lent thread records and the words of the CPUs.
-pub mod signal;
