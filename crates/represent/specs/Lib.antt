@@ -8,4 +8,3 @@ pub mod Queues
 pub mod Records
 pub mod System
 pub mod Middle
-pub mod Worlds

@@ -1,25 +1,25 @@
 -- A LEAVING FROM THE MIDDLE OF A BUCKET: `unlink` with the thread before, whose link is led past the one that leaves. In the base nobody stands before
 -- a thread that leaves. Assumes nothing.
 use Prim.Native.Nat.{ℕ, _<_}
-use mathlib.Core.Path.{_≡_, refl, sym, ap, _∙_}
-use mathlib.Core.Bool.{Bool, true, false, cond, true≢false}
+use mathlib.Core.Path.{_≡_, refl, sym, _∙_}
+use mathlib.Core.Bool.{true, false, cond, true≢false}
 use mathlib.Core.List.{List, [], _∷_, _++_, append-nil}
-use lib.ListN.{length, getD, set, length-set}
+use lib.ListN.{getD, set, length-set}
 use lib.Seq.{getD-set-same, getD-set-other}
 use lib.Dec.{eqb}
 use borrow.Author.Tests.{eqb-true, eqb-false, eq-eqb, ne-eqb}
 use native.Mathlib.Nat.{mod-eq-of-lt}
 use native.Mathlib.Omega.{arith}
-use Rattle.rules.specs.Line.{has, both, Distinct, Below, has-left, has-right, distinct-right}
+use Rattle.rules.specs.Line.{has, both, Distinct, Below, has-left}
 use Rattle.rules.specs.Buckets.{Buckets, around}
 use Rattle.rules.specs.Queue.{nr-buckets, empty}
 use Rattle.rules.specs.State.{at}
 use Rattle.thread.specs.Thread.{NONE}
 use Rattle.queue.specs.declared.lists.Lists.{Lists}
 use Rattle.queue.specs.Lists.{unlinked}
-use Rattle.represent.specs.Linked.{Chain, last, Ends, Linked, linked-frame, chain-frame, has-first, has-later, last-in, below-has}
-use Rattle.represent.specs.Shown.{Shown, has-bucket, apart, distinct-bucket, below-bucket}
-use Rattle.represent.specs.Queues.{at-here, at-there}
+use Rattle.represent.specs.Linked.{Chain, last, Ends, Linked, linked-frame, chain-frame, has-later, last-in, below-has}
+use Rattle.represent.specs.Shown.{Shown, apart, distinct-bucket, below-bucket}
+use Rattle.rules.specs.Sound.{at-here, at-there}
 
 chain-remove : (f : ℕ → ℕ) (h p : ℕ) (l : List ℕ) (x : ℕ) (r : List ℕ) → Chain f h ((p ∷ l) ++ (x ∷ r)) → Distinct ((p ∷ l) ++ (x ∷ r))
     → Chain (at f (last p l) (f x)) h ((p ∷ l) ++ r)
@@ -27,10 +27,10 @@ unfolding Chain last Distinct
 chain-remove f h p [] x r (e, (k, c)) (n, d) = (
   e,
   rw (at-here f p (f x))
-      (chain-frame f (at f p (f x)) (f x) r (λ z i. at-there f p (f x) z (ne-eqb z p (λ q. true≢false (sym (has-later z x r i) ∙ rw q n)))) c),
+      (chain-frame f (at f p (f x)) (f x) r (λ z i. at-there f p (f x) z (λ q. true≢false (sym (has-later z x r i) ∙ rw q n))) c),
 )
 chain-remove f h p (w ∷ l) x r (e, c) (n, d) =
-    let far : eqb p (last w l) ≡ false = ne-eqb p (last w l) (λ q. true≢false (sym (has-left (last w l) (w ∷ l) (x ∷ r) (last-in w l)) ∙ rw (← q) n)) in
+    let far : ¬ (p ≡ last w l) = λ q. true≢false (sym (has-left (last w l) (w ∷ l) (x ∷ r) (last-in w l)) ∙ rw (← q) n) in
     (e, rw (at-there f (last w l) (f x) p far) (chain-remove f (f p) w l x r c d))
 
 last-append : (p : ℕ) (l : List ℕ) (x : ℕ) (r : List ℕ) → last p (l ++ (x ∷ r)) ≡ last x r
@@ -100,5 +100,5 @@ module _ (f : ℕ → ℕ) (ls : Lists) (bs : Buckets) (s : ℕ) (w : Shown f ls
       there : (i : ℕ) → i < nr-buckets → eqb i j ≡ false → Linked (at f previous (f x)) (getD (left .heads) i 0) (getD (left .tails) i 0) (getD (set bs j ((p ∷ l) ++ r)) i [])
       there i h n = rw (heads-stay, tail-there i n, getD-set-other bs j i ((p ∷ l) ++ r) [] (eqb-false i j n))
           (linked-frame f (at f previous (f x)) _ _ (getD bs i [])
-          (λ z a. at-there f previous (f x) z (ne-eqb z previous (λ q. eqb-false i j n (apart nr-buckets bs s i j z h jn d a (rw q previous-in)))))
+          (λ z a. at-there f previous (f x) z (λ q. eqb-false i j n (apart nr-buckets bs s i j z h jn d a (rw q previous-in))))
           (w .linked i h))

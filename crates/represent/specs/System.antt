@@ -2,9 +2,9 @@
 -- formed well formed; the queue of its CPU then reads as the rules' function of what it read before, and every other CPU's reads as before.
 -- Any number of CPUs and threads. Assumes nothing.
 use Prim.Native.Nat.{ℕ, _-_, _^_, _≤_, _<_}
-use mathlib.Core.Path.{_≡_, refl, sym, ap, subst, _∙_}
-use mathlib.Core.Logic.{_⊎_, inl, inr}
-use mathlib.Core.Bool.{Bool, true, false, cond, false≢true}
+use mathlib.Core.Path.{_≡_, refl, sym, subst, _∙_}
+use mathlib.Core.Logic.{inl, inr}
+use mathlib.Core.Bool.{Bool, true, false, false≢true}
 use mathlib.Core.List.{List, []}
 use lib.ListN.{length, getD, set, length-set}
 use lib.Seq.{getD-set-same}
@@ -13,10 +13,10 @@ use borrow.Author.Tests.{eqb-true, eqb-false}
 use native.Mathlib.Omega.{arith}
 use Rattle.rules.specs.Line.{has, both}
 use Rattle.rules.specs.Effect.{start-order}
+use Rattle.rules.specs.Sound.{at-here, at-there}
 use Rattle.rules.specs.declared.Part.{Part}
 use Rattle.rules.specs.Priority.{nr-values}
 use Rattle.rules.specs.Queue.{nr-buckets, order, Next, nobody, next-in, asked}
-use Rattle.rules.specs.Times.{effective-priority}
 use Rattle.rules.specs.State.{at}
 use Rattle.thread.specs.declared.Thread.{Thread}
 use Rattle.thread.specs.Thread.{NONE, RUNNING, with-place}
@@ -28,15 +28,15 @@ use Rattle.runqueue.specs.declared.rq.Arrival.{Arrival}
 use Rattle.runqueue.specs.declared.rq.Put.{Put}
 use Rattle.runqueue.specs.declared.rq.Front.{Front}
 use Rattle.runqueue.specs.declared.rq.Front.the-variants as front
-use Rattle.runqueue.specs.RunQueue.{noRunQueue, rqInsert, rqFront, rqTaken, rqClock, rqHardtick}
-use Rattle.processor.specs.Queue.{queueAt, queueStored, queueInto, storedFrom, Eight, Eights, length-lists, queue-after-store, queue-elsewhere}
+use Rattle.runqueue.specs.RunQueue.{noRunQueue, rqFront, rqTaken, rqClock, rqHardtick}
+use Rattle.processor.specs.Queue.{queueAt, queueStored, queueInto, storedFrom, Eights, length-lists, queue-after-store, queue-elsewhere}
 use Rattle.processor.specs.Window.{length-place}
 use Rattle.represent.specs.Linked.{Behind-in}
 use Rattle.represent.specs.Well.{Marks, Reading, Well, reading, new-reading, put-reading, take-reading, clock-reading, hardtick-reading, marks-after}
 use Rattle.represent.specs.Operations.{reading-is, hardtick-ticks, put-behind, new-well}
-use Rattle.represent.specs.Queues.{at-here, at-there, waits, All-well, Agree, All-follow, all-frame, all-take, all-put, all-clock, all-hardtick}
+use Rattle.represent.specs.Queues.{waits, All-well, Agree, All-follow, all-frame, all-take, all-put, all-clock, all-hardtick}
 use Rattle.lent.specs.declared.rq.Taken.the-variants as taken
-use Rattle.lent.specs.Rq.{recordAt, arrivalOf, putIn, linkBehind, putOf, insertDef, leftBy, Took, tookFrom, takeDef, clockDef, hardtickDef}
+use Rattle.lent.specs.Rq.{recordAt, arrivalOf, putOf, insertDef, leftBy, Took, tookFrom, takeDef, clockDef, hardtickDef}
 use Rattle.represent.specs.Records.{marks, marks-kept, marks-put, length-put}
 
 -- ---- what a reader reads
@@ -124,7 +124,7 @@ module _ (limit n : ℕ) (ts : List Thread) (cs : List (List ℕ)) (Rs : ℕ →
         same : (d : ℕ) → d < n → queueAt (queueStored cs c q′) d ≡ at (queueAt cs) c q′ d
         same d h = both (eqb d c)
             (λ e. rw (eqb-true d c e, at-here (queueAt cs) c q′) (queue-after-store cs c q′ (omega (arith, g .cpus)) (g .rows c cn) (eights (w .each c cn))))
-            (λ e. rw (at-there (queueAt cs) c q′ d e) (unfold queueAt in rw (queue-elsewhere cs c d q′ (eqb-false d c e))))
+            (λ e. rw (at-there (queueAt cs) c q′ d (eqb-false d c e)) (unfold queueAt in rw (queue-elsewhere cs c d q′ (eqb-false d c e))))
 
         row : (d : ℕ) → d < n → 72 ≤ length (getD (queueStored cs c q′) d [])
         row d h = both (eqb d c)
