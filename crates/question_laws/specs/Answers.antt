@@ -21,7 +21,7 @@ use Rattle.rules.specs.Questions as rules-ask
 use Rattle.rules.specs.Questions.{Question, question, first-no, refusal}
 use Rattle.rules.specs.Commands.{world-of}
 use Rattle.rules.specs.Sound.{Free}
-use Rattle.rules.specs.Reached.{Reached}
+use Rattle.rules.specs.Reached.{Reached, any-not}
 use Rattle.thread.specs.declared.Thread.{Thread}
 use Rattle.thread.specs.declared.place.Place.{Place}
 use Rattle.thread.specs.declared.place.Place.the-variants as place
@@ -89,9 +89,6 @@ all-same (suc n) f g h = rw (all-same n f g (λ c l. h c (omega arith)), h n (om
 first-then : (p q : Question) (l m : List Question) → p ≡ q → (q .answer ≡ true → first-no l ≡ first-no m) → first-no (p ∷ l) ≡ first-no (q ∷ m)
 unfolding first-no
 first-then p q l m e f = rw e (both (q .answer) (λ t. rw t (f t)) (λ t. rw t))
-
-first-nobody : (n : ℕ) (f : ℕ → Bool) → any-below n f ≡ false → (c : ℕ) → c < n → f c ≡ false
-first-nobody n f e c h = both (f c) (λ t. absurd (true≢false (sym (any-true n f c h t) ∙ e))) (λ t. t)
 
 any-at {ℓ} : {A : Type ℓ} (n : ℕ) (f : ℕ → Bool) → any-below n f ≡ true → ((c : ℕ) → c < n → f c ≡ true → A) → A
 unfolding any-below
@@ -194,7 +191,7 @@ module _ {H : ℕ → List PutOrTake} {ts : List Thread} {cs ns : List (List ℕ
   unfolding waits-on world-of
   idle-free x e c =
       both (has x (order (s .cpus c .queue)))
-      (λ t. absurd (true≢false (sym t ∙ first-nobody (s .limits .cpus) (λ c. has x (order (s .cpus c .queue))) e c (reached .sound .placed c x t .0))))
+      (λ t. absurd (true≢false (sym t ∙ any-not (s .limits .cpus) (λ c. has x (order (s .cpus c .queue))) e c (reached .sound .placed c x t .0))))
       (λ t. t)
 
   known-place : (x : ℕ) → s .known x ≡ true → (is-declared (place-at ts x) ≡ true) × (is-blocked (place-at ts x) ≡ blocked s x)
@@ -210,7 +207,7 @@ module _ {H : ℕ → List PutOrTake} {ts : List Thread} {cs ns : List (List ℕ
       (λ w.
       rw (
         m .shows .places .blocked x (reached .numbered x k) k r (idle-free x w),
-        any-none n (λ d. runs-on s d x || waits-on s d x) (λ c h. rw (first-nobody n (λ d. runs-on s d x) r c h, first-nobody n (λ d. waits-on s d x) w c h)),
+        any-none n (λ d. runs-on s d x || waits-on s d x) (λ c h. rw (any-not n (λ d. runs-on s d x) r c h, any-not n (λ d. waits-on s d x) w c h)),
       )
       (refl, refl)))
 
