@@ -207,9 +207,10 @@ class Walk:
     """One walk as it is written. context: what the proof has, by labels: `_k` and `dk` are local k and what frees it, `rowj` and `keptj` a `&mut` slice
     that is open, `ownj` and `tokj` a `&` slice. locals: what is known of each local: v its value, is that it is one of its type, d the type; or slice,
     ptr, array: which slice it is or points to."""
-    def __init__(self, crate, name, says='', proofs=(), requires=None, loops=(), arrays=(), cut=4):
+    def __init__(self, crate, name, says='', proofs=(), requires=None, loops=(), arrays=(), cut=4, unfolding=''):
         self.crate, self.fn, self.says, self.requires = crate, Function(crate.name + '::' + name), says, requires
         self.name, self.h = name, name.split('::')[-1].replace('_', '-')
+        self.opens = unfolding.split()
         self.proofs, self.loops, self.arrays = list(proofs), list(loops), list(arrays)
         self.ns, self.N = len(self.fn.slices), self.fn.locals
         self.first_own = self.ns + len(self.fn.data)
@@ -623,8 +624,13 @@ class Walk:
         self.run(rest, top=K)
         self.lines[-1] += ')' * self.close
         lines, (self.lines, self.close, self.in_parts) = self.lines, outer
-        self.parts.append(['      part-%d : %s → %s' % (K, ' '.join(pars) if pars else '(z : Unit {0})', goal),
-                           '      part-%d %s =' % (K, names), '          ' + '\n          '.join(lines), ''])
+        self.parts.append(['      part-%d : %s → %s' % (K, ' '.join(pars) if pars else '(z : Unit {0})', goal)]
+                          + self.opened('      ', self.opens)
+                          + ['      part-%d %s =' % (K, names), '          ' + '\n          '.join(lines), ''])
+
+    def opened(self, indent, names):
+        """The line that opens definitions to a declaration."""
+        return [indent + 'unfolding ' + ' '.join(names)] if names else []
 
     def is_one(self, d, v):
         return 'Is %s (%s) (%s .val (%s) ∷ [])' % (d.row, v, par(d.datum), v)
@@ -865,8 +871,7 @@ class Walk:
         o += ['    abbrev Post : Val → SProp 𝓤', '    Post = walkOf 𝓤 H A %s.ended stayed c .post y' % h, ''] + self.defs + self.loop_defs
         o += ['    walk : ent 𝓤 (onEntry 𝓤 H A %s.signature %s %s %s %s) (WpFn 𝓤 H C Λ code.function (%s listed Ds a) Post)' % (
             h, lifetimes, shares, par(args), par(vals), values)]
-        if self.loop_defs and not self.parts:
-            o += ['    unfolding tablesOf']
+        o += self.opened('    ', (['tablesOf'] if self.loop_defs and not self.parts else []) + self.opens)
         o += ['    walk =', '        qed W ((%s) ∷ ‵ (owns (%s) %s %s) ∷ []) ∵ begins%d ! $ enter ! C _ code.function (%s listed Ds a) _ $' % (
             tokens, owned, par(args), par(vals), ns, values)]
         o += ['        ' + ''.join('alloc1 ! (λ l%s. ' % sub(k) for k in range(N)) + 'alloc0 ! $ params1 ! $', '        ' + body, '']

@@ -1,8 +1,7 @@
 -- What `choose_cpu_balance` finds, as the rules have it, and one step of it. Assumes nothing.
-use Prim.Native.Nat.{ℕ, zero, suc, _+_, _-_, _≤_, _<_}
-use mathlib.Core.Path.{_≡_, refl}
-use mathlib.Core.Bool.{Bool, true, false, cond}
-use mathlib.Core.List.{List, [], _∷_}
+use Prim.Native.Nat.{ℕ, _+_, _-_, _≤_, _<_}
+use mathlib.Core.Path.{_≡_}
+use mathlib.Core.Bool.{Bool, cond}
 use Rattle.rules.specs.Line.{both}
 use Rattle.rules.specs.Draw.{next-state, draw}
 use Rattle.rules.specs.Choice as rule

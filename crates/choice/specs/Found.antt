@@ -1,15 +1,14 @@
 -- What a search finds, as the rules have it, and one step of a search. Assumes nothing.
-use Prim.Native.Nat.{ℕ, zero, suc, _+_, _-_, _≤_, _<_}
-use mathlib.Core.Path.{_≡_, refl, sym, _∙_}
-use mathlib.Core.Bool.{Bool, true, false, cond, not, _&&_}
-use mathlib.Core.Option.{Option, none, some}
+use Prim.Native.Nat.{ℕ, _+_, _-_, _≤_, _<_}
+use mathlib.Core.Path.{_≡_, refl}
+use mathlib.Core.Bool.{Bool, cond}
 use mathlib.Core.List.{List, [], _∷_, _++_}
 use lib.Dec.{eqb}
 use Rattle.rules.specs.State.{join-all}
 use Rattle.rules.specs.Line.{both}
 use Rattle.rules.specs.Draw.{next-state, draw}
 use Rattle.rules.specs.Choice as rule
-use Rattle.rules.specs.Choice.{score, lower, find-cpu, first-that, weigh, extremes}
+use Rattle.rules.specs.Choice.{score, lower, find-cpu}
 use Rattle.nodes.specs.Words.{word}
 use Rattle.nodes.specs.Walk.{those-from, to-root, those-turn, those-end, root-turn}
 use Rattle.choice.specs.declared.find.Best.{Best}

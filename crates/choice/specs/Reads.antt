@@ -1,16 +1,16 @@
 -- What the choice reads of the CPUs' words. Assumes nothing.
 use Prim.Native.Nat.{ℕ, _%_, _^_}
 use mathlib.Core.Path.{_≡_, refl}
-use mathlib.Core.Bool.{Bool, true, false}
+use mathlib.Core.Bool.{Bool, false}
 use mathlib.Core.Option.{Option, none, some}
 use mathlib.Core.List.{List}
 use Rattle.rules.specs.declared.Priority.{Priority}
-use Rattle.rules.specs.Priority.{from-raw, less, greater-of}
+use Rattle.rules.specs.Priority.{less}
 use Rattle.thread.specs.declared.time.OptionCpu.{OptionCpu}
 use Rattle.thread.specs.declared.time.OptionCpu.the-variants as cpu
 use Rattle.thread.specs.Reads.{named}
 use Rattle.processor.specs.Words.{word}
-use Rattle.processor.specs.Cpu.{current-load}
+use Rattle.processor.specs.Cpu.{current-load, current-priority}
 
 -- "`current_load` is queue load plus 1 unless idle."
 abbrev pub load-at : List (List ℕ) → ℕ → ℕ
@@ -21,8 +21,8 @@ unfoldable pub weight-at : List (List ℕ) → ℕ → ℕ
 weight-at cpus c = load-at cpus c % 2 ^ 56
 
 -- the greater of what its queue advertises and the priority of the thread last switched to
-unfoldable pub priority-at : List (List ℕ) → ℕ → Priority
-priority-at cpus c = greater-of (from-raw (word cpus c 61)) (from-raw (word cpus c 75))
+abbrev pub priority-at : List (List ℕ) → ℕ → Priority
+priority-at cpus c = current-priority cpus c
 
 -- how many wait, and how many of them are not pinned
 unfoldable pub queue-load-at : List (List ℕ) → ℕ → ℕ

@@ -4,18 +4,14 @@ ghost use Prim.Native.Nat.{_%_, _^_};
 ghost use Rattle.rules.specs.Choice as choice;
 ghost use Rattle.rules.specs.Draw.{draw};
 ghost use Rattle.thread.specs.Reads.{held};
-ghost use Rattle.choice.specs.Reads.{priority-at, skips-at, movable-at, queue-load-at};
+ghost use Rattle.choice.specs.Reads.{skips-at, movable-at, queue-load-at};
+use processor::cpu::current_priority;
 use processor::random::draw;
-use processor::words::CURRENT_PRIORITY;
 use processor::words::LOAD;
 use processor::words::MOVABLE;
-use processor::words::OWN_PRIORITY;
 use processor::words::word;
-use rules::Priority;
 use thread::priority::OptionPriority;
-use thread::priority::from_raw;
 use thread::priority::less;
-use thread::priority::max;
 
 // 256 times the load, modulo 2^64, less the draw modulo 128, not below 0. The product of the last 56 bits is the wrapping one.
 pub fn score(load: u64, state: u64) -> u64
@@ -27,15 +23,6 @@ pub fn score(load: u64, state: u64) -> u64
         return whole - jitter;
     }
     0
-}
-
-// The greater of what its queue advertises and the priority of the thread last switched to.
-pub fn current_priority(cpus: &[[u64; 96]], c: u64) -> Priority
-    ensures { λ r. ⌜ r ≡ priority-at (now (cpus .entry)) c ⌝ }
-{
-    let advertised = from_raw(word(cpus, c, CURRENT_PRIORITY));
-    let own = from_raw(word(cpus, c, OWN_PRIORITY));
-    max(advertised, own)
 }
 
 // Is the CPU skipped in a search for a thread of this priority, if one is given?

@@ -8,8 +8,8 @@ ghost use Rattle.choice.specs.Select.{runs-at-once, at-once, cpu-found, 
 use crate::find::Best;
 use crate::find::Searched;
 use crate::find::find_cpu_from_topo;
-use crate::reads::current_priority;
 use crate::reads::queue_load;
+use processor::cpu::current_priority;
 use processor::words::RAND_STATE;
 use processor::words::put_word;
 use processor::words::word;

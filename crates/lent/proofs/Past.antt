@@ -1,5 +1,6 @@
--- A record past the end of the slice is blank, and a write there does nothing.
-use Prim.Native.Nat.{ℕ}
+-- An index of the slice of records, and one past its end: there a record is blank, and a write does nothing.
+use Prim.Native.Nat.{ℕ, _*_, _^_, _<_}
+use native.Mathlib.Omega.{arith}
 use mathlib.Core.Path.{_≡_, refl}
 use mathlib.Core.Bool.{Bool, true, false, cond}
 use mathlib.Core.List.{List}
@@ -17,3 +18,7 @@ get-past l i d = cond-same (leb (length l) i) d (getD l i d) (λ e. rw (List·ge
 
 pub set-past : {A : Type 0} (l : List A) (i : ℕ) (v : A) → cond (leb (length l) i) l (set l i v) ≡ set l i v
 set-past l i v = cond-same (leb (length l) i) l (set l i v) (λ e. rw (set-out l i v (leb-true (length l) i e)))
+
+-- the offset of record i, in bytes, is a number of the machine: a record has 88
+pub scaled : (n i : ℕ) → i < n → n * 88 < 2 ^ 63 → i * 88 < 2 ^ 64
+scaled n i l r = omega (arith, l, r)

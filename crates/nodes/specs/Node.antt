@@ -2,12 +2,12 @@
 use Prim.Native.Nat.{ℕ, zero, suc, _+_, _-_, _/_, _<_}
 use mathlib.Core.Path.{_≡_, refl, _∙_}
 use mathlib.Core.Bool.{Bool, true, false, cond}
-use mathlib.Core.List.{List, []}
+use mathlib.Core.List.{List}
 use lib.ListN.{length, set, replicate}
 use lib.Dec.{eqb, ltb}
 use Rattle.topology.specs.CpuSet.{bit, set-bit, max-cpu-id}
 use native.Mathlib.Omega.{arith}
-use Rattle.nodes.specs.Words.{word, put-word, width, length-put}
+use Rattle.nodes.specs.Words.{word, put-word, length-put}
 
 unfoldable pub lesser : ℕ → ℕ → ℕ
 lesser a b = cond (ltb a b) a b

@@ -1,6 +1,5 @@
 // One node: what it is at first, its CPUs, and its place in the tree.
 ghost use mathlib.Core.Path.{_≡_};
-ghost use Rattle.nodes.specs.Words.{put-word};
 ghost use Rattle.nodes.specs.Node.{lesser, greater, new-node, put-node, new-root, add-child, has-children, has-cpus, contains-at, put-cpu, set-cpu, first-of, end-of};
 use crate::words::put_word;
 use crate::words::word;

@@ -1,9 +1,9 @@
 -- The lists as the code has them: the first and the last thread of each. Assumes nothing.
-use Prim.Native.Nat.{ℕ, zero, suc, _+_, _-_, _*_, _/_, _%_, _≤_, _<_}
-use mathlib.Core.Path.{_≡_, refl}
+use Prim.Native.Nat.{ℕ, zero, suc, _+_, _-_, _*_, _%_, _≤_, _<_}
+use mathlib.Core.Path.{_≡_}
 use native.Mathlib.Omega.{arith}
 use native.Mathlib.Nat.{add-zero, sub-zero}
-use mathlib.Core.Bool.{Bool, cond}
+use mathlib.Core.Bool.{cond}
 use mathlib.Core.List.{List}
 use lib.Dec.{eqb}
 use lib.ListN.{getD, set, replicate}
@@ -14,6 +14,7 @@ use Rattle.queue.specs.declared.lists.Pushed.{Pushed}
 use Rattle.queue.specs.declared.lists.Found.{Found}
 use Rattle.queue.specs.declared.lists.Found.the-variants.{At, Nothing}
 
+-- eight lists with nobody
 unfoldable pub noLists : Lists
 noLists = record { heads = replicate nr-buckets NONE; tails = replicate nr-buckets NONE }
 
@@ -35,6 +36,7 @@ unfoldable pub scanHeads : ℕ → List ℕ → ℕ → ℕ → Found
 scanHeads n hs i zero = Nothing
 scanHeads n hs i (suc k) = cond (eqb (getD hs (i % n) 0) NONE) (scanHeads n hs (i + 1) k) (At (i % n) (getD hs (i % n) 0))
 
+-- the first of the eight from one onward round that holds a thread
 unfoldable pub firstFrom : Lists → ℕ → Found
 firstFrom l from = scanHeads nr-buckets (l .heads) (from % nr-buckets) nr-buckets
 

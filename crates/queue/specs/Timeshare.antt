@@ -16,9 +16,11 @@ use Rattle.queue.specs.declared.timeshare.TimesharePut.{TimesharePut}
 use Rattle.queue.specs.Num.{sum, difference}
 use Rattle.queue.specs.Lists.{noLists, pushBack, unlinked, firstFrom}
 
+-- newly made
 unfoldable pub noTimeshare : TimeshareQueue
 noTimeshare = record { count = 0; priorities = replicate nr-buckets 0; «insert_idx» = 0; «take_idx» = 0; queues = noLists }
 
+-- nobody waits: the Rust's flag of the part
 unfoldable pub tsEmpty : TimeshareQueue → Bool
 tsEmpty t = eqb (t .count) 0
 
@@ -27,6 +29,7 @@ unfoldable pub topCounts : List ℕ → ℕ → ℕ
 topCounts ps zero = 0
 topCounts ps (suc k) = cond (eqb (getD ps k 0) 0) (topCounts ps k) (k * width)
 
+-- the least value of the highest sixteen of which one waits, 0 if none does
 unfoldable pub tsHighest : TimeshareQueue → ℕ
 tsHighest t = cond (eqb (t .count) 0) 0 (topCounts (t .priorities) nr-buckets)
 
@@ -34,6 +37,7 @@ tsHighest t = cond (eqb (t .count) 0) 0 (topCounts (t .priorities) nr-buckets)
 unfoldable pub tsIndex : TimeshareQueue → ℕ → ℕ
 tsIndex t v = (t .«insert_idx» + offset v) % nr-buckets
 
+-- the bucket that a thread joins: "stepped back by one if it is the emptying bucket and the indexes differ"; a current thread joins the emptying bucket
 unfoldable pub tsBucket : TimeshareQueue → ℕ → Bool → ℕ
 tsBucket t v current =
     cond current (t .«take_idx»)
@@ -43,6 +47,7 @@ tsBucket t v current =
 unfoldable pub slot : ℕ → ℕ
 slot v = v / width % nr-buckets
 
+-- thread x of value v comes in
 unfoldable pub tsInsert : TimeshareQueue → ℕ → ℕ → Bool → TimesharePut
 tsInsert t x v current =
     let u : Pushed = pushBack (t .queues) (tsBucket t v current) x in
@@ -57,6 +62,7 @@ tsInsert t x v current =
       behind = u .behind;
     }
 
+-- "A take scans from the emptying index for the first bucket holding a thread"
 unfoldable pub tsFront : TimeshareQueue → Found
 tsFront t = cond (eqb (t .count) 0) Nothing (firstFrom (t .queues) (t .«take_idx»))
 
@@ -64,9 +70,11 @@ tsFront t = cond (eqb (t .count) 0) Nothing (firstFrom (t .queues) (t .«take_id
 unfoldable pub tsNext : TimeshareQueue → ℕ → ℕ → ℕ → ℕ
 tsNext t q previous next = cond (eqb previous NONE) (cond (eqb next NONE) (cond (eqb q (t .«insert_idx»)) q ((q + 1) % nr-buckets)) q) q
 
+-- the Rust's saturating_sub(1)
 unfoldable pub lessOne : ℕ → ℕ
 lessOne x = x - 1
 
+-- a thread of value v has left bucket q from behind `previous`; its link was `next`
 unfoldable pub tsTaken : TimeshareQueue → ℕ → ℕ → ℕ → ℕ → TimeshareQueue
 tsTaken t q previous next v = record {
   count = difference (t .count) 1;
@@ -76,9 +84,11 @@ tsTaken t q previous next v = record {
   queues = unlinked (t .queues) q previous next;
 }
 
+-- the filling index moves on
 unfoldable pub tsStep : TimeshareQueue → ℕ → TimeshareQueue
 tsStep t steps = record { count = t .count; priorities = t .priorities; «insert_idx» = (t .«insert_idx» + steps) % nr-buckets; «take_idx» = t .«take_idx»; queues = t .queues }
 
+-- "`advance_insert_index` does nothing on an empty queue"; without force, nor where the indexes differ
 unfoldable pub tsAdvance : TimeshareQueue → ℕ → Bool → TimeshareQueue
 tsAdvance t steps force =
     cond (eqb (t .count) 0) t (cond (eqb (t .«insert_idx») (t .«take_idx»)) (tsStep t steps) (cond force (tsStep t steps) t))

@@ -5,6 +5,6 @@ pub mod Parts
 pub mod Well
 pub mod Operations
 pub mod Queues
-pub mod Interface
 pub mod Records
 pub mod System
+pub mod Middle

@@ -1,13 +1,13 @@
 -- One list of threads that runs through the thread records: from the first by each one's link to the last, whose link leads nowhere.
 -- Assumes nothing.
 use Prim.Native.Nat.{ℕ, zero, suc, _≤_, _<_}
-use mathlib.Core.Path.{_≡_, refl, sym, ap, subst, _∙_}
+use mathlib.Core.Path.{_≡_, refl, sym, _∙_}
 use mathlib.Core.Logic.{_⊎_, inl, inr}
-use mathlib.Core.Bool.{Bool, true, false, cond, _||_, true≢false, false≢true}
-use mathlib.Core.List.{List, [], _∷_, _++_, tail}
+use mathlib.Core.Bool.{true, false, cond, true≢false, false≢true}
+use mathlib.Core.List.{List, [], _∷_, _++_}
 use lib.ListN.{length}
 use lib.Dec.{eqb}
-use borrow.Author.Tests.{eqb-true, eqb-false, eq-eqb, ne-eqb}
+use borrow.Author.Tests.{eqb-true, eq-eqb, ne-eqb}
 use native.Mathlib.Omega.{arith}
 use Rattle.rules.specs.Line.{has, both, Distinct, Below}
 use Rattle.rules.specs.Queue.{empty}

@@ -1,48 +1,44 @@
 -- THE LAWS OF ONE RUN QUEUE: what a put, a look, a take, a clock and a hard tick of the code's run queue do is what the rules' do. Assumes nothing.
 use Prim.Native.Nat.{ℕ, zero, suc, _+_, _-_, _*_, _/_, _%_, _^_, _≤_, _<_}
-use mathlib.Core.Path.{_≡_, refl, sym, ap, subst, _∙_}
-use mathlib.Core.Bool.{Bool, true, false, cond, not, _&&_, _||_, true≢false, false≢true}
+use mathlib.Core.Path.{_≡_, refl, sym, ap, _∙_}
+use mathlib.Core.Bool.{Bool, true, false, cond, not, _&&_, _||_, true≢false}
 use mathlib.Core.List.{List, [], _∷_, _++_, map}
 use lib.ListN.{length, length-append, getD}
 use lib.Dec.{eqb, ltb}
-use borrow.Author.Tests.{eqb-true, eqb-false, eq-eqb, ne-eqb, ltb-true}
-use native.Mathlib.Nat.{mod-lt, mod-eq-of-lt, div-le-self}
-use native.Mathlib.Numerals.{add-one}
+use borrow.Author.Tests.{eq-eqb, ne-eqb}
+use native.Mathlib.Nat.{mod-eq-of-lt, div-le-self}
 use native.Mathlib.Omega.{arith}
 use Rattle.rules.specs.declared.PriorityClass.{PriorityClass}
 use Rattle.rules.specs.declared.PriorityClass.the-variants as class
 use Rattle.rules.specs.declared.Priority.{Priority}
 use Rattle.rules.specs.declared.Part.{Part}
 use Rattle.rules.specs.declared.Part.the-variants as part
-use Rattle.rules.specs.Line.{has, count, both, Distinct, Below, Comes, comes-length, comes-has, comes-distinct, comes-below, has-left, has-right, distinct-left, distinct-right, distinct-apart, distinct-length}
-use Rattle.rules.specs.Buckets.{Buckets, bucket, around, nothing, found, scan, join, pop, Hit, scan-nothing, scan-found, around-join, around-pop}
+use Rattle.rules.specs.Line.{has, both, Distinct, Below, Comes, comes-length, comes-has, comes-distinct, comes-below, has-left, has-right, distinct-left, distinct-right, distinct-apart, distinct-length}
+use Rattle.rules.specs.Buckets.{Buckets, bucket, nothing, found, scan, pop, scan-found}
 use Rattle.rules.specs.Buckets.{Found as Foundₗ}
-use Rattle.rules.specs.Priority.{nr-values, priority, from-raw, raw, less, class-at, cut}
-use Rattle.rules.specs.Queue.{Queue, nr-buckets, width, no-queue, realtime-line, timeshare-line, idle-line, order, load, timeshare-load, empty, movable, part-of, part-for, class-bucket, offset, value-bucket, step-back, timeshare-bucket, bucket-for, join-in, insert}
+use Rattle.rules.specs.Priority.{nr-values, priority, from-raw, raw, class-at, cut}
+use Rattle.rules.specs.Queue.{Queue, nr-buckets, width, no-queue, realtime-line, timeshare-line, idle-line, order, load, timeshare-load, empty, movable, part-of, part-for, class-bucket, value-bucket, timeshare-bucket, bucket-for, join-in, insert}
 use Rattle.rules.specs.Queue.{Next, nobody, next-in, first-in, next-idle, next-timeshare, next, leave, asked, advance-insert-index, said-after-put, highest-bucket, highest-value, is-class, said-realtime, said-idle, said-timeshare, said-after-take}
-use Rattle.rules.specs.Queue.{Arrival as Arrivalₗ}
 use Rattle.rules.specs.Times.{timeslice, deadline-distance}
 use Rattle.rules.specs.State.{at, idle-priority}
-use Rattle.rules.specs.Effect.{Shape, start-order, some-bucket, bucket-for-in, class-bucket-in, timeshare-bucket-in, join-comes, NextIs, next-nobody, next-head, next-is}
+use Rattle.rules.specs.Effect.{Shape, start-order, bucket-for-in, class-bucket-in, timeshare-bucket-in, join-comes, NextIs, next-nobody, next-head, next-is}
 use Rattle.thread.specs.Thread.{NONE}
 use Rattle.queue.specs.declared.lists.Lists.{Lists}
 use Rattle.queue.specs.declared.pq.PriorityQueue.{PriorityQueue}
 use Rattle.queue.specs.declared.timeshare.TimeshareQueue.{TimeshareQueue}
 use Rattle.runqueue.specs.declared.rq.RunQueue.{RunQueue}
 use Rattle.runqueue.specs.declared.rq.Arrival.{Arrival}
-use Rattle.runqueue.specs.declared.rq.Put.{Put}
-use Rattle.runqueue.specs.declared.rq.Front.{Front}
 use Rattle.runqueue.specs.declared.rq.Front.the-variants as front
 use Rattle.queue.specs.Num.{sum, difference, difference-exact, half-product}
 use Rattle.queue.specs.Lists.{pushBack}
-use Rattle.queue.specs.PriorityQueue.{noPriority, pqEmpty, pqHighest, pqInsert, pqFront, pqTaken}
-use Rattle.queue.specs.Timeshare.{noTimeshare, tsEmpty, tsHighest, tsIndex, tsBucket, tsInsert, tsFront, tsTaken, tsStep, tsAdvance}
+use Rattle.queue.specs.PriorityQueue.{pqHighest, pqInsert}
+use Rattle.queue.specs.Timeshare.{noTimeshare, tsIndex, tsBucket, tsInsert, tsTaken}
 use Rattle.runqueue.specs.RunQueue.{noRunQueue, rqEmpty, raised, saidRealtime, saidTimeshare, counted, withRealtime, withTimeshare, withIdle, advertising, rqInsertRealtime, rqInsertTimeshare, rqInsertIdle, rqInsertInto, rqInsert, firstIn, rqFrontIdle, rqFrontTimeshare, rqFrontRealtime, rqFront}
 use Rattle.runqueue.specs.RunQueue.{uncounted, rqTakenRealtime, rqRecalc, rqTakenTimeshare, rqTakenIdle, rqTakenFrom, rqTaken, rqClock, rqHardtick}
 use Rattle.thread.specs.Priority.{raw-again}
-use Rattle.represent.specs.Linked.{Behind-in, linkAfter, walk, Alike, below-has, has-first, has-later, walk-chain}
+use Rattle.represent.specs.Linked.{Behind-in, linkAfter, walk, Alike, has-first, has-later, walk-chain}
 use Rattle.represent.specs.Shown.{Shown, as-found, push-in, push-alike, no-bucket, below-bucket, distinct-bucket}
-use Rattle.represent.specs.Counts.{tally, up-one, down-one, movable-comes, movable-most, moved-up, moved-down}
+use Rattle.represent.specs.Counts.{up-one, down-one, movable-comes, movable-most, moved-up, moved-down}
 use Rattle.represent.specs.Parts.{line, Part-well, Share-well, no-part, part-frame, part-front, part-empty, part-highest, part-push, part-taken, no-share, share-frame, share-front, share-empty, share-highest, share-push, share-taken, share-step, share-advance}
 use Rattle.represent.specs.Well.{Marks, Reading, Well, queue-read, reading, new-reading, as-arrival, put-reading, take-reading, clock-reading, hardtick-reading, value-after, marks-after, Follows}
 
@@ -129,7 +125,7 @@ module _ (limit : ℕ) (small : limit ≤ NONE) (Q : Queue) (numbered : Below li
     il-most : length (idle-line Q) ≤ NONE
     il-most = omega (arith, room-all, lengths Q)
 
-movable-same : (f g : ℕ → Bool) (l : List ℕ) → ((z : ℕ) → has z l ≡ true → f z ≡ g z) → movable f l ≡ movable g l
+pub movable-same : (f g : ℕ → Bool) (l : List ℕ) → ((z : ℕ) → has z l ≡ true → f z ≡ g z) → movable f l ≡ movable g l
 unfolding movable has
 movable-same f g [] h = refl
 movable-same f g (x ∷ l) h = rw (h x (has-first x l), movable-same f g l (λ z e. h z (has-later z x l e)))

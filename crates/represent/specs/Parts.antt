@@ -1,9 +1,9 @@
 -- The parts of a run queue, with their counts: what a put, a take and a look do to them. Assumes nothing.
 use Prim.Native.Nat.{ℕ, zero, suc, _+_, _-_, _*_, _/_, _%_, _≤_, _<_}
-use mathlib.Core.Path.{_≡_, refl, sym, ap, subst, _∙_}
-use mathlib.Core.Bool.{Bool, true, false, cond, not, _&&_, true≢false, false≢true}
-use mathlib.Core.List.{List, [], _∷_, _++_}
-use lib.ListN.{length, getD, set, replicate, length-set, length-replicate, getD-replicate}
+use mathlib.Core.Path.{_≡_, refl, sym, ap, _∙_}
+use mathlib.Core.Bool.{Bool, true, false, cond, false≢true}
+use mathlib.Core.List.{List, [], _∷_}
+use lib.ListN.{length, getD, set, replicate, length-set, getD-replicate}
 use lib.Seq.{getD-set-same, getD-set-other}
 use lib.Dec.{eqb, ltb}
 use borrow.Author.Tests.{eqb-true, eqb-false, eq-eqb, ne-eqb, lt-ltb, le-ltb, ltb-true, ltb-false}
@@ -11,24 +11,23 @@ use native.Mathlib.Nat.{zero-add, mod-lt, mod-eq-of-lt, mul-le-mul-right}
 use native.Mathlib.Numerals.{add-one}
 use native.Mathlib.Omega.{arith}
 use Rattle.rules.specs.Line.{has, count, both, Distinct, Below, Comes, comes-length, comes-has}
-use Rattle.rules.specs.Buckets.{Buckets, bucket, around, nothing, found, scan, join, pop, Hit, scan-nothing, scan-found, around-join, around-pop, bucket-pop}
+use Rattle.rules.specs.Buckets.{Buckets, bucket, around, nothing, found, scan, join, pop, Hit, scan-found, around-join, around-pop, bucket-pop}
 use Rattle.rules.specs.Buckets.{Found as Foundₗ}
 use Rattle.rules.specs.Priority.{nr-values}
-use Rattle.rules.specs.Queue.{nr-buckets, width, empty, next-take-idx, step-back, highest-bucket, highest-value}
+use Rattle.rules.specs.Queue.{nr-buckets, width, empty, next-take-idx, highest-bucket, highest-value}
 use Rattle.rules.specs.Effect.{some-bucket, empty-true, hit-in, next-take-idx-in, around-next-take-idx}
 use Rattle.thread.specs.Thread.{NONE}
 use Rattle.queue.specs.declared.lists.Lists.{Lists}
 use Rattle.queue.specs.declared.lists.Pushed.{Pushed}
-use Rattle.queue.specs.declared.lists.Found.{Found}
-use Rattle.queue.specs.declared.lists.Found.the-variants.{At, Nothing}
+use Rattle.queue.specs.declared.lists.Found.the-variants.{Nothing}
 use Rattle.queue.specs.declared.pq.PriorityQueue.{PriorityQueue}
 use Rattle.queue.specs.declared.timeshare.TimeshareQueue.{TimeshareQueue}
-use Rattle.queue.specs.Num.{sum, difference}
-use Rattle.queue.specs.Lists.{noLists, pushBack, unlinked, firstFrom, highestHeld}
+use Rattle.queue.specs.Num.{sum}
+use Rattle.queue.specs.Lists.{pushBack, firstFrom, highestHeld}
 use Rattle.queue.specs.PriorityQueue.{noPriority, pqEmpty, pqHighest, pqFront, pqTaken}
 use Rattle.queue.specs.Timeshare.{noTimeshare, tsEmpty, topCounts, tsHighest, tsFront, tsNext, slot, lessOne, tsTaken, tsStep, tsAdvance}
-use Rattle.represent.specs.Linked.{Chain, Linked, linkAfter, Alike, has-first, has-later, linked-none, linked-pop}
-use Rattle.represent.specs.Shown.{Shown, as-found, no-lists, shown-frame, shown-push, push-alike, shown-pop, scan-same, top-same, no-bucket, below-bucket, has-bucket}
+use Rattle.represent.specs.Linked.{linkAfter, Alike, has-first, has-later, linked-none, linked-pop}
+use Rattle.represent.specs.Shown.{Shown, as-found, no-lists, shown-frame, shown-push, shown-pop, scan-same, top-same, below-bucket, has-bucket}
 use Rattle.represent.specs.Counts.{tally, up-one, down-one, less-one, tally-comes, tally-same, tally-most}
 
 -- the threads of a part, from an index onward round

@@ -1,25 +1,26 @@
 -- THE RUN QUEUES OF ALL CPUS OVER ONE SLICE OF RECORDS: what one does leaves the others as they are. Assumes nothing.
 use Prim.Native.Nat.{ℕ, _≤_, _<_}
-use mathlib.Core.Path.{_≡_, refl, sym, ap, subst, _∙_}
-use mathlib.Core.Bool.{Bool, true, false, cond, _&&_, _||_, true≢false, false≢true}
+use mathlib.Core.Path.{_≡_, refl, sym, _∙_}
+use mathlib.Core.Bool.{Bool, true, false, _&&_, true≢false}
 use lib.Dec.{eqb}
-use borrow.Author.Tests.{eqb-true, eqb-false, eq-eqb, ne-eqb}
+use borrow.Author.Tests.{eqb-true, eqb-false, ne-eqb}
 use Rattle.rules.specs.declared.Part.{Part}
 use Rattle.rules.specs.Line.{has, both}
 use Rattle.rules.specs.Priority.{nr-values}
-use Rattle.rules.specs.Queue.{Queue, order, movable, Next, nobody, next-in, leave, asked, next, advance-insert-index}
+use Rattle.rules.specs.Queue.{Queue, order, movable, Next, nobody, next-in, leave, asked, next}
 use Rattle.rules.specs.State.{at}
 use Rattle.rules.specs.Effect.{advance-order}
+use Rattle.rules.specs.Sound.{at-here, at-there}
 use Rattle.thread.specs.Thread.{NONE}
 use Rattle.runqueue.specs.declared.rq.RunQueue.{RunQueue}
 use Rattle.runqueue.specs.declared.rq.Arrival.{Arrival}
 use Rattle.runqueue.specs.declared.rq.Put.{Put}
 use Rattle.runqueue.specs.declared.rq.Front.{Front}
 use Rattle.runqueue.specs.declared.rq.Front.the-variants as front
-use Rattle.runqueue.specs.RunQueue.{noRunQueue, rqInsert, rqFront, rqTaken, rqClock, rqHardtick}
+use Rattle.runqueue.specs.RunQueue.{rqInsert, rqFront, rqTaken, rqClock, rqHardtick}
 use Rattle.represent.specs.Linked.{Alike, has-later}
-use Rattle.represent.specs.Well.{Marks, Reading, Well, new-reading, put-reading, take-reading, clock-reading, hardtick-reading, marks-after, Follows}
-use Rattle.represent.specs.Operations.{well-frame, well-shape, take-follows, taken-order, put-follows, put-next-stays, put-value-stays, put-has, clock-follows, hardtick-follows, new-well}
+use Rattle.represent.specs.Well.{Marks, Reading, Well, put-reading, take-reading, clock-reading, hardtick-reading, marks-after, Follows}
+use Rattle.represent.specs.Operations.{well-frame, take-follows, taken-order, put-follows, put-next-stays, put-value-stays, put-has, clock-follows, hardtick-follows}
 
 -- ---- what a reader reads
 
@@ -46,14 +47,6 @@ All-follow limit n m qs Rs c (front.At p b x) a =
 
 -- ----
 
-pub at-here {ℓ} : {A : Type ℓ} (f : ℕ → A) (c : ℕ) (v : A) → at f c v c ≡ v
-unfolding at
-at-here f c v = rw (eq-eqb c c refl)
-
-pub at-there {ℓ} : {A : Type ℓ} (f : ℕ → A) (c : ℕ) (v : A) (d : ℕ) → eqb d c ≡ false → at f c v d ≡ f d
-unfolding at
-at-there f c v d e = rw e
-
 -- who is handed out was next
 asked-next : (pinned : ℕ → Bool) (Q : Queue) (stealing : Bool) (p : Part) (b x : ℕ) → asked pinned Q stealing ≡ next-in p b x → next Q ≡ next-in p b x
 unfolding asked
@@ -79,14 +72,14 @@ module _ (limit n : ℕ) (m : Marks) (qs : ℕ → RunQueue) (Rs : ℕ → Readi
         one : (d : ℕ) → d < n → Well limit m′ (at qs c q′ d) (at Rs c R′ d)
         one d h = both (eqb d c)
             (λ e. rw (eqb-true d c e, at-here qs c q′, at-here Rs c R′) new)
-            (λ e. rw (at-there qs c q′ d e, at-there Rs c R′ d e) (well-frame m′ (w .each d h) (same d h e .links) (same d h e .pins) (same d h e .values)))
+            (λ e. rw (at-there qs c q′ d (eqb-false d c e), at-there Rs c R′ d (eqb-false d c e)) (well-frame m′ (w .each d h) (same d h e .links) (same d h e .pins) (same d h e .values)))
 
         two : (d e z : ℕ) → d < n → e < n → waits (at Rs c R′) d z ≡ true → waits (at Rs c R′) e z ≡ true → d ≡ e
         two d e z h k a b = both (eqb d c)
             (λ p. both (eqb e c) (λ r. eqb-true d c p ∙ sym (eqb-true e c r))
-            (λ r. absurd (true≢false (sym (rw (at-there Rs c R′ e r) at b) ∙ free e z k r (rw (eqb-true d c p, at-here Rs c R′) at a)))))
-            (λ p. both (eqb e c) (λ r. absurd (true≢false (sym (rw (at-there Rs c R′ d p) at a) ∙ free d z h p (rw (eqb-true e c r, at-here Rs c R′) at b))))
-            (λ r. w .apart d e z h k (rw (at-there Rs c R′ d p) at a) (rw (at-there Rs c R′ e r) at b)))
+            (λ r. absurd (true≢false (sym (rw (at-there Rs c R′ e (eqb-false e c r)) at b) ∙ free e z k r (rw (eqb-true d c p, at-here Rs c R′) at a)))))
+            (λ p. both (eqb e c) (λ r. absurd (true≢false (sym (rw (at-there Rs c R′ d (eqb-false d c p)) at a) ∙ free d z h p (rw (eqb-true e c r, at-here Rs c R′) at b))))
+            (λ r. w .apart d e z h k (rw (at-there Rs c R′ d (eqb-false d c p)) at a) (rw (at-there Rs c R′ e (eqb-false e c r)) at b)))
 
     elsewhere : (d z : ℕ) → d < n → eqb d c ≡ false → waits Rs c z ≡ true → waits Rs d z ≡ false
     elsewhere d z h e a = both (waits Rs d z) (λ b. absurd (eqb-false d c e (w .apart d c z h cn b a))) (λ b. b)

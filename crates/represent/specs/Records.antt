@@ -1,14 +1,13 @@
 -- THE RECORDS: what run queues ask of a list of thread records, and that the writes of a put and of a take are those of Well.antt. Assumes nothing.
-use Prim.Native.Nat.{ℕ, _≤_, _<_}
-use mathlib.Core.Path.{_≡_, refl, sym, ap, _∙_}
-use mathlib.Core.Logic.{_⊎_, inl, inr}
-use mathlib.Core.Bool.{Bool, true, false, cond}
+use Prim.Native.Nat.{ℕ, _<_}
+use mathlib.Core.Path.{_≡_, refl, ap, _∙_}
+use mathlib.Core.Logic.{inl, inr}
+use mathlib.Core.Bool.{false, cond}
 use mathlib.Core.List.{List}
-use lib.ListN.{length, getD, set, length-set}
+use lib.ListN.{length, set, length-set}
 use lib.Seq.{getD-set-same, getD-set-other, set-out}
 use lib.Dec.{eqb, ltb}
-use borrow.Author.Tests.{eqb-true, eqb-false, eq-eqb, ne-eqb, ltb-true, ltb-false}
-use native.Mathlib.Omega.{arith}
+use borrow.Author.Tests.{eqb-true, eqb-false, ltb-true, ltb-false}
 use Rattle.rules.specs.declared.Part.{Part}
 use Rattle.rules.specs.declared.Part.the-variants as part
 use Rattle.rules.specs.Line.{both}
@@ -22,7 +21,7 @@ use Rattle.thread.specs.Priority.{stable-effective-priority, reads-stable}
 use Rattle.thread.specs.Place.{reads-place, reads-next}
 use Rattle.represent.specs.Linked.{linkAfter, Behind-in}
 use Rattle.represent.specs.Well.{Marks, value-after}
-use Rattle.represent.specs.Interface.{recordAt, steadyIn, putIn, linkBehind}
+use Rattle.lent.specs.Rq.{recordAt, steadyIn, putIn, linkBehind}
 
 -- What run queues ask of the records.
 unfoldable pub marks : List Thread → Marks
@@ -39,7 +38,7 @@ read-set ts x t z h =
     both (eqb z x) (λ e. rw (e, eqb-true z x e) (getD-set-same ts x t blank h)) (λ e. rw e (getD-set-other ts x z t blank (eqb-false z x e)))
 
 -- a write that keeps a field, wherever it goes
-kept {ℓ} : {A : Type ℓ} (f : Thread → A) (ts : List Thread) (x : ℕ) (t : Thread) (z : ℕ) → f t ≡ f (recordAt ts x) → f (recordAt (set ts x t) z) ≡ f (recordAt ts z)
+pub kept {ℓ} : {A : Type ℓ} (f : Thread → A) (ts : List Thread) (x : ℕ) (t : Thread) (z : ℕ) → f t ≡ f (recordAt ts x) → f (recordAt (set ts x t) z) ≡ f (recordAt ts z)
 kept f ts x t z e =
     both (ltb x (length ts))
     (λ l. rw (read-set ts x t z (ltb-true _ _ l)) (both (eqb z x) (λ k. rw (k, eqb-true z x k) e) (λ k. rw k)))

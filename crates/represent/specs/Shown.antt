@@ -1,7 +1,7 @@
 -- One part of a run queue: the code's first and last threads of each list, and the links, show the buckets. Assumes nothing.
-use Prim.Native.Nat.{ℕ, zero, suc, _+_, _-_, _*_, _%_, _≤_, _<_}
-use mathlib.Core.Path.{_≡_, refl, sym, ap, subst, _∙_}
-use mathlib.Core.Bool.{Bool, true, false, cond, _||_, true≢false, false≢true}
+use Prim.Native.Nat.{ℕ, zero, suc, _+_, _-_, _%_, _≤_, _<_}
+use mathlib.Core.Path.{_≡_, refl, sym, ap, _∙_}
+use mathlib.Core.Bool.{true, false, cond, true≢false}
 use mathlib.Core.List.{List, [], _∷_, _++_, tail}
 use lib.ListN.{length, getD, set, replicate, length-set, length-replicate, getD-replicate}
 use lib.Seq.{getD-set-same, getD-set-other}
@@ -10,18 +10,17 @@ use borrow.Author.Tests.{eqb-true, eqb-false, eq-eqb, ne-eqb, ltb-true, ltb-fals
 use native.Mathlib.Nat.{mod-lt, mod-eq-of-lt}
 use native.Mathlib.Numerals.{add-one}
 use native.Mathlib.Omega.{arith}
-use Rattle.rules.specs.Line.{has, both, Distinct, Below, has-left, has-right, has-append, distinct-left, distinct-right, distinct-apart}
+use Rattle.rules.specs.Line.{has, both, Distinct, Below, has-left, has-right, distinct-left, distinct-right, distinct-apart}
 use Rattle.rules.specs.Buckets.{Buckets, bucket, around, nothing, found, scan, oldest, join, pop, round-meets, around-at}
 use Rattle.rules.specs.Buckets.{Found as Foundₗ}
-use Rattle.rules.specs.Queue.{nr-buckets, width, empty, highest-bucket}
+use Rattle.rules.specs.Queue.{nr-buckets, empty, highest-bucket}
 use Rattle.rules.specs.Effect.{some-bucket}
 use Rattle.queue.specs.declared.lists.Lists.{Lists}
-use Rattle.queue.specs.declared.lists.Pushed.{Pushed}
 use Rattle.queue.specs.declared.lists.Found.{Found}
 use Rattle.queue.specs.declared.lists.Found.the-variants.{At, Nothing}
 use Rattle.thread.specs.Thread.{NONE}
-use Rattle.queue.specs.Lists.{noLists, pushBack, unlinked, scanHeads, firstFrom, topHeads, highestHeld}
-use Rattle.represent.specs.Linked.{Chain, Ends, Linked, linkAfter, walk, Alike, linked-frame, linked-head, linked-pop, linked-push, link-alike, below-has, linked-none, walk-chain, Behind-in, behind-in}
+use Rattle.queue.specs.Lists.{noLists, pushBack, unlinked, scanHeads, topHeads}
+use Rattle.represent.specs.Linked.{Chain, Ends, Linked, linkAfter, Alike, linked-frame, linked-head, linked-pop, linked-push, link-alike, below-has, linked-none, Behind-in, behind-in}
 
 -- ---- what a reader reads
 

@@ -2,10 +2,9 @@
 -- formed well formed; the queue of its CPU then reads as the rules' function of what it read before, and every other CPU's reads as before.
 -- Any number of CPUs and threads. Assumes nothing.
 use Prim.Native.Nat.{ℕ, _-_, _^_, _≤_, _<_}
-use mathlib.Core.Path.{_≡_, refl, sym, ap, subst, _∙_}
-use mathlib.Core.Logic.{_⊎_, inl, inr}
-use mathlib.Core.Bool.{Bool, true, false, cond, false≢true}
-use mathlib.Core.Option.{Option, none, some}
+use mathlib.Core.Path.{_≡_, refl, sym, subst, _∙_}
+use mathlib.Core.Logic.{inl, inr}
+use mathlib.Core.Bool.{Bool, true, false, false≢true}
 use mathlib.Core.List.{List, []}
 use lib.ListN.{length, getD, set, length-set}
 use lib.Seq.{getD-set-same}
@@ -14,10 +13,10 @@ use borrow.Author.Tests.{eqb-true, eqb-false}
 use native.Mathlib.Omega.{arith}
 use Rattle.rules.specs.Line.{has, both}
 use Rattle.rules.specs.Effect.{start-order}
+use Rattle.rules.specs.Sound.{at-here, at-there}
 use Rattle.rules.specs.declared.Part.{Part}
 use Rattle.rules.specs.Priority.{nr-values}
 use Rattle.rules.specs.Queue.{nr-buckets, order, Next, nobody, next-in, asked}
-use Rattle.rules.specs.Times.{effective-priority}
 use Rattle.rules.specs.State.{at}
 use Rattle.thread.specs.declared.Thread.{Thread}
 use Rattle.thread.specs.Thread.{NONE, RUNNING, with-place}
@@ -29,14 +28,15 @@ use Rattle.runqueue.specs.declared.rq.Arrival.{Arrival}
 use Rattle.runqueue.specs.declared.rq.Put.{Put}
 use Rattle.runqueue.specs.declared.rq.Front.{Front}
 use Rattle.runqueue.specs.declared.rq.Front.the-variants as front
-use Rattle.runqueue.specs.RunQueue.{noRunQueue, rqInsert, rqFront, rqTaken, rqClock, rqHardtick}
-use Rattle.processor.specs.Queue.{queueAt, queueStored, queueInto, storedFrom, Eight, Eights, length-lists, queue-after-store, queue-elsewhere}
+use Rattle.runqueue.specs.RunQueue.{noRunQueue, rqFront, rqTaken, rqClock, rqHardtick}
+use Rattle.processor.specs.Queue.{queueAt, queueStored, queueInto, storedFrom, Eights, length-lists, queue-after-store, queue-elsewhere}
 use Rattle.processor.specs.Window.{length-place}
 use Rattle.represent.specs.Linked.{Behind-in}
 use Rattle.represent.specs.Well.{Marks, Reading, Well, reading, new-reading, put-reading, take-reading, clock-reading, hardtick-reading, marks-after}
 use Rattle.represent.specs.Operations.{reading-is, hardtick-ticks, put-behind, new-well}
-use Rattle.represent.specs.Queues.{at-here, at-there, waits, All-well, Agree, All-follow, all-frame, all-take, all-put, all-clock, all-hardtick}
-use Rattle.represent.specs.Interface.{recordAt, arrivalOf, putIn, linkBehind, putOf, insertDef, leftBy, Took, tookFrom, takeDef, clockDef, hardtickDef}
+use Rattle.represent.specs.Queues.{waits, All-well, Agree, All-follow, all-frame, all-take, all-put, all-clock, all-hardtick}
+use Rattle.lent.specs.declared.rq.Taken.the-variants as taken
+use Rattle.lent.specs.Rq.{recordAt, arrivalOf, putOf, insertDef, leftBy, Took, tookFrom, takeDef, clockDef, hardtickDef}
 use Rattle.represent.specs.Records.{marks, marks-kept, marks-put, length-put}
 
 -- ---- what a reader reads
@@ -55,9 +55,9 @@ arriving ts x tick current = arrivalOf (recordAt ts x) x tick current
 
 -- A take at CPU c where the rules ask for a: nobody comes out and nothing changes, or the thread that the rules hand out.
 unfoldable pub Taken-as : ℕ → ℕ → List Thread → List (List ℕ) → (ℕ → Reading) → ℕ → Took → Next → Type 0
-Taken-as limit n ts cs Rs c d nobody = d ≡ record { answer = none; threads = ts; cpus = cs }
+Taken-as limit n ts cs Rs c d nobody = d ≡ record { answer = taken.Nobody; threads = ts; cpus = cs }
 Taken-as limit n ts cs Rs c d (next-in p b x) =
-    (d .answer ≡ some x) × Good limit n (d .threads) (d .cpus) (at Rs c (take-reading (marks ts .value) (Rs c) p b))
+    (d .answer ≡ taken.Thread x) × Good limit n (d .threads) (d .cpus) (at Rs c (take-reading (marks ts .value) (Rs c) p b))
 
 -- ---- for proofs
 
@@ -124,7 +124,7 @@ module _ (limit n : ℕ) (ts : List Thread) (cs : List (List ℕ)) (Rs : ℕ →
         same : (d : ℕ) → d < n → queueAt (queueStored cs c q′) d ≡ at (queueAt cs) c q′ d
         same d h = both (eqb d c)
             (λ e. rw (eqb-true d c e, at-here (queueAt cs) c q′) (queue-after-store cs c q′ (omega (arith, g .cpus)) (g .rows c cn) (eights (w .each c cn))))
-            (λ e. rw (at-there (queueAt cs) c q′ d e) (unfold queueAt in rw (queue-elsewhere cs c d q′ (eqb-false d c e))))
+            (λ e. rw (at-there (queueAt cs) c q′ d (eqb-false d c e)) (unfold queueAt in rw (queue-elsewhere cs c d q′ (eqb-false d c e))))
 
         row : (d : ℕ) → d < n → 72 ≤ length (getD (queueStored cs c q′) d [])
         row d h = both (eqb d c)
@@ -136,6 +136,7 @@ module _ (limit n : ℕ) (ts : List Thread) (cs : List (List ℕ)) (Rs : ℕ →
       pub put-law : (x tick : ℕ) (current : Bool) → x < limit → ((d : ℕ) → d < n → waits Rs d x ≡ false)
           → (let d = insertDef ts cs c x tick current in
           Good limit n (d .threads) (d .cpus) (at Rs c (put-reading (Rs c) (arriving ts x tick current))))
+      unfolding insertDef
       put-law x tick current xn free =
           let a : Arrival = arriving ts x tick current in
           let u : Put = putOf ts cs c x tick current in
@@ -170,6 +171,7 @@ module _ (limit n : ℕ) (ts : List Thread) (cs : List (List ℕ)) (Rs : ℕ →
 
       -- A TAKE, the CPU's own or stealing
       pub take-law : (stealing : Bool) → Taken-as limit n ts cs Rs c (takeDef ts cs c stealing) (asked (marks ts .pinned) (Rs c .queue) stealing)
+      unfolding takeDef
       take-law stealing = go (rqFront (queueAt cs c) stealing) (asked (marks ts .pinned) (Rs c .queue) stealing) (all-take limit n (marks ts) (queueAt cs) Rs (g .shows) c cn small stealing)
         where
           go : (f : Front) (a : Next) → All-follow limit n (marks ts) (queueAt cs) Rs c f a → Taken-as limit n ts cs Rs c (tookFrom ts cs c f) a
@@ -178,13 +180,16 @@ module _ (limit n : ℕ) (ts : List Thread) (cs : List (List ℕ)) (Rs : ℕ →
 
       -- A CLOCK
       pub clock-law : Good limit n ts (clockDef cs c) (at Rs c (clock-reading (Rs c)))
+      unfolding clockDef
       clock-law = stored ts (rqClock (queueAt cs c)) _ (g .records) (all-clock limit n (marks ts) (queueAt cs) Rs (g .shows) c cn small)
 
       -- A HARD TICK: the queue, and the ticks since the last one
       pub hardtick-law : (now : ℕ) → Good limit n ts (hardtickDef cs c now .cpus) (at Rs c (hardtick-reading (Rs c) now))
+      unfolding hardtickDef
       hardtick-law now = stored ts (rqHardtick (queueAt cs c) now .queue) _ (g .records) (all-hardtick limit n (marks ts) (queueAt cs) Rs (g .shows) c cn small now)
 
       pub ticks-law : (now : ℕ) → now < 2 ^ 64 → Rs c .last-tick ≤ now → hardtickDef cs c now .ticks ≡ now - Rs c .last-tick
+      unfolding hardtickDef
       ticks-law now h l = hardtick-ticks limit small (marks ts) (queueAt cs c) (Rs c) (g .shows .each c cn) now h l
 
 -- NEWLY MADE QUEUES: memory in which each CPU's words read as `RunQueue::new`

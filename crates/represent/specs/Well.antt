@@ -1,10 +1,9 @@
 -- WHAT ONE RUN QUEUE READS AS. The code's run queue has heads, tails and counters, the thread records have links; document 01's queue is lists.
 -- A reader reads all of this file, and the first part of Linked, Shown and Parts. Assumes nothing.
-use Prim.Native.Nat.{ℕ, _≤_, _<_}
+use Prim.Native.Nat.{ℕ}
 use mathlib.Core.Path.{_≡_}
 use mathlib.Core.Bool.{Bool}
-use mathlib.Core.List.{List, map}
-use lib.ListN.{length}
+use mathlib.Core.List.{map}
 use Rattle.rules.specs.declared.Priority.{Priority}
 use Rattle.rules.specs.declared.Part.{Part}
 use Rattle.rules.specs.declared.Part.the-variants as part

@@ -14,7 +14,8 @@ use mathlib.Core.Bool.{Bool, true, false}
 use mathlib.Core.Option.{Option, none, some}
 use mathlib.Core.List.{List, [], _∷_, _++_, append-assoc}
 use Rattle.rules.specs.declared.Part.the-variants as part
-use Rattle.rules.specs.Line.{has, ahead, Distinct}
+use native.Mathlib.Omega.{arith}
+use Rattle.rules.specs.Line.{has, ahead, both, Distinct}
 use Rattle.rules.specs.Queue.{Queue, nr-buckets, order}
 use Rattle.rules.specs.Puts.{Put, PutOrTake, a-put, a-take}
 use Rattle.rules.specs.Ahead.{Wait, who-waits, threads, In, how-many, unpinned, ahead-of, gone, a-of, b-of, served, calm-while}
@@ -40,9 +41,10 @@ pub record AsDemanded (bound : ℕ) (q : Queue) (log : List PutOrTake) : Type 0 
   -- 3. An own take finds nothing exactly when nobody waits, a stealing one exactly when nobody unpinned does.
   pub own : (pre post : List PutOrTake) (out : Option ℕ) → log ≡ pre ++ (a-take false out ∷ post) → (out ≡ none) ↔ (who-waits pre ≡ [])
   pub stealing : (pre post : List PutOrTake) (out : Option ℕ) → log ≡ pre ++ (a-take true out ∷ post) → (out ≡ none) ↔ (how-many unpinned (who-waits pre) ≡ 0)
-  -- 4. The number of its turn is bounded for a timeshare thread, if the arrivals are calm while it waits.
+  -- 4. A timeshare thread is gone when so many takes as the bound have handed out a thread, if the arrivals are calm while it waits: the number of its turn
+  -- is at most the bound.
   pub within : (pre mid post : List PutOrTake) (p : Put) → log ≡ pre ++ (a-put p ∷ mid) ++ post → p .part ≡ part.Timeshare → calm-while (p .thread) mid ≡ true
-      → a-of pre p + b-of pre p mid + 1 ≤ bound
+      → (a-of pre p + b-of pre p mid + 1 ≤ bound) × (bound ≤ served mid → gone (p .thread) mid ≡ true)
 
 -- ---- the proof
 
@@ -56,7 +58,9 @@ as-demanded {limit} {q} {log} k = record {
   waits = λ pre mid post p e. (k .past (pre ++ (a-put p ∷ mid)) post e) .still pre mid p refl;
   own = λ pre post o e. (k .past (pre ++ (a-take false o ∷ [])) post (e ∙ rw (append-assoc pre (a-take false o ∷ []) post))) .own pre o refl;
   stealing = λ pre post o e. (k .past (pre ++ (a-take true o ∷ [])) post (e ∙ rw (append-assoc pre (a-take true o ∷ []) post))) .stealing pre o refl;
-  within = λ pre mid post p e. (k .past (pre ++ (a-put p ∷ mid)) post e) .within pre mid p refl;
+  within = λ pre mid post p e t m.
+      let n : a-of pre p + b-of pre p mid + 1 ≤ limit * nr-buckets = (k .past (pre ++ (a-put p ∷ mid)) post e) .within pre mid p refl t m in
+      (n, λ h. both (gone (p .thread) mid) (λ g. g) (λ g. absurd (omega (arith, (k .past (pre ++ (a-put p ∷ mid)) post e) .still pre mid p refl .0 g))));
 }
 
 -- with any limits: the bound is the number of threads times that of buckets

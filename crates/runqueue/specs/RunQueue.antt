@@ -1,7 +1,7 @@
 -- The run queue as the code has it. Assumes nothing.
 use Prim.Native.Nat.{ℕ}
-use mathlib.Core.Path.{_≡_, refl, sym, ap}
-use mathlib.Core.Bool.{Bool, true, false, cond, _&&_}
+use mathlib.Core.Path.{_≡_, sym, ap}
+use mathlib.Core.Bool.{Bool, true, cond, _&&_}
 use lib.Dec.{eqb}
 use Rattle.rules.specs.declared.PriorityClass.the-variants as class
 use Rattle.rules.specs.declared.Priority.{Priority}
@@ -26,10 +26,12 @@ use Rattle.runqueue.specs.declared.rq.Front.{Front}
 use Rattle.runqueue.specs.declared.rq.Front.the-variants as front
 use Rattle.runqueue.specs.declared.rq.Hardtick.{Hardtick}
 
+-- newly made
 unfoldable pub noRunQueue : RunQueue
 noRunQueue =
     record { realtime = noPriority; timeshare = noTimeshare; idle = noPriority; «current_priority» = 0; load = 0; «timeshare_load» = 0; movable = 0; «last_tick» = 0 }
 
+-- nobody waits in any part
 unfoldable pub rqEmpty : RunQueue → Bool
 rqEmpty q = pqEmpty (q .realtime) && (tsEmpty (q .timeshare) && pqEmpty (q .idle))
 
@@ -96,6 +98,7 @@ saidRealtime said left =
     cond (is-class class.Realtime (from-raw said))
     (cond (pqEmpty left) (raw (priority class.User 127)) (raw (priority class.Realtime (pqHighest left)))) said
 
+-- the same of the timeshare part, beside which `idle` is the idle part
 unfoldable pub saidTimeshare : ℕ → TimeshareQueue → PriorityQueue → ℕ
 saidTimeshare said left idle =
     cond (is-class class.User (from-raw said))
@@ -103,6 +106,7 @@ saidTimeshare said left idle =
 
 -- ---- a put
 
+-- one more waits: what every put does first
 unfoldable pub counted : RunQueue → Priority → Bool → RunQueue
 counted q p pinned = record {
   realtime = q .realtime;
@@ -135,11 +139,13 @@ rqInsertInto part.Realtime q a = rqInsertRealtime q a
 rqInsertInto part.Timeshare q a = rqInsertTimeshare q a
 rqInsertInto part.Idle q a = rqInsertIdle q a
 
+-- a put, into the part that document 01 gives
 unfoldable pub rqInsert : RunQueue → Arrival → Put
 rqInsert q a = rqInsertInto (part-of (a .priority .class) (a .due)) q a
 
 -- ---- who leaves next
 
+-- what a part's front is of the run queue: where it has none, the next part's
 unfoldable pub firstIn : Part → Found → Front → Front
 firstIn p (found.At b x) later = front.At p b x
 firstIn p found.Nothing later = later
@@ -153,15 +159,18 @@ rqFrontTimeshare q = firstIn part.Timeshare (tsFront (q .timeshare)) (rqFrontIdl
 unfoldable pub rqFrontRealtime : RunQueue → Front
 rqFrontRealtime q = firstIn part.Realtime (pqFront (q .realtime)) (rqFrontTimeshare q)
 
+-- "a stealing take finds nothing only at movable count 0"
 unfoldable pub rqFront : RunQueue → Bool → Front
 rqFront q stealing = cond stealing (cond (eqb (q .movable) 0) front.Nothing (rqFrontRealtime q)) (rqFrontRealtime q)
 
+-- the thread that leaves, NONE if none does
 unfoldable pub frontThread : Front → ℕ
 frontThread (front.At p b x) = x
 frontThread front.Nothing = NONE
 
 -- ---- a thread has left
 
+-- one less waits: what every take does
 unfoldable pub uncounted : RunQueue → Bool → RunQueue
 uncounted q pinned = record {
   realtime = q .realtime;
@@ -179,6 +188,7 @@ rqTakenRealtime q b previous next pinned =
     let p : PriorityQueue = pqTaken (q .realtime) b previous next in
     advertising (withRealtime (uncounted q pinned) p) (saidRealtime (q .«current_priority») p)
 
+-- `recalc_priority_timeshare`
 unfoldable pub rqRecalc : RunQueue → RunQueue
 rqRecalc q = advertising q (saidTimeshare (q .«current_priority») (q .timeshare) (q .idle))
 
@@ -196,15 +206,18 @@ rqTakenFrom part.Realtime q b previous next v pinned = rqTakenRealtime q b previ
 rqTakenFrom part.Timeshare q b previous next v pinned = rqTakenTimeshare q b previous next v pinned
 rqTakenFrom part.Idle q b previous next v pinned = rqTakenIdle q b previous next pinned
 
+-- the thread that `front` answered has left from behind `previous`: its link was `next`, its value when it was put in v
 unfoldable pub rqTaken : RunQueue → Front → ℕ → ℕ → ℕ → Bool → RunQueue
 rqTaken q (front.At p b x) previous next v pinned = rqTakenFrom p q b previous next v pinned
 rqTaken q front.Nothing previous next v pinned = q
 
 -- ---- clock and hard tick
 
+-- `clock` advances the insert index by one
 unfoldable pub rqClock : RunQueue → RunQueue
 rqClock q = withTimeshare q (tsAdvance (q .timeshare) 1 true) (q .«timeshare_load»)
 
+-- the ticks since the last hard tick, modulo 2^64
 unfoldable pub rqHardtick : RunQueue → ℕ → Hardtick
 rqHardtick q now = record {
   queue = record {

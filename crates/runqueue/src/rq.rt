@@ -209,6 +209,18 @@ impl RunQueue {
         from_raw(self.current_priority)
     }
 
+    pub fn current_load(self) -> u64
+        ensures { λ r. ⌜ r ≡ self .load ⌝ }
+    {
+        self.load
+    }
+
+    pub fn movable(self) -> u64
+        ensures { λ r. ⌜ r ≡ self .movable ⌝ }
+    {
+        self.movable
+    }
+
     // One more waits: what every put does first.
     pub fn counted(mut self, p: Priority, pinned: bool) -> Self
         ensures { λ r. ⌜ r ≡ counted self p pinned ⌝ }

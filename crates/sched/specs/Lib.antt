@@ -1,1 +1,6 @@
-pub mod Signal
+pub mod Balance
+pub mod Donate
+pub mod Queues
+pub mod Schedule
+pub mod Ticks
+pub mod World

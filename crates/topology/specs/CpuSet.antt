@@ -107,11 +107,11 @@ clear-small : (w i : ℕ) → w < 2 ^ 64 → clear-bit w i < 2 ^ 64
 unfolding clear-bit
 clear-small w i h = both (bit w i) (λ e. rw e (omega arith)) (λ e. rw e h)
 
-set-same : (w i : ℕ) → bit (set-bit w i) i ≡ true
+pub set-same : (w i : ℕ) → bit (set-bit w i) i ≡ true
 unfolding set-bit power
 set-same w i = both (bit w i) (λ e. rw e e) (λ e. rw e (one-bit (w + 2 ^ (i % 64)) i (add-same w (i % 64) (bit-zero w i e))))
 
-set-other : (w i j : ℕ) → (j % 64 ≡ i % 64 → ⊥) → bit (set-bit w i) j ≡ bit w j
+pub set-other : (w i j : ℕ) → (j % 64 ≡ i % 64 → ⊥) → bit (set-bit w i) j ≡ bit w j
 unfolding set-bit power
 set-other w i j n =
     both (bit w i) (λ e. rw e)

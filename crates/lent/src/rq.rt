@@ -1,0 +1,181 @@
+// The run queues of all CPUs in lent memory (rq.rs): links are fields of the thread records; heads, tails and counters are words of a CPU. A queue is
+// loaded from its CPU's words, goes by value into its operation, and is stored.
+ghost use mathlib.Core.Path.{_≡_};
+ghost use lib.Dec.{eqb};
+ghost use Rattle.rules.specs.Times.{pinned};
+ghost use Rattle.thread.specs.Priority.{stable-effective-priority};
+ghost use Rattle.thread.specs.Reads.{reads};
+ghost use Rattle.thread.specs.Thread.{NONE};
+ghost use Rattle.lent.specs.Rq.{arrivalOf, putIn, linkBehind, insertDef, isNothing, leftBy, takeDef, clockDef, hardtickDef};
+ghost use Rattle.lent.specs.declared.rq.Taken.the-variants as taken;
+use crate::records::get;
+use crate::records::set;
+use processor::rq::load_queue;
+use processor::rq::store_queue;
+use rules::Part;
+use runqueue::rq::Arrival;
+use runqueue::rq::Front;
+use runqueue::rq::RunQueue;
+use thread::NONE;
+use thread::Thread;
+use thread::time::OptionCpu;
+
+// Whom a take hands out.
+pub enum Taken {
+    Thread(u64),
+    Nobody,
+}
+
+fn is_pinned(t: Thread) -> bool
+    ensures { λ r. ⌜ r ≡ pinned (reads t) ⌝ }
+{
+    let cpu = t.pinned_to();
+    match cpu {
+        OptionCpu::Some(c) => true,
+        OptionCpu::None => false,
+    }
+}
+
+// What a put is told of thread x, whose record is t.
+fn arrival(t: Thread, x: u64, tick: u64, current: bool) -> Arrival
+    ensures { λ r. ⌜ r ≡ arrivalOf t x tick current ⌝ }
+{
+    let priority = t.effective_priority();
+    let pinned = is_pinned(t);
+    Arrival {
+        thread: x,
+        priority,
+        current,
+        due: t.deadline <= tick,
+        pinned,
+    }
+}
+
+// The record of a thread that came into this part: it waits, the last of its list. Timeshare keeps the priority that it came in with.
+fn put_in(t: Thread, part: Part) -> Thread
+    ensures { λ r. ⌜ r ≡ putIn t part ⌝ }
+{
+    let last = t.waiting().set_next(NONE);
+    match part {
+        Part::Realtime => last,
+        Part::Timeshare => steadied(last),
+        Part::Idle => last,
+    }
+}
+
+fn steadied(t: Thread) -> Thread
+    ensures { λ r. ⌜ r ≡ stable-effective-priority t .thread ⌝ }
+{
+    let s = t.stable_effective_priority();
+    s.thread
+}
+
+fn is_none(x: u64) -> bool
+    ensures { λ r. ⌜ r ≡ eqb x NONE ⌝ }
+{
+    x == NONE
+}
+
+// The link of thread b, whom x came behind, is set to x.
+fn link_behind(threads: &mut [Thread], b: u64, x: u64)
+    ensures { λ _. ⌜ now (threads .exit) ≡ linkBehind (now (threads .entry)) b x ⌝ }
+{
+    if is_none(b) {
+        return;
+    }
+    let t = get(threads, b);
+    let u = t.set_next(x);
+    set(threads, b, u);
+}
+
+// Thread x goes into the queue of CPU c. current: it comes in as the current thread.
+pub fn insert(
+    threads: &mut [Thread],
+    cpus: &mut [[u64; 96]],
+    c: u64,
+    x: u64,
+    tick: u64,
+    current: bool,
+)
+    ensures { λ _. ⌜ (now (threads .exit) ≡ insertDef (now (threads .entry)) (now (cpus .entry)) c x tick current .threads) × (now (cpus .exit) ≡ insertDef (now (threads .entry)) (now (cpus .entry)) c x tick current .cpus) ⌝ }
+{
+    let t = get(threads, x);
+    let a = arrival(t, x, tick, current);
+    let q = load_queue(cpus, c);
+    let put = q.insert(a);
+    store_queue(cpus, c, put.queue);
+    let u = put_in(t, put.part);
+    set(threads, x, u);
+    link_behind(threads, put.behind, x);
+}
+
+fn is_nothing(front: Front) -> bool
+    ensures { λ r. ⌜ r ≡ isNothing front ⌝ }
+{
+    match front {
+        Front::At {
+            part: _,
+            bucket: _,
+            thread: _,
+        } => false,
+        Front::Nothing => true,
+    }
+}
+
+// The queue when the thread that it found, whose record is t, has left the head of its list: nobody stands before it.
+fn left_by(q: RunQueue, front: Front, t: Thread) -> RunQueue
+    ensures { λ r. ⌜ r ≡ leftBy q front t ⌝ }
+{
+    let stable = t.get_stable_effective_priority();
+    let pinned = is_pinned(t);
+    q.taken(front, NONE, t.next, stable.value, pinned)
+}
+
+fn nobody() -> Taken
+    ensures { λ r. ⌜ r ≡ taken.Nobody ⌝ }
+{
+    Taken::Nobody
+}
+
+fn handed_out(x: u64) -> Taken
+    ensures { λ r. ⌜ r ≡ taken.Thread x ⌝ }
+{
+    Taken::Thread(x)
+}
+
+// A thread is asked of the queue of CPU c: by the CPU itself, or by another that steals.
+pub fn take(threads: &mut [Thread], cpus: &mut [[u64; 96]], c: u64, stealing: bool) -> Taken
+    ensures { λ r. ⌜ (r ≡ takeDef (now (threads .entry)) (now (cpus .entry)) c stealing .answer) × ((now (threads .exit) ≡ takeDef (now (threads .entry)) (now (cpus .entry)) c stealing .threads) × (now (cpus .exit) ≡ takeDef (now (threads .entry)) (now (cpus .entry)) c stealing .cpus)) ⌝ }
+{
+    let q = load_queue(cpus, c);
+    let front = q.front(stealing);
+    if is_nothing(front) {
+        return nobody();
+    }
+    let x = front.thread();
+    let t = get(threads, x);
+    let left = left_by(q, front, t);
+    store_queue(cpus, c, left);
+    let u = t.running();
+    set(threads, x, u);
+    handed_out(x)
+}
+
+// The insert index of CPU c's queue moves on.
+pub fn clock(cpus: &mut [[u64; 96]], c: u64)
+    ensures { λ _. ⌜ now (cpus .exit) ≡ clockDef (now (cpus .entry)) c ⌝ }
+{
+    let q = load_queue(cpus, c);
+    let r = q.clock();
+    store_queue(cpus, c, r);
+}
+
+// CPU c has its hard tick: how many ticks passed since the last.
+pub fn hardtick(cpus: &mut [[u64; 96]], c: u64, tick: u64) -> u64
+    ensures { λ r. ⌜ (r ≡ hardtickDef (now (cpus .entry)) c tick .ticks) × (now (cpus .exit) ≡ hardtickDef (now (cpus .entry)) c tick .cpus) ⌝ }
+{
+    let q = load_queue(cpus, c);
+    let h = q.hardtick(tick);
+    store_queue(cpus, c, h.queue);
+    h.ticks
+}

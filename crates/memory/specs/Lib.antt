@@ -1,0 +1,4 @@
+pub mod Shows
+pub mod Frames
+pub mod Queues
+pub mod Numbers

@@ -1,0 +1,142 @@
+-- WHAT IS READ: each number that the scheduler asks of the words is the rules'. Assumes nothing.
+use Prim.Native.Nat.{ℕ, _+_, _*_, _/_, _%_, _^_, _≤_, _<_}
+use mathlib.Core.Path.{_≡_, refl, sym, ap, subst, _∙_}
+use mathlib.Core.Bool.{Bool, true, false, cond, not, _&&_, _||_}
+use mathlib.Core.Option.{Option, none, some}
+use mathlib.Core.List.{List, []}
+use lib.ListN.{length, getD}
+use lib.Dec.{eqb, ltb, leb}
+use borrow.Author.Tests.{eqb-true, eqb-false, eq-eqb, ne-eqb}
+use native.Mathlib.Omega.{arith}
+use native.Mathlib.Nat.{mul-le-mul, mod-eq-of-lt, div-le-self}
+use Rattle.rules.specs.declared.PriorityClass.{PriorityClass}
+use Rattle.rules.specs.declared.PriorityClass.the-variants as class
+use Rattle.rules.specs.declared.Priority.{Priority}
+use Rattle.rules.specs.Line.{has, both, distinct-length}
+use Rattle.rules.specs.Priority.{from-raw, greater-of, at-most, less}
+use Rattle.rules.specs.Times.{timeslice, deadline-distance, effective-priority, is-some, pinned}
+use Rattle.rules.specs.Queue.{Queue, order, load, timeshare-load, movable, empty}
+use Rattle.rules.specs.State.{at, Limits, Topology, Cpu}
+use Rattle.rules.specs.Schedule.{World, one-unless-idle, current-load, current-priority, is-empty, movable-on, priority-running}
+use Rattle.thread.specs.declared.Thread.{Thread}
+use Rattle.thread.specs.Reads.{reads}
+use Rattle.thread.specs.Thread.{NONE}
+use Rattle.queue.specs.Num.{sum, sum-exact}
+use Rattle.runqueue.specs.declared.rq.RunQueue.{RunQueue}
+use Rattle.runqueue.specs.RunQueue.{rqEmpty}
+use Rattle.processor.specs.Words.{width, word}
+use Rattle.processor.specs.Window.{load-at}
+use Rattle.processor.specs.Queue.{queueAt, queueIn, queueFrom, builtOf}
+use Rattle.processor.specs.Cpu as cpu
+use Rattle.represent.specs.Linked.{below-has}
+use Rattle.represent.specs.Well.{Reading, Well}
+use Rattle.represent.specs.Operations.{empty-is, deadline-exact}
+use Rattle.represent.specs.Records.{marks}
+use Rattle.lent.specs.Rq.{recordAt}
+use Rattle.memory.specs.Shows.{reading-of, number-or-none, mark-in, Words-show, Small, Shows}
+use Rattle.memory.specs.Queues.{movable-same, fits}
+
+-- ---- words that are read by themselves
+
+pub word-priority : (cs : List (List ℕ)) (c : ℕ) → word cs c 61 ≡ queueAt cs c .«current_priority»
+unfolding word queueAt queueIn queueFrom builtOf
+word-priority cs c = sym (load-at (getD cs c []) 56 8 8 5 (omega arith) (omega arith))
+
+pub word-load : (cs : List (List ℕ)) (c : ℕ) → word cs c 62 ≡ queueAt cs c .load
+unfolding word queueAt queueIn queueFrom builtOf
+word-load cs c = sym (load-at (getD cs c []) 56 8 8 6 (omega arith) (omega arith))
+
+pub word-movable : (cs : List (List ℕ)) (c : ℕ) → word cs c 64 ≡ queueAt cs c .movable
+unfolding word queueAt queueIn queueFrom builtOf
+word-movable cs c = sym (load-at (getD cs c []) 64 8 8 0 (omega arith) (omega arith))
+
+-- ---- bounds
+
+slice-most : (shortest : ℕ) (c : PriorityClass) (l : ℕ) → shortest ≤ 2147483648 → timeslice shortest c l ≤ 2147483648
+unfolding timeslice
+slice-most shortest class.User l h =
+    both (eqb l 0) (λ e. rw e (omega arith)) (λ e. rw e
+    (both (ltb (32 / l) shortest) (λ f. rw f h) (λ f. rw f (omega (arith, div-le-self 32 l)))))
+slice-most shortest class.Realtime l h = omega arith
+slice-most shortest class.Background l h = omega arith
+slice-most shortest class.Idle l h = omega arith
+
+-- the sum of a tick and a deadline distance does not wrap
+distance-most : (shortest : ℕ) (c : PriorityClass) (l n : ℕ) → shortest ≤ 2147483648 → n ≤ 2147483648 → deadline-distance shortest c l n ≤ 4611686018427387904
+unfolding deadline-distance
+distance-most shortest c l n h k =
+    let m : timeslice shortest c l * n ≤ 2147483648 * 2147483648 = mul-le-mul (slice-most shortest c l h) k in omega arith
+
+one-more : (n : ℕ) (o : Option ℕ) → n ≤ 2147483648 → cond (is-some o) ((n + 1) % 2 ^ 64) n ≡ n + one-unless-idle o
+unfolding is-some one-unless-idle
+one-more n none h = omega arith
+one-more n (some x) h = omega arith
+
+one-most : (o : Option ℕ) → one-unless-idle o ≤ 1
+unfolding one-unless-idle
+one-most none = omega arith
+one-most (some x) = omega arith
+
+module _ {limits : Limits} {topology : Topology} {known active : ℕ → Bool} {ts : List Thread} {cs : List (List ℕ)} {w : World} (s : Shows limits topology known active ts cs w) (small : Small limits) (c : ℕ) (near : c < limits .cpus) where
+  well : Well (limits .threads) (marks ts) (queueAt cs c) (reading-of (w .cpus c))
+  well = s .queues .shows .each c near
+
+  -- the run queue
+  pub load-shown : queueAt cs c .load ≡ load (w .cpus c .queue)
+  unfolding reading-of
+  load-shown = well .load-is
+
+  pub timeshare-load-shown : queueAt cs c .«timeshare_load» ≡ timeshare-load (w .cpus c .queue)
+  unfolding reading-of
+  timeshare-load-shown = well .timeshare-load-is
+
+  pub advertised-shown : from-raw (queueAt cs c .«current_priority») ≡ w .cpus c .advertised
+  unfolding reading-of
+  advertised-shown = well .advertised-is
+
+  pub empty-shown : rqEmpty (queueAt cs c) ≡ is-empty (w .cpus c)
+  unfolding reading-of is-empty
+  empty-shown = empty-is (limits .threads) (fits small) (marks ts) (queueAt cs c) (reading-of (w .cpus c)) well
+
+  pub movable-shown : queueAt cs c .movable ≡ movable-on w c
+  unfolding reading-of movable-on marks
+  movable-shown =
+      well .movable-is
+      ∙ movable-same (marks ts .pinned) (λ x. pinned (w .threads x)) (order (w .cpus c .queue))
+      (λ z h. ap pinned (s .threads z (below-has (limits .threads) (order (w .cpus c .queue)) (well .numbered) z h)))
+
+  pub load-most : load (w .cpus c .queue) ≤ limits .threads
+  unfolding reading-of load
+  load-most = distinct-length (limits .threads) (order (w .cpus c .queue)) (well .once) (well .numbered)
+
+  -- `current_load`
+  pub current-load-shown : cpu.current-load cs c ≡ current-load (w .cpus c)
+  unfolding cpu.current-load current-load
+  current-load-shown =
+      ap (λ (b : Bool). cond b ((word cs c 62 + 1) % 2 ^ 64) (word cs c 62)) (s .words c near .is-idle)
+      ∙ ap (λ n. cond (is-some (w .cpus c .running)) ((n + 1) % 2 ^ 64) n) (word-load cs c ∙ load-shown)
+      ∙ one-more (load (w .cpus c .queue)) (w .cpus c .running) (omega (arith, load-most, small .threads))
+
+  pub current-load-most : current-load (w .cpus c) ≤ 2147483649
+  unfolding current-load
+  current-load-most = omega (arith, load-most, small .threads, one-most (w .cpus c .running))
+
+  -- the priority that a choice compares
+  pub priority-shown : cpu.current-priority cs c ≡ current-priority (w .cpus c)
+  unfolding cpu.current-priority current-priority
+  priority-shown = rw (word-priority cs c, advertised-shown, s .words c near .own-priority)
+
+  -- deadlines
+  pub deadline-shown : (tick : ℕ) (k : PriorityClass) → tick ≤ 4611686018427387904
+      → sum tick (deadline-distance (limits .shortest) k (queueAt cs c .«timeshare_load») (queueAt cs c .load) % 2 ^ 64)
+      ≡ tick + deadline-distance (limits .shortest) k (timeshare-load (w .cpus c .queue)) (load (w .cpus c .queue))
+  deadline-shown tick k h =
+      let Q : Queue = w .cpus c .queue in
+      let d : ℕ = deadline-distance (limits .shortest) k (timeshare-load Q) (load Q) in
+      let m : d ≤ 4611686018427387904 = distance-most (limits .shortest) k (timeshare-load Q) (load Q) (small .shortest) (omega (arith, load-most, small .threads)) in
+      ap (λ n. sum tick (n % 2 ^ 64)) (ap (λ l. deadline-distance (limits .shortest) k l (queueAt cs c .load)) timeshare-load-shown ∙ ap (λ l. deadline-distance (limits .shortest) k (timeshare-load Q) l) load-shown)
+      ∙ ap (λ n. sum tick n) (mod-eq-of-lt (omega arith)) ∙ sum-exact tick d (omega arith)
+
+  -- what it runs
+  pub running-shown : word cs c 74 ≡ number-or-none (w .cpus c .running)
+  running-shown = s .words c near .running

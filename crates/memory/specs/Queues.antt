@@ -1,0 +1,401 @@
+-- A PUT AND A TAKE: what the definitions of the lent functions leave shows what `insert` and `take` of the rules leave. Assumes nothing.
+use Prim.Native.Nat.{ℕ, _%_, _≤_, _<_}
+use mathlib.Core.Path.{_≡_, refl, sym, ap, subst, _∙_}
+use mathlib.Core.Logic.{_≢_}
+use mathlib.Core.Bool.{Bool, true, false, cond, _||_, true≢false, false≢true}
+use mathlib.Core.Option.{Option, none, some}
+use mathlib.Core.List.{List, [], _∷_}
+use lib.ListN.{length, getD, set, length-set}
+use lib.Seq.{getD-set-same, set-out}
+use lib.Dec.{eqb, ltb}
+use borrow.Author.Tests.{eqb-true, eqb-false, eq-eqb, ne-eqb, ltb-true, ltb-false}
+use native.Mathlib.Omega.{arith}
+use Rattle.rules.specs.declared.Part.{Part}
+use Rattle.rules.specs.declared.Part.the-variants as part
+use Rattle.rules.specs.Line.{has, both}
+use Rattle.rules.specs.Priority.{nr-values}
+use Rattle.rules.specs.Times as times
+use Rattle.rules.specs.Times.{pinned, effective-priority, steadied}
+use Rattle.rules.specs.declared.Priority.{Priority}
+use Rattle.rules.specs.Puts.{PutOrTake, a-take}
+use Rattle.rules.specs.Queue.{Queue, order, timeshare-line, movable, highest-value, said-timeshare, said-after-take, Next, nobody, next-in, asked, leave, insert, is-timeshare, part-of, part-for, said-after-put}
+use Rattle.rules.specs.State.{at, Limits, Topology, Cpu}
+use Rattle.rules.specs.Schedule.{World, Got, with-cpu, with-thread, with-queue, noted, pinned-in, arrival, insert-thread, take-thread, handed-out}
+use Rattle.rules.specs.Sound.{at-here, at-there, at-keeps, Under, waits, Free, New, Sound, take-taken}
+use Rattle.rules.specs.Sound as sound
+use Rattle.rules.specs.Kept.{asked-head}
+use Rattle.thread.specs.declared.Thread.{Thread}
+use Rattle.thread.specs.declared.place.Place.{Place}
+use Rattle.thread.specs.declared.place.Place.the-variants as place
+use Rattle.thread.specs.Reads.{reads}
+use Rattle.thread.specs.Thread.{NONE, WAITING, RUNNING, with-place, with-next, with-stable}
+use Rattle.thread.specs.Place.{place-in, reads-place, reads-next}
+use Rattle.thread.specs.Priority.{stable-effective-priority, reads-stable, effective-below}
+use Rattle.runqueue.specs.declared.rq.RunQueue.{RunQueue}
+use Rattle.runqueue.specs.declared.rq.Arrival.{Arrival}
+use Rattle.runqueue.specs.declared.rq.Front.{Front}
+use Rattle.runqueue.specs.declared.rq.Front.the-variants as front
+use Rattle.runqueue.specs.RunQueue.{rqFront, rqInsert, rqInsertInto, rqInsertRealtime, rqInsertTimeshare, rqInsertIdle}
+use Rattle.processor.specs.Words.{width, word}
+use Rattle.processor.specs.Window.{length-place}
+use Rattle.processor.specs.Queue.{queueAt, queueStored, queueInto, storedFrom, length-lists, queue-elsewhere, word-after-store}
+use Rattle.represent.specs.Well.{Reading, Well, put-reading, as-arrival, take-reading}
+use Rattle.represent.specs.Linked.{has-first, has-later}
+use Rattle.represent.specs.Operations.{put-has, in-ts, well-shape}
+use Rattle.represent.specs.Queues as queues
+use Rattle.lent.specs.declared.rq.Taken.{Taken}
+use Rattle.lent.specs.declared.rq.Taken.the-variants as taken
+use Rattle.lent.specs.Rq.{recordAt, arrivalOf, steadyIn, putIn, linkBehind, putOf, insertDef, leftBy, Took, tookFrom, takeDef}
+use Rattle.represent.specs.Records.{marks, read-set, length-put}
+use Rattle.represent.specs.System.{Good, arriving, put-law, Taken-as, take-law}
+use Rattle.memory.specs.Shows.{reading-of, Words-show, place-at, Places, Small, Shows}
+use Rattle.memory.specs.Frames.{kept, words-same, at-map, places-same, in-records}
+
+pub fits : {limits : Limits} → Small limits → limits .threads ≤ NONE
+fits small = omega (arith, small .threads)
+
+-- ---- a queue is stored
+
+row-stored : (cs : List (List ℕ)) (c d : ℕ) (q : RunQueue) → length (getD (queueStored cs c q) d []) ≡ length (getD cs d [])
+unfolding queueStored queueInto storedFrom
+row-stored cs c d q =
+    both (eqb d c)
+    (λ e. both (ltb c (length cs))
+    (λ l. rw (eqb-true d c e, getD-set-same cs c (storedFrom (getD cs c []) 0 q) [] (ltb-true _ _ l)) (simp (length-place, length-lists)))
+    (λ l. rw (set-out cs c (storedFrom (getD cs c []) 0 q) (ltb-false _ _ l))))
+    (λ e. unfold queueStored queueInto in rw (queue-elsewhere cs c d q (eqb-false d c e)))
+
+-- what the words of a CPU show beside its queue stays
+pub words-stored : {topology : Topology} (cs : List (List ℕ)) (c d : ℕ) (q : RunQueue) (p : Cpu) → Words-show topology cs d p → Words-show topology (queueStored cs c q) d p
+words-stored cs c d q p s = words-same cs (queueStored cs c q) d p (λ u h l. word-after-store cs c d q u (omega arith)) s
+
+-- a CPU with another queue has the same other fields
+pub words-queue : {topology : Topology} (cs : List (List ℕ)) (c : ℕ) (p : Cpu) (q : Queue) (said : _) → Words-show topology cs c p → Words-show topology cs c (with-queue p q said)
+unfolding with-queue
+words-queue cs c p q said s = record {
+  declared = s .declared;
+  placed = s .placed;
+  running = s .running;
+  own-priority = s .own-priority;
+  is-idle = s .is-idle;
+  must-rebalance = s .must-rebalance;
+  preempt = s .preempt;
+  draw-state = s .draw-state;
+  rebalance-time = s .rebalance-time;
+  idle-timeslice = s .idle-timeslice;
+}
+
+-- the queue of one CPU is stored, and with it records may have changed
+module _ {limits : Limits} {topology : Topology} {known active : ℕ → Bool} {ts : List Thread} {cs : List (List ℕ)} {w : World} (s : Shows limits topology known active ts cs w) where
+  pub shows-stored : {active′ : ℕ → Bool} (c : ℕ) (ts′ : List Thread) (q : RunQueue) (p : Cpu) (v : World) → v .cpus ≡ at (w .cpus) c p → length ts′ ≡ length ts
+      → Good (limits .threads) (limits .cpus) ts′ (queueStored cs c q) (at (λ d. reading-of (w .cpus d)) c (reading-of p))
+      → Words-show topology cs c p → ((x : ℕ) → x < limits .threads → reads (recordAt ts′ x) ≡ v .threads x)
+      → ((x : ℕ) → x < limits .threads → Under (limits .cpus) (v .threads x .queue-cpu)) → Places (limits .threads) known active′ ts′ v
+      → Shows limits topology known active′ ts′ (queueStored cs c q) v
+  shows-stored c ts′ q p v e n g k t u l = record {
+    queues = subst (λ (Rs : ℕ → Reading). Good (limits .threads) (limits .cpus) ts′ (queueStored cs c q) Rs)
+        (λ i d. (at-map reading-of (w .cpus) c p d ∙ ap (λ (f : ℕ → Cpu). reading-of (f d)) (sym e)) i) g;
+    none-past = rw n (s .none-past);
+    rows = λ d h. row-stored cs c d q ∙ s .rows d h;
+    threads = t;
+    queue-cpus = u;
+    words = λ d h. subst (λ (f : ℕ → Cpu). Words-show topology (queueStored cs c q) d (f d)) (sym e) (both (eqb d c)
+        (λ r. rw (eqb-true d c r, at-here (w .cpus) c p) (words-stored cs c c q p k))
+        (λ r. rw (at-there (w .cpus) c p d (eqb-false d c r)) (words-stored cs c d q (w .cpus d) (s .words d h))));
+    places = l;
+  }
+
+-- ---- the records that a put writes
+
+put-part : (q : RunQueue) (a : Arrival) → rqInsert q a .part ≡ part-of (a .priority .class) (a .due)
+unfolding rqInsert
+put-part q a = go (part-of (a .priority .class) (a .due))
+  where
+    go : (p : Part) → rqInsertInto p q a .part ≡ p
+    go part.Realtime = unfold rqInsertInto rqInsertRealtime in refl
+    go part.Timeshare = unfold rqInsertInto rqInsertTimeshare in refl
+    go part.Idle = unfold rqInsertInto rqInsertIdle in refl
+
+put-reads : (t : Thread) (p : Part) → reads (putIn t p) ≡ cond (is-timeshare p) (steadied (reads t)) (reads t)
+unfolding putIn steadyIn is-timeshare
+put-reads t part.Realtime = reads-next (with-place t WAITING) NONE ∙ reads-place t WAITING
+put-reads t part.Timeshare = reads-stable _ ∙ ap steadied (reads-next (with-place t WAITING) NONE ∙ reads-place t WAITING)
+put-reads t part.Idle = reads-next (with-place t WAITING) NONE ∙ reads-place t WAITING
+
+put-place : (t : Thread) (p : Part) → putIn t p .place ≡ WAITING
+unfolding putIn steadyIn with-next with-place stable-effective-priority with-stable
+put-place t part.Realtime = refl
+put-place t part.Timeshare = refl
+put-place t part.Idle = refl
+
+put-field {ℓ} : {A : Type ℓ} (f : Thread → A) → ((t : Thread) (n : ℕ) → f (with-next t n) ≡ f t) → (ts : List Thread) (x : ℕ) (p : Part) (b z : ℕ) → x < length ts
+    → f (recordAt (linkBehind (set ts x (putIn (recordAt ts x) p)) b x) z) ≡ cond (eqb z x) (f (putIn (recordAt ts x) p)) (f (recordAt ts z))
+unfolding linkBehind
+put-field f past ts x p b z h =
+    let written : List Thread = set ts x (putIn (recordAt ts x) p) in
+    let first : f (recordAt written z) ≡ cond (eqb z x) (f (putIn (recordAt ts x) p)) (f (recordAt ts z)) =
+    rw (read-set ts x (putIn (recordAt ts x) p) z h) (both (eqb z x) (λ e. rw e) (λ e. rw e)) in
+    both (eqb b NONE) (λ e. rw e first) (λ e. rw e (kept f written b (with-next (recordAt written b) x) z (past (recordAt written b) x) ∙ first))
+
+steady-home : (n : ℕ) (b : Bool) (t : times.Thread) → Under n (t .queue-cpu) → Under n (cond b (steadied t) t .queue-cpu)
+unfolding steadied
+steady-home n true t h = h
+steady-home n false t h = h
+
+-- ---- a put
+
+module _ (limits : Limits) (topology : Topology) (tick us : ℕ) (known : ℕ → Bool) (numbered : (x : ℕ) → known x ≡ true → x < limits .threads) (small : Small limits) where
+  -- what a put is told, and what its queue then reads as
+  put-as : (r : Thread) (p : Cpu) (x : ℕ) (current : Bool)
+      → put-reading (reading-of p) (arrivalOf r x tick current)
+      ≡ reading-of (with-queue p (insert (p .queue) (arrival limits topology tick us (reads r) x current)) (said-after-put (p .advertised) (effective-priority (reads r))))
+  unfolding put-reading reading-of with-queue as-arrival arrivalOf arrival reads
+  put-as r p x current = refl
+
+  module _ {active but : ℕ → Bool} {ts : List Thread} {cs : List (List ℕ)} {w : World} (s : Shows limits topology known active ts cs w) (c x : ℕ) (n : New limits known but w c x) (current : Bool) where
+    abbrev there : Cpu
+    there = with-queue (w .cpus c) (insert (w .cpus c .queue) (arrival limits topology tick us (w .threads x) x current)) (said-after-put (w .cpus c .advertised) (effective-priority (w .threads x)))
+
+    abbrev below : x < limits .threads
+    below = numbered x (n .is-known)
+
+    read-there : put-reading (reading-of (w .cpus c)) (arriving ts x tick current) ≡ reading-of there
+    read-there =
+        put-as (recordAt ts x) (w .cpus c) x current
+        ∙ ap (λ (t : times.Thread). reading-of (with-queue (w .cpus c) (insert (w .cpus c .queue) (arrival limits topology tick us t x current)) (said-after-put (w .cpus c .advertised) (effective-priority t))))
+        (s .threads x below)
+
+    thread-there : (let a = arrivalOf (recordAt ts x) x tick current in
+        reads (putIn (recordAt ts x) (putOf ts cs c x tick current .part))
+        ≡ cond (is-timeshare (part-for (arrival limits topology tick us (w .threads x) x current))) (steadied (w .threads x)) (w .threads x))
+    unfolding part-for arrival arrivalOf reads
+    thread-there =
+        put-reads (recordAt ts x) (putOf ts cs c x tick current .part)
+        ∙ ap (λ (p : Part). cond (is-timeshare p) (steadied (reads (recordAt ts x))) (reads (recordAt ts x))) (put-part _ (arrivalOf (recordAt ts x) x tick current))
+        ∙ ap (λ (t : times.Thread). cond (is-timeshare (part-for (arrival limits topology tick us t x current))) (steadied t) t) (s .threads x below)
+
+    nobody-reads : (d : ℕ) → d < limits .cpus → has x (order (reading-of (w .cpus d) .queue)) ≡ false
+    unfolding reading-of
+    nobody-reads d h = n .nowhere d
+
+    abbrev v : World
+    v = insert-thread limits topology tick us w c x current
+
+    waits-here : (z : ℕ) → waits v c z ≡ (eqb x z || waits w c z)
+    unfolding insert-thread noted with-thread with-cpu reading-of arrivalOf
+    waits-here z =
+        ap (λ (p : Cpu). has z (order (p .queue))) (at-here (w .cpus) c there)
+        ∙ ap (λ (R : Reading). has z (order (R .queue))) (sym read-there)
+        ∙ put-has (limits .threads) (fits small) (marks ts) (queueAt cs c) (reading-of (w .cpus c)) (s .queues .shows .each c (n .near)) (arriving ts x tick current)
+        (effective-below (recordAt ts x)) below (n .nowhere c) (unfold marks in refl) z
+
+    waits-there : (d z : ℕ) → d ≢ c → waits v d z ≡ waits w d z
+    unfolding insert-thread noted with-thread with-cpu
+    waits-there d z h = ap (λ (p : Cpu). has z (order (p .queue))) (at-there (w .cpus) c there d h)
+
+    -- who is not the thread put in waits as before
+    waits-still : (d z : ℕ) → z ≢ x → waits v d z ≡ waits w d z
+    waits-still d z h = both (eqb d c) (λ e. rw (eqb-true d c e, waits-here z, ne-eqb x z (λ k. h (sym k)))) (λ e. waits-there d z (eqb-false d c e))
+
+    put-place-at : (z : ℕ) → place-at (insertDef ts cs c x tick current .threads) z ≡ cond (eqb z x) place.Waiting (place-at ts z)
+    unfolding insertDef place-in with-next
+    put-place-at z =
+        put-field (λ (u : Thread). place-in (u .place)) (λ t m. refl) ts x (putOf ts cs c x tick current .part) (putOf ts cs c x tick current .behind) z (in-records s x below)
+        ∙ both (eqb z x) (λ e. rw (e, put-place (recordAt ts x) (putOf ts cs c x tick current .part))) (λ e. rw e)
+
+    put-places : Places (limits .threads) known (at active x false) (insertDef ts cs c x tick current .threads) v
+    put-places =
+        let other : (z : ℕ) → z ≢ x → place-at (insertDef ts cs c x tick current .threads) z ≡ place-at ts z = λ z h. put-place-at z ∙ rw (ne-eqb z x h) in
+        let active-other : (z : ℕ) → z ≢ x → at active x false z ≡ active z = λ z h. at-there active x false z h in
+        record {
+          waiting = λ d z h. both (eqb z x) (λ e. put-place-at z ∙ rw e) (λ e. let k = eqb-false z x e in other z k ∙ s .places .waiting d z (sym (waits-still d z k) ∙ h));
+          running = λ z h. both (eqb z x)
+              (λ e. absurd (false≢true (sym (at-here active x false) ∙ rw (eqb-true z x e) at h)))
+              (λ e. let k = eqb-false z x e in other z k ∙ s .places .running z (sym (active-other z k) ∙ h));
+          blocked = λ z l k a f. both (eqb z x)
+              (λ e. absurd (true≢false (sym (waits-here x ∙ rw (eq-eqb x x refl)) ∙ rw (eqb-true z x e) at (f c))))
+              (λ e. let m = eqb-false z x e in other z m ∙ s .places .blocked z l k (sym (active-other z m) ∙ a) (λ d. sym (waits-still d z m) ∙ f d));
+          undeclared = λ z l k. both (eqb z x)
+              (λ e. absurd (true≢false (sym (n .is-known) ∙ rw (eqb-true z x e) at k)))
+              (λ e. other z (eqb-false z x e) ∙ s .places .undeclared z l k);
+        }
+
+    -- PUT
+    pub shows-insert : (let d = insertDef ts cs c x tick current in
+        Shows limits topology known (at active x false) (d .threads) (d .cpus) (insert-thread limits topology tick us w c x current))
+    unfolding insertDef insert-thread noted with-thread with-cpu
+    shows-insert =
+        shows-stored s c (insertDef ts cs c x tick current .threads) (putOf ts cs c x tick current .queue) there v refl (length-put ts x (in-records s x below) (putOf ts cs c x tick current .part) (putOf ts cs c x tick current .behind))
+        (subst (λ (R : Reading). Good (limits .threads) (limits .cpus) (insertDef ts cs c x tick current .threads) (insertDef ts cs c x tick current .cpus) (at (λ d. reading-of (w .cpus d)) c R)) read-there
+        (put-law (limits .threads) (limits .cpus) ts cs (λ y. reading-of (w .cpus y)) (s .queues) c (n .near) (fits small) x tick current below nobody-reads))
+        (words-queue cs c (w .cpus c) _ _ (s .words c (n .near)))
+        (λ z h. put-field reads reads-next ts x (putOf ts cs c x tick current .part) (putOf ts cs c x tick current .behind) z (in-records s x below)
+        ∙ (unfold at in both (eqb z x) (λ e. rw e thread-there) (λ e. rw e (s .threads z h))))
+        (λ z h. unfold at in both (eqb z x) (λ e. rw e (steady-home (limits .cpus) (is-timeshare (part-for (arrival limits topology tick us (w .threads x) x current))) (w .threads x) (s .queue-cpus x below))) (λ e. rw e (s .queue-cpus z h)))
+        put-places
+
+-- ---- what a take asks of the records
+
+-- only of those who wait
+pub movable-same : (f g : ℕ → Bool) (l : List ℕ) → ((z : ℕ) → has z l ≡ true → f z ≡ g z) → movable f l ≡ movable g l
+unfolding movable
+movable-same f g [] h = refl
+movable-same f g (x ∷ l) h = rw (h x (has-first x l), movable-same f g l (λ z k. h z (has-later z x l k)))
+
+highest-same : (f g : ℕ → ℕ) (l : List ℕ) → ((z : ℕ) → has z l ≡ true → f z ≡ g z) → highest-value f l ≡ highest-value g l
+unfolding highest-value
+highest-same f g [] h = refl
+highest-same f g (x ∷ l) h = rw (h x (has-first x l), highest-same f g l (λ z k. h z (has-later z x l k)))
+
+asked-same : (f g : ℕ → Bool) (Q : Queue) (stealing : Bool) → ((z : ℕ) → has z (order Q) ≡ true → f z ≡ g z) → asked f Q stealing ≡ asked g Q stealing
+unfolding asked
+asked-same f g Q stealing h = rw (movable-same f g (order Q) h)
+
+said-same : (p : Part) (f g : ℕ → ℕ) (said : Priority) (Q : Queue) → ((z : ℕ) → has z (order Q) ≡ true → f z ≡ g z) → said-after-take p f said Q ≡ said-after-take p g said Q
+unfolding said-after-take said-timeshare
+said-same part.Realtime f g said Q h = refl
+said-same part.Timeshare f g said Q h = rw (highest-same f g (timeshare-line Q) (λ z k. h z (in-ts Q z k)))
+said-same part.Idle f g said Q h = refl
+
+-- ---- a take
+
+-- the threads active once somebody was handed out
+unfoldable pub active-with : (ℕ → Bool) → Option ℕ → ℕ → Bool
+active-with active none = active
+active-with active (some x) = at active x true
+
+unfoldable pub as-taken : Option ℕ → Taken
+as-taken none = taken.Nobody
+as-taken (some x) = taken.Thread x
+
+-- a take answers what the rules hand out, and leaves what the rules leave
+pub record Take-shows (limits : Limits) (topology : Topology) (known active : ℕ → Bool) (d : Took) (g : Got) : Type 0 where
+  pub answer : d .answer ≡ as-taken (g .got)
+  pub left : Shows limits topology known (active-with active (g .got)) (d .threads) (d .cpus) (g .world)
+
+module _ (limits : Limits) (topology : Topology) (tick us : ℕ) (known : ℕ → Bool) (numbered : (x : ℕ) → known x ≡ true → x < limits .threads) (small : Small limits) (H : ℕ → List PutOrTake) where
+  module _ {active but : ℕ → Bool} {ts : List Thread} {cs : List (List ℕ)} {w : World} (s : Shows limits topology known active ts cs w) (safe : Sound limits known H but w) (c : ℕ) (near : c < limits .cpus) where
+    abbrev Q : Queue
+    Q = w .cpus c .queue
+
+    well : Well (limits .threads) (marks ts) (queueAt cs c) (reading-of (w .cpus c))
+    well = s .queues .shows .each c near
+
+    line-in : (z : ℕ) → has z (order Q) ≡ true → z < limits .threads
+    line-in z h = numbered z (safe .placed c z h .1)
+
+    pins-same : (z : ℕ) → has z (order Q) ≡ true → marks ts .pinned z ≡ pinned (w .threads z)
+    unfolding marks
+    pins-same z h = ap pinned (s .threads z (line-in z h))
+
+    values-same : (z : ℕ) → has z (order Q) ≡ true → marks ts .value z ≡ w .threads z .stable .value
+    unfolding marks
+    values-same z h = ap (λ (t : times.Thread). t .stable .value) (s .threads z (line-in z h))
+
+    module _ (stealing : Bool) where
+      module _ (p : Part) (b x : ℕ) (a : asked (pinned-in w) Q stealing ≡ next-in p b x) where
+        abbrev got : Got
+        got = handed-out limits topology tick us w c stealing (next-in p b x)
+
+        abbrev left-cpu : Cpu
+        left-cpu = with-queue (w .cpus c) (leave p Q b) (said-after-take p (λ y. w .threads y .stable .value) (w .cpus c .advertised) (leave p Q b))
+
+        kept-taken : sound.Taken limits topology tick us known numbered H but w got
+        unfolding take-thread
+        kept-taken = subst (λ (n : Next). sound.Taken limits topology tick us known numbered H but w (handed-out limits topology tick us w c stealing n)) a
+            (take-taken limits topology tick us known numbered H but w c stealing safe)
+
+        line-was : (z : ℕ) → has z (order Q) ≡ (eqb x z || has z (order (leave p Q b)))
+        unfolding has
+        line-was z = rw (asked-head (pinned-in w) Q stealing p b x (safe .kept c .fits .shape) a .first) (both (eqb x z) (λ e. rw e) (λ e. rw e))
+
+        was-there : (z : ℕ) → has z (order (leave p Q b)) ≡ true → has z (order Q) ≡ true
+        was-there z h = line-was z ∙ rw h (both (eqb x z) (λ e. rw e) (λ e. rw e))
+
+        was-in : x < limits .threads
+        was-in = line-in x (line-was x ∙ rw (eq-eqb x x refl))
+
+        read-left : take-reading (marks ts .value) (reading-of (w .cpus c)) p b ≡ reading-of left-cpu
+        unfolding take-reading reading-of with-queue
+        read-left =
+            ap (λ (said : Priority). reading-of (with-queue (w .cpus c) (leave p Q b) said))
+            (said-same p (marks ts .value) (λ y. w .threads y .stable .value) (w .cpus c .advertised) (leave p Q b) (λ z h. values-same z (was-there z h)))
+
+        left-waits : (d z : ℕ) → z ≢ x → waits (got .world) d z ≡ waits w d z
+        unfolding handed-out noted with-cpu with-queue
+        left-waits d z h =
+            both (eqb d c)
+            (λ e. rw (eqb-true d c e) (ap (λ (u : Cpu). has z (order (u .queue))) (at-here (w .cpus) c left-cpu) ∙ sym (line-was z ∙ rw (ne-eqb x z (λ k. h (sym k))))))
+            (λ e. ap (λ (u : Cpu). has z (order (u .queue))) (at-there (w .cpus) c left-cpu d (eqb-false d c e)))
+
+        abbrev running-now : List Thread
+        running-now = set ts x (with-place (recordAt ts x) RUNNING)
+
+        take-place-at : (z : ℕ) → place-at running-now z ≡ cond (eqb z x) place.Running (place-at ts z)
+        unfolding place-in with-place
+        take-place-at z = rw (read-set ts x (with-place (recordAt ts x) RUNNING) z (in-records s x was-in)) (both (eqb z x) (λ e. rw e) (λ e. rw e))
+
+        take-places : Places (limits .threads) known (at active x true) running-now (got .world)
+        take-places =
+            let other : (z : ℕ) → z ≢ x → place-at running-now z ≡ place-at ts z = λ z h. take-place-at z ∙ rw (ne-eqb z x h) in
+            let active-other : (z : ℕ) → z ≢ x → at active x true z ≡ active z = λ z h. at-there active x true z h in
+            record {
+              waiting = λ d z h. both (eqb z x)
+                  (λ e. absurd (true≢false (sym (rw (eqb-true z x e) at h) ∙ kept-taken .handed-free x (unfold handed-out in refl) d)))
+                  (λ e. let k = eqb-false z x e in other z k ∙ s .places .waiting d z (sym (left-waits d z k) ∙ h));
+              running = λ z h. both (eqb z x)
+                  (λ e. take-place-at z ∙ rw e)
+                  (λ e. let k = eqb-false z x e in other z k ∙ s .places .running z (sym (active-other z k) ∙ h));
+              blocked = λ z l k m f. both (eqb z x)
+                  (λ e. absurd (true≢false (sym (at-here active x true) ∙ rw (eqb-true z x e) at m)))
+                  (λ e. let o = eqb-false z x e in other z o ∙ s .places .blocked z l k (sym (active-other z o) ∙ m) (λ d. sym (left-waits d z o) ∙ f d));
+              undeclared = λ z l k. both (eqb z x)
+                  (λ e. absurd (true≢false (sym (kept-taken .handed-known x (unfold handed-out in refl)) ∙ rw (eqb-true z x e) at k)))
+                  (λ e. other z (eqb-false z x e) ∙ s .places .undeclared z l k);
+            }
+
+        some-shows : (p′ : Part) (b′ : ℕ)
+            → Good (limits .threads) (limits .cpus) (tookFrom ts cs c (front.At p′ b′ x) .threads) (tookFrom ts cs c (front.At p′ b′ x) .cpus)
+            (at (λ d. reading-of (w .cpus d)) c (take-reading (marks ts .value) (reading-of (w .cpus c)) p b))
+            → Take-shows limits topology known active (tookFrom ts cs c (front.At p′ b′ x)) got
+        unfolding tookFrom handed-out active-with as-taken noted with-cpu
+        some-shows p′ b′ g = record {
+          answer = refl;
+          left =
+              shows-stored s c running-now (leftBy (queueAt cs c) (front.At p′ b′ x) (recordAt ts x)) left-cpu (got .world) refl (length-set ts x (with-place (recordAt ts x) RUNNING))
+              (subst (λ (R : Reading). Good (limits .threads) (limits .cpus) running-now (queueStored cs c (leftBy (queueAt cs c) (front.At p′ b′ x) (recordAt ts x))) (at (λ d. reading-of (w .cpus d)) c R)) read-left g)
+              (words-queue cs c (w .cpus c) _ _ (s .words c near))
+              (λ z h. kept reads ts x (with-place (recordAt ts x) RUNNING) z (reads-place (recordAt ts x) RUNNING) ∙ s .threads z h)
+              (s .queue-cpus)
+              take-places;
+        }
+
+      none-shows : Take-shows limits topology known active (tookFrom ts cs c front.Nothing) (handed-out limits topology tick us w c stealing nobody)
+      unfolding tookFrom handed-out active-with as-taken noted
+      none-shows = record {
+        answer = refl;
+        left = record { queues = s .queues; none-past = s .none-past; rows = s .rows; threads = s .threads; queue-cpus = s .queue-cpus; words = s .words; places = places-same w (noted w c (a-take stealing none)) (λ d x. refl) (s .places) };
+      }
+
+      go : (f : Front) (n : Next) → asked (pinned-in w) Q stealing ≡ n → Taken-as (limits .threads) (limits .cpus) ts cs (λ d. reading-of (w .cpus d)) c (tookFrom ts cs c f) n
+          → Take-shows limits topology known active (tookFrom ts cs c f) (handed-out limits topology tick us w c stealing n)
+      unfolding Taken-as tookFrom
+      go front.Nothing nobody a e = none-shows
+      go front.Nothing (next-in p b x) a e = let z : _≡_ {A = Taken} taken.Nobody (taken.Thread x) = e .0 in let y : _≡_ {A = ℕ} 0 1 = cc in absurd (omega arith)
+      go (front.At p′ b′ x′) nobody a e = let z : _≡_ {A = Taken} (taken.Thread x′) taken.Nobody = ap (λ (d : Took). d .answer) e in let y : _≡_ {A = ℕ} 0 1 = cc in absurd (omega arith)
+      go (front.At p′ b′ x′) (next-in p b x) a e =
+          let z : _≡_ {A = Taken} (taken.Thread x′) (taken.Thread x) = e .0 in
+          let y : x′ ≡ x = cc in
+          subst (λ (u : ℕ). Take-shows limits topology known active (tookFrom ts cs c (front.At p′ b′ x′)) (handed-out limits topology tick us w c stealing (next-in p b u))) y
+          (some-shows p b x′ (a ∙ ap (next-in p b) (sym y)) p′ b′ (e .1))
+
+      asked-as : asked (marks ts .pinned) (reading-of (w .cpus c) .queue) stealing ≡ asked (pinned-in w) Q stealing
+      unfolding reading-of
+      asked-as = asked-same (marks ts .pinned) (pinned-in w) Q stealing pins-same
+
+      -- TAKE
+      pub shows-take : Take-shows limits topology known active (takeDef ts cs c stealing) (take-thread limits topology tick us w c stealing)
+      unfolding takeDef take-thread
+      shows-take = go (rqFront (queueAt cs c) stealing) (asked (pinned-in w) Q stealing) refl
+          (subst (λ (n : Next). Taken-as (limits .threads) (limits .cpus) ts cs (λ d. reading-of (w .cpus d)) c (takeDef ts cs c stealing) n) asked-as
+          (take-law (limits .threads) (limits .cpus) ts cs (λ d. reading-of (w .cpus d)) (s .queues) c near (fits small) stealing))
