@@ -18,6 +18,8 @@ SAYS = {
     'feed::fed::closed': dict(value='closedFed {s0} {0} {1} {2}', lists=['closedOut {s0} {0} {1} {2}']),
     'feed::feed::run': fedded('runDef {0} {s3} {0} {1} (worldOf {s0} {s1} {s2} {s4} {2})'),
     'feed::feed::feed': fedded('feedDef {s3} {0} {1} (worldOf {s0} {s1} {s2} {s4} {2})'),
+    'feed::start::start': dict(
+        value='startDef {s0} {s1} {s2} .answer', lists=['startDef {s0} {s1} {s2} .' + x for x in ('threads', 'cpus', 'nodes')]),
     'feed::start::no_room': dict(value='noRoom {0} (length {s0}) (length {s1})'),
     'feed::start::refused': dict(value='started.NoRoom'),
     'feed::start::ready': dict(value='started.Ready initial'),
