@@ -6,6 +6,7 @@ use mathlib.Core.Option.{Option, none, some}
 use mathlib.Core.List.{List}
 use lib.ListN.{set}
 use lib.Dec.{eqb}
+use borrow.Author.Tests.{eqb-true}
 use native.Mathlib.Omega.{arith}
 use Rattle.rules.specs.declared.Priority.{Priority}
 use Rattle.rules.specs.Line.{both}
@@ -108,3 +109,76 @@ module _ (limits : Limits) (topology : Topology) (tick us : ℕ) (known : ℕ �
           (cond-same pinned accepted (donated-to u (some p)) u (pinned u) (unfold donated-to pinned in refl) refl)
           (cond-same (λ (t : times.Thread). t .stable .value) accepted (donated-to u (some p)) u (u .stable .value) (unfold donated-to in refl) refl)
           (subst (Under (limits .cpus)) (sym (cond-same (λ (t : times.Thread). t .queue-cpu) accepted (donated-to u (some p)) u (u .queue-cpu) (unfold donated-to in refl) refl)) (s .queue-cpus x below))
+
+      abbrev v : World
+      v = with-thread w x (donated-to u (some p))
+
+      abbrev raises : Bool
+      raises = less (effective-priority u) p && not (sched.same-cpu x (w .cpus us .running))
+
+      shows-maybe : (q : Option ℕ) → Shows limits topology known active (set ts x (donate-priority r p .thread)) cs v
+          → Shows limits topology known active (set ts x (donate-priority r p .thread)) cs (sched.maybe-wakeup limits topology tick us v x q)
+      unfolding sched.maybe-wakeup
+      shows-maybe none a = a
+      shows-maybe (some c) a = shows-wakeup _ a
+
+      at-self : (z : ℕ) → with-thread w x u .threads z ≡ w .threads z
+      unfolding with-thread at
+      at-self z = both (eqb z x) (λ e. rw (e, eqb-true z x e)) (λ e. rw e)
+
+      pub shows-donated : (wakeups : ℕ) → Shows limits topology known active (donatePriority ts cs us x p wakeups .threads) cs (sched.donate-priority limits topology tick us w x p)
+      unfolding donatePriority sched.donate-priority
+      shows-donated wakeups =
+          both accepted
+          (λ e.
+          let f : Shows limits topology known active (set ts x (donate-priority r p .thread)) cs v =
+          subst (λ (b : Bool). Shows limits topology known active (set ts x (donate-priority r p .thread)) cs (with-thread w x (cond b (donated-to u (some p)) u))) e first in
+          rw e (both raises (λ h. rw h (shows-maybe (u .queue-cpu) f)) (λ h. rw h f)))
+          (λ e.
+          let f : Shows limits topology known active (set ts x (donate-priority r p .thread)) cs (with-thread w x u) =
+          subst (λ (b : Bool). Shows limits topology known active (set ts x (donate-priority r p .thread)) cs (with-thread w x (cond b (donated-to u (some p)) u))) e first in
+          rw e (shows-alike (with-thread w x u) w (λ c. unfold with-thread in refl) (λ z. sym (at-self z)) f))
+
+      -- its count of wake-ups
+      module _ (runs : (y : ℕ) → w .cpus us .running ≡ some y → known y ≡ true) (wakeups : ℕ) (count : wakeups ≡ w .wakeups) (few : w .wakeups < NONE) (yes : accepted ≡ true) where
+        abbrev t : Thread
+        t = donate-priority r p .thread
+
+        due-shown : (c : ℕ) → c < limits .cpus → wakeupDue cs c t ≡ (not (is-empty (v .cpus c)) && less (effective-priority (v .threads x)) (v .cpus c .advertised))
+        unfolding wakeupDue with-thread
+        due-shown c h =
+            ap (λ (b : Bool). not b && less (effective-priority (reads t)) (from-raw (queueAt cs c .«current_priority»))) (empty-shown s small c h)
+            ∙ ap (λ (q : Priority). not (is-empty (w .cpus c)) && less (effective-priority (reads t)) q) (advertised-shown s small c h)
+            ∙ ap (λ (z : times.Thread). not (is-empty (w .cpus c)) && less (effective-priority z) (w .cpus c .advertised))
+            (donated-reads ∙ ap (λ (b : Bool). cond b (donated-to u (some p)) u) yes ∙ sym (at-here (w .threads) x (donated-to u (some p))))
+
+        woken : (o : OptionCpu) (q : Option ℕ) → named o ≡ q → Under (limits .cpus) q → maybeReschedule cs us t wakeups o ≡ sched.maybe-wakeup limits topology tick us v x q .wakeups
+        unfolding named maybeReschedule wokenIn sched.maybe-wakeup Under with-thread
+        woken (cpu.Some c) (some d) e h =
+            let z : c ≡ d = cc in
+            rw z (signal-counts v wakeups us d (wakeupDue cs d t) count few ∙ ap (λ (b : Bool). wakeup v b .wakeups) (due-shown d h))
+        woken (cpu.Some c) none e h = cc
+        woken cpu.None (some d) e h = cc
+        woken cpu.None none e h = count
+
+        queue-is : named (cpu-in (t .«current_processor_queue»)) ≡ u .queue-cpu
+        queue-is = ap (λ z. named (cpu-in z)) (donated-queue r p) ∙ queue-reads r ∙ ap (λ (z : times.Thread). z .queue-cpu) (s .threads x below)
+
+        raised : cond (less (effective-priority u) p) (cond (sched.same-cpu x (w .cpus us .running)) wakeups (maybeReschedule cs us t wakeups (cpu-in (t .«current_processor_queue»)))) wakeups
+            ≡ cond raises (sched.maybe-wakeup limits topology tick us v x (u .queue-cpu)) v .wakeups
+        raised =
+            both (less (effective-priority u) p)
+            (λ l. rw l (both (sched.same-cpu x (w .cpus us .running)) (λ m. rw m (unfold with-thread in count)) (λ m. rw m (woken (cpu-in (t .«current_processor_queue»)) (u .queue-cpu) queue-is (s .queue-cpus x below)))))
+            (λ l. rw l (unfold with-thread in count))
+
+      module _ (runs : (y : ℕ) → w .cpus us .running ≡ some y → known y ≡ true) (wakeups : ℕ) (count : wakeups ≡ w .wakeups) (few : w .wakeups < NONE) where
+        resched-shown : donate-priority r p .«needs_resched» ≡ (accepted && less (effective-priority u) p)
+        resched-shown = donated-resched r p ∙ ap (λ (t : times.Thread). donation-accepted (t .donated) p && less (effective-priority t) p) (s .threads x below)
+
+        pub counts-donated : donatePriority ts cs us x p wakeups .wakeups ≡ sched.donate-priority limits topology tick us w x p .wakeups
+        unfolding donatePriority donationSignals sched.donate-priority
+        counts-donated =
+            let R : ℕ = maybeReschedule cs us (donate-priority r p .thread) wakeups (cpu-in (donate-priority r p .thread .«current_processor_queue»)) in
+            ap (λ (b : Bool). cond b (cond (eqb (runningAt cs us) x) wakeups R) wakeups) resched-shown
+            ∙ ap (λ (b : Bool). cond (accepted && less (effective-priority u) p) (cond b wakeups R) wakeups) (same-at-work limits topology tick us known numbered small early s us us-in runs x below)
+            ∙ both accepted (λ e. rw e (raised runs wakeups count few e)) (λ e. rw e count)

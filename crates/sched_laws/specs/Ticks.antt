@@ -189,7 +189,7 @@ module _ (limits : Limits) (topology : Topology) (tick us : ℕ) (known : ℕ �
     abbrev state : ℕ
     state = next-state us (w .cpus us .draw-state)
 
-    abbrev anew : World
+    abbrev pub anew : World
     anew = with-cpu w us (with-rebalance-time (with-draws (w .cpus us) state) (500000000 + draw state % sched.rebalance-period limits topology tick us))
 
     -- it is time: the next time is drawn
