@@ -50,7 +50,7 @@ SAYS = {
     'step::rebalance::rebalance_due': marked('rebalanceDue', '{0} {1}'),
     'step::balance::Balancing::begun': dict(value='begun'),
     'step::balance::find_move': dict(
-        value='findMove 20 {s0} {s1} {0} {1} (again {2}) .balancing', lists=['findMove 20 {s0} {s1} {0} {1} (again {2}) .cpus']),
+        value='findMove 20 {s0} {s1} {0} {1} (moved {2}) .balancing', lists=['findMove 20 {s0} {s1} {0} {1} (moved {2}) .cpus']),
     'step::donate::signal_donation': dict(value='donationSignals {s0} {0} {1} {2} {3}'),
     'sched::queues::is_nobody': dict(value='isNobody {0}'),
     'sched::queues::thread_of': dict(value='threadOf {0}'),
@@ -93,7 +93,7 @@ SPECS = {
     'step.specs.Choose': 'stealFrom selectFor selectedFor reinsertAt',
     'step.specs.Preempt': 'needsReschedule allowedAt idlePaid expires rescheds swapped',
     'step.specs.Rebalance': 'rebalanceDue',
-    'step.specs.Balance': 'begun again findMove',
+    'step.specs.Balance': 'begun moved findMove',
     'step.specs.Donate': 'donationSignals',
     'sched.specs.Queues': 'isNobody threadOf movedIn scheduleThreadOnCpu wakeDef blockDef movedFor takeFrom trySteal',
     'sched.specs.Schedule': 'switchTo runTaken idleUnless runStolen pickStolen pickTaken pickNext mustMove reinsertedDef resetThreadTime thenNext '
@@ -146,7 +146,7 @@ WALKS = {
     'balance::balance': worlds('balanceDef', 3, 2, 'moveTwo'),
     'balance::schedule_maybe_rebalance': worlds('maybeRebalance', 3, 3),
     'balance::schedule_stattick': worlds('scheduleStattick', 3, 3, 'clocked'),
-    'ticks::schedule_hardtick': memories('scheduleHardtick', 2, 1, 'paidBy'),
+    'ticks::schedule_hardtick': dict(memories('scheduleHardtick', 2, 1, 'paidBy'), cut=10),
     'ticks::schedule_resched': dict(says='refl', unfolding='scheduleResched'),
     'ticks::schedule_maybe_preempt': worlds('scheduleMaybePreempt', 3, 2),
     'donate::donate_priority': dict(says='refl, refl', unfolding='donatePriority'),

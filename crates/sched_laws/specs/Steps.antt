@@ -199,7 +199,7 @@ module _ (limits : Limits) (topology : Topology) (tick us : ℕ) (known : ℕ �
 
     -- ---- whether it has to give way
 
-    higher-shown : (t : Thread) (p : Priority) (eq : Bool) → effective-priority (reads t) ≡ p
+    pub higher-shown : (t : Thread) (p : Priority) (eq : Bool) → effective-priority (reads t) ≡ p
         → rqHasHigher cs c t eq ≡ (less p (w .cpus c .advertised) || (eq && at-most p (w .cpus c .advertised)))
     unfolding rqHasHigher higher
     higher-shown t p eq e = rw (e, advertised-shown s small c near)

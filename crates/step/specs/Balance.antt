@@ -39,8 +39,8 @@ unfoldable pub begun : Balancing
 begun = record { allowed = set.all; steps = 0; «goes_on» = true; moves = false; donor = 0; recipient = 0 }
 
 -- the move was made
-unfoldable pub again : Balancing → Balancing
-again b = record { allowed = b .allowed; steps = b .steps; «goes_on» = b .«goes_on»; moves = false; donor = b .donor; recipient = b .recipient }
+unfoldable pub moved : Balancing → Balancing
+moved b = record { allowed = b .allowed; steps = b .steps; «goes_on» = b .«goes_on»; moves = false; donor = b .donor; recipient = b .recipient }
 
 unfoldable pub passed : Balancing → Balancing
 passed b =

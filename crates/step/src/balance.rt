@@ -1,7 +1,7 @@
 // The choices of `balance`: until one moves a thread, twenty steps are made, or a donor has no load. Whether a take hands out a thread depends on the
 // words of the donor alone, so a choice is made without the thread records, and the move after it.
 ghost use mathlib.Core.Path.{_≡_};
-ghost use Rattle.step.specs.Balance.{begun, again, passed, stopped, without, moving, isDone, isSomebody, handsOut, outcome, pairStep, balanceStep, findMove};
+ghost use Rattle.step.specs.Balance.{begun, moved, passed, stopped, without, moving, isDone, isSomebody, handsOut, outcome, pairStep, balanceStep, findMove};
 use crate::running::set_rebalance;
 use choice::balance::Pair;
 use choice::balance::choose_cpu_balance;
@@ -43,7 +43,7 @@ impl Balancing {
 
     // The move was made.
     pub fn again(mut self) -> Self
-        ensures { λ r. ⌜ r ≡ again self ⌝ }
+        ensures { λ r. ⌜ r ≡ moved self ⌝ }
     {
         self.moves = false;
         self
@@ -194,8 +194,8 @@ pub fn find_move(
 ) -> Balancing
     ensures { λ r.
         ⌜
-        (r ≡ findMove 20 (now (cpus .entry)) (now (nodes .entry)) us limit (again begin) .balancing)
-        × (now (cpus .exit) ≡ findMove 20 (now (cpus .entry)) (now (nodes .entry)) us limit (again begin) .cpus)
+        (r ≡ findMove 20 (now (cpus .entry)) (now (nodes .entry)) us limit (moved begin) .balancing)
+        × (now (cpus .exit) ≡ findMove 20 (now (cpus .entry)) (now (nodes .entry)) us limit (moved begin) .cpus)
         ⌝ }
 {
     let mut b = begin.again();

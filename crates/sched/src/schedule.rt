@@ -1,0 +1,275 @@
+// `switch_to`, `do_schedule` and `schedule`, and the command that schedules a blocked thread.
+ghost use mathlib.Core.Path.{_≡_};
+ghost use lib.Dec.{eqb};
+ghost use Rattle.thread.specs.Thread.{NONE};
+ghost use Rattle.thread.specs.declared.time.OptionCpu.the-variants as cpu;
+ghost use Rattle.sched.specs.Schedule.{switchTo, runTaken, idleUnless, runStolen, pickNext, mustMove, reinsertedDef, resetThreadTime, reinsertDef, doSchedule, scheduleDef, scheduled, scheduleThread};
+use crate::context::Context;
+use crate::context::SchedFlags;
+use crate::context::Scheduled;
+use crate::queues::block;
+use crate::queues::is_nobody;
+use crate::queues::schedule_thread_on_cpu;
+use crate::queues::thread_of;
+use crate::queues::try_steal;
+use crate::queues::wake;
+use lent::records::get;
+use lent::records::set;
+use lent::rq::Taken;
+use lent::rq::take;
+use step::choose::reinsert_at;
+use step::choose::select_for;
+use step::option::cpu_of;
+use step::option::is_none;
+use step::preempt::rq_has_higher;
+use step::running::must_rebalance;
+use step::running::run_idle;
+use step::running::run_thread;
+use step::running::running;
+use step::time::reset_time;
+use thread::NONE;
+use thread::Thread;
+use thread::time::OptionCpu;
+
+// Thread x runs on CPU us.
+pub fn switch_to(threads: &mut [Thread], cpus: &mut [[u64; 96]], us: u64, x: u64)
+    ensures { λ _. ⌜ (now (threads .exit) ≡ switchTo (now (threads .entry)) (now (cpus .entry)) us x .threads) × (now (cpus .exit) ≡ switchTo (now (threads .entry)) (now (cpus .entry)) us x .cpus) ⌝ }
+{
+    let t = get(threads, x);
+    let u = t.moving_to_active(us);
+    set(threads, x, u);
+    run_thread(cpus, us, x, u);
+}
+
+// The own queue handed out thread y: one that takes itself back is not switched to.
+pub fn run_taken(threads: &mut [Thread], cpus: &mut [[u64; 96]], us: u64, cur: u64, y: u64)
+    ensures { λ _. ⌜ (now (threads .exit) ≡ runTaken (now (threads .entry)) (now (cpus .entry)) us cur y .threads) × (now (cpus .exit) ≡ runTaken (now (threads .entry)) (now (cpus .entry)) us cur y .cpus) ⌝ }
+{
+    if y == cur {
+        return;
+    }
+    switch_to(threads, cpus, us, y);
+}
+
+// A thread was stolen, or the idle thread runs on, or is switched to.
+pub fn run_stolen(threads: &mut [Thread], cpus: &mut [[u64; 96]], us: u64, cur: u64, stolen: Taken)
+    ensures { λ _. ⌜ (now (threads .exit) ≡ runStolen (now (threads .entry)) (now (cpus .entry)) us cur stolen .threads) × (now (cpus .exit) ≡ runStolen (now (threads .entry)) (now (cpus .entry)) us cur stolen .cpus) ⌝ }
+{
+    if is_nobody(stolen) {
+        idle_unless(cpus, us, cur);
+        return;
+    }
+    let y = thread_of(stolen);
+    switch_to(threads, cpus, us, y);
+}
+
+// The idle thread is switched to, if it does not run already.
+pub fn idle_unless(cpus: &mut [[u64; 96]], us: u64, cur: u64)
+    ensures { λ _. ⌜ now (cpus .exit) ≡ idleUnless (now (cpus .entry)) us cur ⌝ }
+{
+    if cur == NONE {
+        return;
+    }
+    run_idle(cpus, us);
+}
+
+// The next thread of the own queue, else one that is stolen, else the idle thread.
+pub fn pick_next(
+    threads: &mut [Thread],
+    cpus: &mut [[u64; 96]],
+    nodes: &[[u64; 32]],
+    k: Context,
+    cur: u64,
+)
+    ensures { λ _. ⌜ (now (threads .exit) ≡ pickNext (now (threads .entry)) (now (cpus .entry)) (now (nodes .entry)) k cur .threads) × (now (cpus .exit) ≡ pickNext (now (threads .entry)) (now (cpus .entry)) (now (nodes .entry)) k cur .cpus) ⌝ }
+{
+    let us = k.us;
+    let next = take(threads, cpus, us, false);
+    if is_nobody(next) {
+        let stolen = try_steal(threads, cpus, nodes, k);
+        run_stolen(threads, cpus, us, cur, stolen);
+        return;
+    }
+    let y = thread_of(next);
+    run_taken(threads, cpus, us, cur, y);
+}
+
+// Does the thread running, whose record is t, go back into a queue although it does not yield?
+pub fn must_move(cpus: &[[u64; 96]], us: u64, t: Thread, flags: SchedFlags) -> bool
+    ensures { λ r. ⌜ r ≡ mustMove (now (cpus .entry)) us t flags ⌝ }
+{
+    if flags.preempt {
+        return true;
+    }
+    if must_rebalance(cpus, us) {
+        return true;
+    }
+    rq_has_higher(cpus, us, t, flags.yields)
+}
+
+pub fn reinserted(
+    threads: &mut [Thread],
+    cpus: &mut [[u64; 96]],
+    k: Context,
+    chosen: OptionCpu,
+    x: u64,
+    wakeups: u64,
+) -> u64
+    ensures { λ r.
+        ⌜
+        (r ≡ reinsertedDef (now (threads .entry)) (now (cpus .entry)) k chosen x wakeups .wakeups)
+        × ((now (threads .exit) ≡ reinsertedDef (now (threads .entry)) (now (cpus .entry)) k chosen x wakeups .threads) × (now (cpus .exit) ≡ reinsertedDef (now (threads .entry)) (now (cpus .entry)) k chosen x wakeups .cpus))
+        ⌝ }
+{
+    if is_none(chosen) {
+        return wakeups;
+    }
+    let c = cpu_of(chosen);
+    schedule_thread_on_cpu(threads, cpus, k, c, x, wakeups)
+}
+
+// The deadline of thread x is set anew on CPU us.
+pub fn reset_thread_time(threads: &mut [Thread], cpus: &[[u64; 96]], k: Context, x: u64)
+    ensures { λ _. ⌜ now (threads .exit) ≡ resetThreadTime (now (threads .entry)) (now (cpus .entry)) k x ⌝ }
+{
+    let us = k.us;
+    let tick = k.tick;
+    let shortest = k.shortest;
+    let t = get(threads, x);
+    let u = reset_time(cpus, us, tick, shortest, t);
+    set(threads, x, u);
+}
+
+// The thread running, cur, goes back into a queue, and the next is picked; or it runs on with its deadline set anew.
+pub fn reinsert(
+    threads: &mut [Thread],
+    cpus: &mut [[u64; 96]],
+    nodes: &[[u64; 32]],
+    k: Context,
+    cur: u64,
+    flags: SchedFlags,
+    wakeups: u64,
+) -> u64
+    ensures { λ r.
+        ⌜
+        (r ≡ reinsertDef (now (threads .entry)) (now (cpus .entry)) (now (nodes .entry)) k cur flags wakeups .wakeups)
+        × ((now (threads .exit) ≡ reinsertDef (now (threads .entry)) (now (cpus .entry)) (now (nodes .entry)) k cur flags wakeups .threads) × (now (cpus .exit) ≡ reinsertDef (now (threads .entry)) (now (cpus .entry)) (now (nodes .entry)) k cur flags wakeups .cpus))
+        ⌝ }
+{
+    let us = k.us;
+    let limit = k.limit;
+    let t = get(threads, cur);
+    if must_move(cpus, us, t, flags) {
+        let chosen = reinsert_at(cpus, nodes, us, limit, t);
+        let w = reinserted(threads, cpus, k, chosen, cur, wakeups);
+        pick_next(threads, cpus, nodes, k, cur);
+        return w;
+    }
+    let yields = flags.yields;
+    if yields {
+        let w = schedule_thread_on_cpu(threads, cpus, k, us, cur, wakeups);
+        pick_next(threads, cpus, nodes, k, cur);
+        return w;
+    }
+    reset_thread_time(threads, cpus, k, cur);
+    wakeups
+}
+
+// Without reinsert the thread running is blocked, the idle thread never.
+pub fn do_schedule(
+    threads: &mut [Thread],
+    cpus: &mut [[u64; 96]],
+    nodes: &[[u64; 32]],
+    k: Context,
+    flags: SchedFlags,
+    wakeups: u64,
+) -> u64
+    ensures { λ r.
+        ⌜
+        (r ≡ doSchedule (now (threads .entry)) (now (cpus .entry)) (now (nodes .entry)) k flags wakeups .wakeups)
+        × ((now (threads .exit) ≡ doSchedule (now (threads .entry)) (now (cpus .entry)) (now (nodes .entry)) k flags wakeups .threads) × (now (cpus .exit) ≡ doSchedule (now (threads .entry)) (now (cpus .entry)) (now (nodes .entry)) k flags wakeups .cpus))
+        ⌝ }
+{
+    let us = k.us;
+    let cur = running(cpus, us);
+    if is_idle(cur) {
+        pick_next(threads, cpus, nodes, k, cur);
+        return wakeups;
+    }
+    let again = flags.reinsert;
+    if again {
+        return reinsert(threads, cpus, nodes, k, cur, flags, wakeups);
+    }
+    block(threads, cur);
+    pick_next(threads, cpus, nodes, k, cur);
+    wakeups
+}
+
+// With a critical thread running it changes nothing.
+pub fn schedule(
+    threads: &mut [Thread],
+    cpus: &mut [[u64; 96]],
+    nodes: &[[u64; 32]],
+    k: Context,
+    flags: SchedFlags,
+    wakeups: u64,
+) -> u64
+    ensures { λ r.
+        ⌜
+        (r ≡ scheduleDef (now (threads .entry)) (now (cpus .entry)) (now (nodes .entry)) k flags wakeups .wakeups)
+        × ((now (threads .exit) ≡ scheduleDef (now (threads .entry)) (now (cpus .entry)) (now (nodes .entry)) k flags wakeups .threads) × (now (cpus .exit) ≡ scheduleDef (now (threads .entry)) (now (cpus .entry)) (now (nodes .entry)) k flags wakeups .cpus))
+        ⌝ }
+{
+    let us = k.us;
+    let cur = running(cpus, us);
+    let t = get(threads, cur);
+    if t.is_critical() {
+        return wakeups;
+    }
+    do_schedule(threads, cpus, nodes, k, flags, wakeups)
+}
+
+pub fn is_idle(cur: u64) -> bool
+    ensures { λ r. ⌜ r ≡ eqb cur NONE ⌝ }
+{
+    cur == NONE
+}
+
+fn scheduled(cpu: u64, wakeups: u64) -> Scheduled
+    ensures { λ r. ⌜ r ≡ scheduled cpu wakeups ⌝ }
+{
+    Scheduled { cpu, wakeups }
+}
+
+fn none() -> OptionCpu
+    ensures { λ r. ⌜ r ≡ cpu.None ⌝ }
+{
+    OptionCpu::None
+}
+
+// A blocked thread goes into the queue of the CPU selected for it.
+pub fn schedule_thread(
+    threads: &mut [Thread],
+    cpus: &mut [[u64; 96]],
+    nodes: &[[u64; 32]],
+    k: Context,
+    x: u64,
+) -> Scheduled
+    ensures { λ r.
+        ⌜
+        (r ≡ scheduleThread (now (threads .entry)) (now (cpus .entry)) (now (nodes .entry)) k x .answer)
+        × ((now (threads .exit) ≡ scheduleThread (now (threads .entry)) (now (cpus .entry)) (now (nodes .entry)) k x .threads) × (now (cpus .exit) ≡ scheduleThread (now (threads .entry)) (now (cpus .entry)) (now (nodes .entry)) k x .cpus))
+        ⌝ }
+{
+    let us = k.us;
+    let limit = k.limit;
+    let t = get(threads, x);
+    let avoid = none();
+    let chosen = select_for(cpus, nodes, us, limit, t, avoid);
+    if is_none(chosen) {
+        return scheduled(us, 0);
+    }
+    let c = cpu_of(chosen);
+    let w = wake(threads, cpus, k, c, x, 0);
+    scheduled(c, w)
+}
