@@ -2,3 +2,4 @@ pub mod Shows
 pub mod Frames
 pub mod Queues
 pub mod Numbers
+pub mod Clock

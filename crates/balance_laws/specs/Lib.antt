@@ -1,0 +1,5 @@
+pub mod Turns
+pub mod Pairs
+pub mod Moves
+pub mod Balance
+pub mod Stattick

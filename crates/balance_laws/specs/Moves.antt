@@ -1,0 +1,477 @@
+-- ONE CHOICE OF `balance`, and the move that it comes to: memory that meets the rules' balancing meets it again after the rules' step. Assumes nothing.
+use Prim.Native.Nat.{ℕ, _+_, _≤_, _<_}
+use mathlib.Core.Path.{_≡_, refl, sym, ap, subst, _∙_}
+use mathlib.Core.Bool.{Bool, true, false, cond, not, true≢false, false≢true}
+use mathlib.Core.Option.{Option, none, some}
+use mathlib.Core.List.{List, _∷_}
+use lib.ListN.{set}
+use lib.Dec.{eqb, ltb}
+use borrow.Author.Tests.{eqb-true, eqb-false}
+use native.Mathlib.Omega.{arith}
+use Rattle.rules.specs.Line.{has, both}
+use Rattle.rules.specs.Times as times
+use Rattle.rules.specs.Times.{is-some}
+use Rattle.rules.specs.Queue.{order, load, Next, nobody, next-in, asked, leave}
+use Rattle.rules.specs.Puts.{PutOrTake}
+use Rattle.rules.specs.Kept.{asked-head}
+use Rattle.rules.specs.State.{at, Limits, Topology, Cpu}
+use Rattle.rules.specs.Topology.{cpus-of}
+use Rattle.rules.specs.Choice.{Pair, no-pair, pair, Chosen, choose-cpu-balance}
+use Rattle.rules.specs.Schedule as sched
+use Rattle.rules.specs.Schedule.{World, Got, Balancing, with-cpu, with-thread, with-draws, set-rebalance, pinned-in}
+use Rattle.rules.specs.Sound.{at-here, at-there, waits, Sound, Same, New, Taken, not-true-is, alike-queue, alike-reset, same-free, same-then, same-cpu-changed, same-thread-changed, same-wakeup, sound-same, sound-insert, take-taken}
+use Rattle.rules.specs.Steps.{nobody-but}
+use Rattle.thread.specs.declared.Thread.{Thread}
+use Rattle.thread.specs.declared.place.Place.{Place}
+use Rattle.thread.specs.Thread.{NONE}
+use Rattle.thread.specs.Time.{moving-to-queue}
+use Rattle.queue.specs.Num.{sum, sum-exact}
+use Rattle.runqueue.specs.declared.rq.RunQueue.{RunQueue}
+use Rattle.runqueue.specs.declared.rq.Front.{Front}
+use Rattle.runqueue.specs.declared.rq.Front.the-variants as front
+use Rattle.runqueue.specs.RunQueue.{rqFront}
+use Rattle.processor.specs.Words.{word, put-word}
+use Rattle.processor.specs.Queue.{queueAt}
+use Rattle.processor.specs.Cpu as cpu
+use Rattle.represent.specs.Linked.{has-first}
+use Rattle.lent.specs.declared.rq.Taken as lent
+use Rattle.lent.specs.declared.rq.Taken.the-variants as taken
+use Rattle.lent.specs.Rq.{recordAt, Took, tookFrom, takeDef}
+use Rattle.memory.specs.Shows.{place-at, Small, Shows}
+use Rattle.memory.specs.Frames.{beside-put, in-rows, shows-must-rebalance, shows-draws}
+use Rattle.memory.specs.Queues.{active-with, as-taken, Take-shows, shows-take}
+use Rattle.memory.specs.Numbers.{word-load, load-shown, current-load-shown}
+use Rattle.topology.specs.CpuSet as cpus
+use Rattle.topology.specs.CpuSet.{Sixteen, sixteen-remove, remove-same, remove-other}
+use Rattle.tree.specs.Tree.{Tree}
+use Rattle.choice_laws.specs.Memory.{balance-memory}
+use Rattle.step.specs.declared.balance.Balancing as step
+use Rattle.step.specs.Balance.{Balanced, passed, stopped, without, moving, moved, isSomebody, handsOut, outcome, pairStep, pairOf, chosenAt, balanceStep}
+use Rattle.sched.specs.declared.context.Context.{Context}
+use Rattle.sched.specs.World as code
+use Rattle.sched.specs.Queues.{isNobody, threadOf, movedIn, scheduleThreadOnCpu, movedFor, takeFrom}
+use Rattle.sched.specs.Balance.{received, moveOne}
+use Rattle.sched_laws.specs.Steps.{shows-moving-to-queue, shows-put, put-counts}
+use Rattle.balance_laws.specs.Pairs.{PairUnder, chosen-in}
+
+-- ---- what a take answers
+
+somebody-answers : (ts : List Thread) (cs : List (List ℕ)) (c : ℕ) (f : Front) → isSomebody f ≡ not (isNobody (tookFrom ts cs c f .answer))
+unfolding isSomebody isNobody tookFrom
+somebody-answers ts cs c front.Nothing = refl
+somebody-answers ts cs c (front.At p b x) = refl
+
+nobody-left : (ts : List Thread) (cs : List (List ℕ)) (c : ℕ) (f : Front) → isNobody (tookFrom ts cs c f .answer) ≡ true → (tookFrom ts cs c f .threads ≡ ts) × (tookFrom ts cs c f .cpus ≡ cs)
+unfolding isNobody tookFrom
+nobody-left ts cs c front.Nothing e = (refl, refl)
+nobody-left ts cs c (front.At p b x) e = absurd (false≢true e)
+
+somebody-is : (o : Option ℕ) → not (isNobody (as-taken o)) ≡ is-some o
+unfolding isNobody as-taken is-some
+somebody-is none = refl
+somebody-is (some x) = refl
+
+-- ---- a move
+
+pub move-none : (ts : List Thread) (cs : List (List ℕ)) (k : Context) (b : step.Balancing) (n : ℕ) → b .moves ≡ false → moveOne ts cs k b n ≡ record { threads = ts; cpus = cs; wakeups = n }
+unfolding moveOne
+move-none ts cs k b n e =
+    ap (λ (t : Bool). cond (not t) (record { threads = ts; cpus = cs; wakeups = n }) (received k (b .recipient) n (takeFrom ts cs (b .donor) (b .recipient)))) e
+
+move-some : (ts : List Thread) (cs : List (List ℕ)) (k : Context) (b : step.Balancing) (n : ℕ) → b .moves ≡ true → moveOne ts cs k b n ≡ received k (b .recipient) n (takeFrom ts cs (b .donor) (b .recipient))
+unfolding moveOne
+move-some ts cs k b n e =
+    ap (λ (t : Bool). cond (not t) (record { threads = ts; cpus = cs; wakeups = n }) (received k (b .recipient) n (takeFrom ts cs (b .donor) (b .recipient)))) e
+
+moved-some : (g : Took) (r x : ℕ) → g .answer ≡ taken.Thread x
+    → movedFor r g ≡ record { answer = g .answer; threads = set (g .threads) x (moving-to-queue (recordAt (g .threads) x) r); cpus = g .cpus }
+unfolding movedFor isNobody threadOf
+moved-some g r x e =
+    ap (λ (a : lent.Taken). cond (isNobody a) g (record { answer = g .answer; threads = set (g .threads) (threadOf a) (moving-to-queue (recordAt (g .threads) (threadOf a)) r); cpus = g .cpus })) e
+
+received-some : (k : Context) (r n : ℕ) (g : Took) (x : ℕ) → g .answer ≡ taken.Thread x → received k r n g ≡ scheduleThreadOnCpu (g .threads) (g .cpus) k r x n
+unfolding received isNobody threadOf
+received-some k r n g x e =
+    ap (λ (a : lent.Taken). cond (isNobody a) (record { threads = g .threads; cpus = g .cpus; wakeups = n }) (scheduleThreadOnCpu (g .threads) (g .cpus) k r (threadOf a) n)) e
+
+taken-received : (ts : List Thread) (cs : List (List ℕ)) (k : Context) (c r n x : ℕ) → takeDef ts cs c (not (eqb r c)) .answer ≡ taken.Thread x
+    → received k r n (takeFrom ts cs c r)
+    ≡ scheduleThreadOnCpu (set (takeDef ts cs c (not (eqb r c)) .threads) x (moving-to-queue (recordAt (takeDef ts cs c (not (eqb r c)) .threads) x) r)) (takeDef ts cs c (not (eqb r c)) .cpus) k r x n
+unfolding takeFrom
+taken-received ts cs k c r n x e = ap (received k r n) (moved-some (takeDef ts cs c (not (eqb r c))) r x e) ∙ received-some k r n _ x e
+
+one-at-most : (b : Bool) (n : ℕ) → cond b (n + 1) n ≤ n + 1
+one-at-most true n = omega arith
+one-at-most false n = omega arith
+
+-- us: the CPU that runs the command; base: the wake-ups counted before, which leave room for those of a balancing
+module _ (limits : Limits) (topology : Topology) (tick us : ℕ) (known : ℕ → Bool) (numbered : (x : ℕ) → known x ≡ true → x < limits .threads) (small : Small limits)
+    (early : tick ≤ 4611686018427387904) (H : ℕ → List PutOrTake) (us-in : us < limits .cpus) (active : ℕ → Bool) (base : ℕ) (room : base + 40 < NONE) where
+  abbrev pub k : Context
+  k = record { us = us; tick = tick; shortest = limits .shortest; limit = limits .cpus }
+
+  abbrev OK : World → Type 0
+  OK w = Sound limits known H nobody-but w
+
+  -- Memory shows the world, and the code's balancing is the rules'; which thread moves the code alone keeps.
+  pub record Meets (ts : List Thread) (cs : List (List ℕ)) (wakeups : ℕ) (b : step.Balancing) (B : Balancing) : Type 0 where
+    pub shows : Shows limits topology known active ts cs (B .world)
+    pub safe : Sound limits known H nobody-but (B .world)
+    pub words : Sixteen (b .allowed)
+    pub allowed : (c : ℕ) → c < limits .cpus → cpus.contains (b .allowed) c ≡ B .allowed c
+    pub steps : b .steps ≡ B .steps
+    pub goes-on : b .«goes_on» ≡ B .goes-on
+    pub counted : wakeups ≡ B .world .wakeups
+    pub few : B .world .wakeups ≤ base + B .steps
+
+  -- ---- the rules
+
+  put-safe : (w : World) (c x : ℕ) → OK w → New limits known nobody-but w c x → OK (sched.schedule-thread-on-cpu limits topology tick us w c x)
+  unfolding sched.schedule-thread-on-cpu sched.reset-thread-time
+  put-safe w c x d n =
+      let v : World = with-thread w x (times.moving-to-queue (w .threads x) c) in
+      let s : Same limits w (sched.reset-thread-time limits topology tick us v c x) =
+      same-then (same-thread-changed limits w x _ (alike-queue limits (w .threads x) c)) (same-thread-changed limits v x _ (alike-reset limits (v .threads x) _)) in
+      sound-same (same-wakeup limits _ _) (sound-insert limits topology tick us known numbered H nobody-but _ c x false (sound-same s d)
+      (record { nowhere = same-free x s (n .nowhere); is-known = n .is-known; near = n .near; runs-not = λ e b r. n .runs-not e b (sym (s .running e) ∙ r) }))
+
+  put-few : (w : World) (c x : ℕ) → sched.schedule-thread-on-cpu limits topology tick us w c x .wakeups ≤ w .wakeups + 1
+  unfolding sched.schedule-thread-on-cpu sched.wakeup sched.insert-thread sched.noted sched.with-thread sched.with-cpu sched.reset-thread-time
+  put-few w c x = one-at-most (sched.should-signal limits topology tick us w c x) (w .wakeups)
+
+  handed-waited : (w : World) (c : ℕ) (s : Bool) (x : ℕ) → OK w → (n : Next) → asked (pinned-in w) (w .cpus c .queue) s ≡ n
+      → sched.handed-out limits topology tick us w c s n .got ≡ some x → waits w c x ≡ true
+  unfolding sched.handed-out
+  handed-waited w c s x d nobody a e = cc
+  handed-waited w c s x d (next-in p j y) a e =
+      let z : y ≡ x = cc in
+      ap (has x) (asked-head (pinned-in w) (w .cpus c .queue) s p j y (d .kept c .fits .shape) a .first)
+      ∙ ap (λ v. has x (v ∷ order (leave p (w .cpus c .queue) j))) z ∙ has-first x (order (leave p (w .cpus c .queue) j))
+
+  handed-counts : (w : World) (c : ℕ) (s : Bool) (n : Next) → sched.handed-out limits topology tick us w c s n .world .wakeups ≡ w .wakeups
+  unfolding sched.handed-out sched.noted sched.with-cpu
+  handed-counts w c s nobody = refl
+  handed-counts w c s (next-in p j y) = refl
+
+  take-counts : (w : World) (c : ℕ) (s : Bool) → sched.take-thread limits topology tick us w c s .world .wakeups ≡ w .wakeups
+  unfolding sched.take-thread
+  take-counts w c s = handed-counts w c s _
+
+  -- the move of the rules, by what is taken
+  rules-some : (w : World) (allowed : ℕ → Bool) (n donor recipient x : ℕ) (g : Got) → sched.take-thread limits topology tick us w donor (not (eqb recipient donor)) ≡ g → g .got ≡ some x
+      → sched.move-one limits topology tick us w allowed n donor recipient
+      ≡ record { world = sched.schedule-thread-on-cpu limits topology tick us (with-thread (g .world) x (times.moving-to-queue (g .world .threads x) recipient)) recipient x; allowed = at allowed recipient false; steps = n + 11; goes-on = true }
+  unfolding sched.move-one sched.take-a-thread-from-cpu sched.moved-for sched.received
+  rules-some w allowed n donor recipient x g t e =
+      ap (λ (g : Got). sched.received limits topology tick us (sched.moved-for limits topology tick us recipient (g .got) (g .world) .world) (at allowed recipient false) n recipient
+      (sched.moved-for limits topology tick us recipient (g .got) (g .world) .got)) t
+      ∙ ap (λ (o : Option ℕ). sched.received limits topology tick us (sched.moved-for limits topology tick us recipient o (g .world) .world) (at allowed recipient false) n recipient
+      (sched.moved-for limits topology tick us recipient o (g .world) .got)) e
+
+  rules-none : (w : World) (allowed : ℕ → Bool) (n donor recipient : ℕ) (g : Got) → sched.take-thread limits topology tick us w donor (not (eqb recipient donor)) ≡ g → g .got ≡ none
+      → sched.move-one limits topology tick us w allowed n donor recipient ≡ record { world = g .world; allowed = at allowed recipient false; steps = n + 1; goes-on = true }
+  unfolding sched.move-one sched.take-a-thread-from-cpu sched.moved-for sched.received
+  rules-none w allowed n donor recipient g t e =
+      ap (λ (g : Got). sched.received limits topology tick us (sched.moved-for limits topology tick us recipient (g .got) (g .world) .world) (at allowed recipient false) n recipient
+      (sched.moved-for limits topology tick us recipient (g .got) (g .world) .got)) t
+      ∙ ap (λ (o : Option ℕ). sched.received limits topology tick us (sched.moved-for limits topology tick us recipient o (g .world) .world) (at allowed recipient false) n recipient
+      (sched.moved-for limits topology tick us recipient o (g .world) .got)) e
+
+  active-again : (x : ℕ) → active x ≡ false → at (at active x true) x false ≡ active
+  active-again x h = λ i z. (both (eqb z x)
+      (λ e. rw (eqb-true z x e) (at-here (at active x true) x false ∙ sym h))
+      (λ e. at-there (at active x true) x false z (eqb-false z x e) ∙ at-there active x true z (eqb-false z x e))) i
+
+  -- ---- a thread is taken for the recipient, and put there
+
+  module _ {ts : List Thread} {cs : List (List ℕ)} {w : World} (s : Shows limits topology known active ts cs w) (safe : OK w) (donor recipient : ℕ) (donor-in : donor < limits .cpus)
+      (recipient-in : recipient < limits .cpus) where
+    abbrev d : Took
+    d = takeDef ts cs donor (not (eqb recipient donor))
+
+    abbrev g : Got
+    g = sched.take-thread limits topology tick us w donor (not (eqb recipient donor))
+
+    taken-shows : Take-shows limits topology known active d g
+    taken-shows = shows-take limits topology tick us known numbered small H s safe donor donor-in (not (eqb recipient donor))
+
+    taken-safe : Taken limits topology tick us known numbered H nobody-but w g
+    taken-safe = take-taken limits topology tick us known numbered H nobody-but w donor (not (eqb recipient donor)) safe
+
+    hands-shown : handsOut cs donor recipient ≡ is-some (g .got)
+    unfolding handsOut takeDef
+    hands-shown =
+        somebody-answers ts cs donor (rqFront (queueAt cs donor) (not (eqb recipient donor)))
+        ∙ ap (λ (a : lent.Taken). not (isNobody a)) (taken-shows .answer) ∙ somebody-is (g .got)
+
+    -- nobody was handed out: only the rules' log has changed
+    none-shows : g .got ≡ none → Shows limits topology known active ts cs (g .world)
+    unfolding takeDef active-with isNobody as-taken
+    none-shows e =
+        let a : isNobody (d .answer) ≡ true = ap isNobody (taken-shows .answer) ∙ ap (λ (o : Option ℕ). isNobody (as-taken o)) e in
+        let l = nobody-left ts cs donor (rqFront (queueAt cs donor) (not (eqb recipient donor))) a in
+        let k : Shows limits topology known active (d .threads) (d .cpus) (g .world) =
+        subst (λ (o : Option ℕ). Shows limits topology known (active-with active o) (d .threads) (d .cpus) (g .world)) e (taken-shows .left) in
+        subst (λ (r : List (List ℕ)). Shows limits topology known active ts r (g .world)) (l .1)
+        (subst (λ (r : List Thread). Shows limits topology known active r (d .cpus) (g .world)) (l .0) k)
+
+    module _ (x : ℕ) (e : g .got ≡ some x) where
+      abbrev moved-world : World
+      moved-world = with-thread (g .world) x (times.moving-to-queue (g .world .threads x) recipient)
+
+      answered : d .answer ≡ taken.Thread x
+      unfolding as-taken
+      answered = taken-shows .answer ∙ ap as-taken e
+
+      moved-shows : Shows limits topology known (at active x true) (set (d .threads) x (moving-to-queue (recordAt (d .threads) x) recipient)) (d .cpus) moved-world
+      unfolding active-with
+      moved-shows =
+          shows-moving-to-queue limits topology tick us known numbered small early
+          (subst (λ (o : Option ℕ). Shows limits topology known (active-with active o) (d .threads) (d .cpus) (g .world)) e (taken-shows .left))
+          recipient recipient-in x (numbered x (taken-safe .handed-known x e))
+
+      moved-new : New limits known nobody-but moved-world recipient x
+      unfolding with-thread
+      moved-new = record {
+        nowhere = taken-safe .handed-free x e;
+        is-known = taken-safe .handed-known x e;
+        near = recipient-in;
+        runs-not = λ i b r. taken-safe .handed-idle x i e b (sym (taken-safe .running i) ∙ r);
+      }
+
+      was-waiting : waits w donor x ≡ true
+      unfolding sched.take-thread
+      was-waiting = handed-waited w donor (not (eqb recipient donor)) x safe (asked (pinned-in w) (w .cpus donor .queue) (not (eqb recipient donor))) refl e
+
+      was-idle : active x ≡ false
+      was-idle = not-true-is (active x) (λ t.
+          let a = s .places .waiting donor x was-waiting in
+          let b = s .places .running x t in
+          let z : _≡_ {A = ℕ} 0 1 = cc in omega arith)
+
+      abbrev left : ℕ → code.World
+      left n = scheduleThreadOnCpu (set (d .threads) x (moving-to-queue (recordAt (d .threads) x) recipient)) (d .cpus) k recipient x n
+
+      put-shows : (n : ℕ) → Shows limits topology known active (left n .threads) (left n .cpus) (sched.schedule-thread-on-cpu limits topology tick us moved-world recipient x)
+      unfolding scheduleThreadOnCpu movedIn
+      put-shows n =
+          subst (λ (f : ℕ → Bool). Shows limits topology known f (left n .threads) (left n .cpus) (sched.schedule-thread-on-cpu limits topology tick us moved-world recipient x)) (active-again x was-idle)
+          (shows-put limits topology tick us known numbered small early moved-shows recipient x moved-new)
+
+      put-wakeups : (n : ℕ) → n ≡ w .wakeups → w .wakeups < NONE → left n .wakeups ≡ sched.schedule-thread-on-cpu limits topology tick us moved-world recipient x .wakeups
+      unfolding scheduleThreadOnCpu with-thread
+      put-wakeups n c h =
+          put-counts limits topology tick us known numbered small early moved-shows recipient x moved-new n (c ∙ sym (take-counts w donor (not (eqb recipient donor)))) (rw (take-counts w donor (not (eqb recipient donor))) h)
+
+      put-safely : OK (sched.schedule-thread-on-cpu limits topology tick us moved-world recipient x)
+      put-safely = put-safe moved-world recipient x (sound-same (same-thread-changed limits (g .world) x _ (alike-queue limits (g .world .threads x) recipient)) (taken-safe .sound)) moved-new
+
+      put-wakeups-few : sched.schedule-thread-on-cpu limits topology tick us moved-world recipient x .wakeups ≤ w .wakeups + 1
+      unfolding with-thread
+      put-wakeups-few =
+          subst (λ i. sched.schedule-thread-on-cpu limits topology tick us moved-world recipient x .wakeups ≤ i + 1) (take-counts w donor (not (eqb recipient donor))) (put-few moved-world recipient x)
+
+  -- ---- one choice
+
+  -- after a choice and the move that it comes to; a choice that moves a thread is eleven steps
+  pub record Stepped (ts : List Thread) (n : ℕ) (s : Balanced) (before : ℕ) (B : Balancing) : Type 0 where
+    pub meets : Meets (moveOne ts (s .cpus) k (s .balancing) n .threads) (moveOne ts (s .cpus) k (s .balancing) n .cpus) (moveOne ts (s .cpus) k (s .balancing) n .wakeups) (s .balancing) B
+    pub far : s .balancing .moves ≡ true → before + 11 ≤ B .steps
+
+  still : {ts : List Thread} {n : ℕ} (s : Balanced) (before : ℕ) (B : Balancing) → s .balancing .moves ≡ false → Meets ts (s .cpus) n (s .balancing) B → Stepped ts n s before B
+  still {ts} {n} s before B e m = record {
+    meets = subst (λ (u : code.World). Meets (u .threads) (u .cpus) (u .wakeups) (s .balancing) B) (sym (move-none ts (s .cpus) k (s .balancing) n e)) m;
+    far = λ t. absurd (true≢false (sym t ∙ e));
+  }
+
+  module _ {ts : List Thread} {cs : List (List ℕ)} {n : ℕ} {b : step.Balancing} {B : Balancing} (m : Meets ts cs n b B) (stays : b .moves ≡ false) (on : b .«goes_on» ≡ true) (under : B .steps < 20) where
+    abbrev w : World
+    w = B .world
+
+    one-more : sum (b .steps) 1 ≡ B .steps + 1
+    one-more = ap (λ i. sum i 1) (m .steps) ∙ sum-exact (B .steps) 1 (omega arith)
+
+    removed : (c d : ℕ) → d < limits .cpus → cpus.contains (cpus.remove (b .allowed) c) d ≡ at (B .allowed) c false d
+    removed c d h =
+        both (eqb d c)
+        (λ e. rw (eqb-true d c e) (remove-same (b .allowed) (m .words) c ∙ sym (at-here (B .allowed) c false)))
+        (λ e. remove-other (b .allowed) (m .words) c d (eqb-false d c e) ∙ m .allowed d h ∙ sym (at-there (B .allowed) c false d (eqb-false d c e)))
+
+    module _ (donor recipient : ℕ) (donor-in : donor < limits .cpus) (recipient-in : recipient < limits .cpus) where
+      abbrev v : World
+      v = with-cpu w donor (set-rebalance (w .cpus donor))
+
+      abbrev marked : List (List ℕ)
+      marked = put-word cs donor 77 1
+
+      marked-shows : Shows limits topology known active ts marked v
+      marked-shows = shows-must-rebalance (m .shows) donor donor-in
+
+      marked-safe : OK v
+      unfolding set-rebalance
+      marked-safe = sound-same (same-cpu-changed limits w donor (set-rebalance (w .cpus donor)) refl refl) (m .safe)
+
+      v-counts : v .wakeups ≡ w .wakeups
+      unfolding with-cpu
+      v-counts = refl
+
+      abbrev got : Got
+      got = sched.take-thread limits topology tick us v donor (not (eqb recipient donor))
+
+      got-counts : got .world .wakeups ≡ w .wakeups
+      got-counts = take-counts v donor (not (eqb recipient donor)) ∙ v-counts
+
+      hands-now : handsOut cs donor recipient ≡ is-some (got .got)
+      unfolding handsOut
+      hands-now =
+          ap (λ (q : RunQueue). isSomebody (rqFront q (not (eqb recipient donor)))) (sym (beside-put cs donor 77 1 (in-rows (m .shows) donor donor-in) (omega arith) (omega arith) .queue donor))
+          ∙ hands-shown marked-shows marked-safe donor recipient donor-in recipient-in
+
+      abbrev moved-B : Balancing
+      moved-B = sched.move-one limits topology tick us v (B .allowed) (B .steps) donor recipient
+
+      -- nobody is handed out
+      move-nobody : got .got ≡ none → Stepped ts n (record { balancing = without b recipient; cpus = marked }) (B .steps) moved-B
+      unfolding without
+      move-nobody e =
+          let r : moved-B ≡ record { world = got .world; allowed = at (B .allowed) recipient false; steps = B .steps + 1; goes-on = true } = rules-none v (B .allowed) (B .steps) donor recipient got refl e in
+          still (record { balancing = without b recipient; cpus = marked }) (B .steps) moved-B stays
+          (subst (λ (C : Balancing). Meets ts marked n (without b recipient) C) (sym r) (record {
+            shows = none-shows marked-shows marked-safe donor recipient donor-in recipient-in e;
+            safe = taken-safe marked-shows marked-safe donor recipient donor-in recipient-in .sound;
+            words = sixteen-remove (b .allowed) (m .words) recipient;
+            allowed = removed recipient;
+            steps = one-more;
+            goes-on = on;
+            counted = m .counted ∙ sym got-counts;
+            few = omega (arith, m .few, got-counts);
+          }))
+
+      -- a thread moves
+      move-somebody : (x : ℕ) → got .got ≡ some x → Stepped ts n (record { balancing = moving b donor recipient; cpus = marked }) (B .steps) moved-B
+      unfolding moving
+      move-somebody x e =
+          let r : moved-B ≡ record {
+            world = sched.schedule-thread-on-cpu limits topology tick us (with-thread (got .world) x (times.moving-to-queue (got .world .threads x) recipient)) recipient x;
+            allowed = at (B .allowed) recipient false;
+            steps = B .steps + 11;
+            goes-on = true;
+          } = rules-some v (B .allowed) (B .steps) donor recipient x got refl e in
+          let t : moveOne ts marked k (moving b donor recipient) n ≡ left marked-shows marked-safe donor recipient donor-in recipient-in x e n =
+          move-some ts marked k (moving b donor recipient) n refl ∙ taken-received ts marked k donor recipient n x (answered marked-shows marked-safe donor recipient donor-in recipient-in x e) in
+          record {
+            meets = subst (λ (u : code.World). Meets (u .threads) (u .cpus) (u .wakeups) (moving b donor recipient) moved-B) (sym t)
+                (subst (λ (C : Balancing). Meets (left marked-shows marked-safe donor recipient donor-in recipient-in x e n .threads) (left marked-shows marked-safe donor recipient donor-in recipient-in x e n .cpus)
+                (left marked-shows marked-safe donor recipient donor-in recipient-in x e n .wakeups) (moving b donor recipient) C) (sym r) (record {
+                  shows = put-shows marked-shows marked-safe donor recipient donor-in recipient-in x e n;
+                  safe = put-safely marked-shows marked-safe donor recipient donor-in recipient-in x e;
+                  words = sixteen-remove (b .allowed) (m .words) recipient;
+                  allowed = removed recipient;
+                  steps = ap (λ i. sum i 11) (m .steps) ∙ sum-exact (B .steps) 11 (omega arith);
+                  goes-on = on;
+                  counted = put-wakeups marked-shows marked-safe donor recipient donor-in recipient-in x e n (m .counted ∙ sym v-counts) (omega (arith, v-counts, m .few, room));
+                  few = omega (arith, put-wakeups-few marked-shows marked-safe donor recipient donor-in recipient-in x e, v-counts, m .few);
+                }));
+            far = λ z. subst (λ (C : Balancing). B .steps + 11 ≤ C .steps) (sym r) (omega arith);
+          }
+
+      move-law : (o : Option ℕ) → got .got ≡ o → Stepped ts n (record { balancing = cond (is-some o) (moving b donor recipient) (without b recipient); cpus = marked }) (B .steps) moved-B
+      unfolding is-some
+      move-law none e = move-nobody e
+      move-law (some x) e = move-somebody x e
+
+      abbrev passed-B : (ℕ → Bool) → Balancing
+      passed-B allowed = record { world = v; allowed = allowed; steps = B .steps + 1; goes-on = true }
+
+      kept-going : (b′ : step.Balancing) (allowed : ℕ → Bool) → b′ .moves ≡ false → b′ .steps ≡ sum (b .steps) 1 → b′ .«goes_on» ≡ true → Sixteen (b′ .allowed)
+          → ((c : ℕ) → c < limits .cpus → cpus.contains (b′ .allowed) c ≡ allowed c) → Stepped ts n (record { balancing = b′; cpus = marked }) (B .steps) (passed-B allowed)
+      kept-going b′ allowed z i o f a =
+          still (record { balancing = b′; cpus = marked }) (B .steps) (passed-B allowed) z
+          (record { shows = marked-shows; safe = marked-safe; words = f; allowed = a; steps = i ∙ one-more; goes-on = o; counted = m .counted ∙ sym v-counts; few = omega (arith, v-counts, m .few) })
+
+      -- nobody waits at the donor: it leaves the allowed set if it has no more than the thread that it runs
+      none-waits : Stepped ts n (record { balancing = cond (eqb (sched.current-load (w .cpus donor)) 1) (without b donor) (passed b); cpus = marked }) (B .steps)
+          (passed-B (cond (eqb (sched.current-load (w .cpus donor)) 1) (at (B .allowed) donor false) (B .allowed)))
+      unfolding without passed
+      none-waits =
+          both (eqb (sched.current-load (w .cpus donor)) 1)
+          (λ e. rw e (kept-going (without b donor) (at (B .allowed) donor false) stays refl on (sixteen-remove (b .allowed) (m .words) donor) (removed donor)))
+          (λ e. rw e (kept-going (passed b) (B .allowed) stays refl on (m .words) (m .allowed)))
+
+      load-at-donor : cpu.current-load cs donor ≡ sched.current-load (w .cpus donor)
+      load-at-donor = current-load-shown (m .shows) small donor donor-in
+
+      waiting-at-donor : word cs donor 62 ≡ load (w .cpus donor .queue)
+      waiting-at-donor = word-load cs donor ∙ load-shown (m .shows) small donor donor-in
+
+      outcome-is : outcome b donor recipient (cpu.current-load cs donor) (word cs donor 62) (handsOut cs donor recipient)
+          ≡ outcome b donor recipient (sched.current-load (w .cpus donor)) (load (w .cpus donor .queue)) (is-some (got .got))
+      outcome-is =
+          ap (λ i. outcome b donor recipient i (word cs donor 62) (handsOut cs donor recipient)) load-at-donor
+          ∙ ap (λ i. outcome b donor recipient (sched.current-load (w .cpus donor)) i (handsOut cs donor recipient)) waiting-at-donor
+          ∙ ap (λ (t : Bool). outcome b donor recipient (sched.current-load (w .cpus donor)) (load (w .cpus donor .queue)) t) hands-now
+
+      pair-is : pairStep cs b donor recipient
+          ≡ cond (eqb (sched.current-load (w .cpus donor)) 0) (record { balancing = stopped b; cpus = cs })
+          (record { balancing = outcome b donor recipient (sched.current-load (w .cpus donor)) (load (w .cpus donor .queue)) (is-some (got .got)); cpus = marked })
+      unfolding pairStep
+      pair-is =
+          ap (λ i. cond (eqb i 0) (record { balancing = stopped b; cpus = cs })
+          (record { balancing = outcome b donor recipient (cpu.current-load cs donor) (word cs donor 62) (handsOut cs donor recipient); cpus = marked })) load-at-donor
+          ∙ ap (λ (c : step.Balancing). cond (eqb (sched.current-load (w .cpus donor)) 0) (record { balancing = stopped b; cpus = cs }) (record { balancing = c; cpus = marked })) outcome-is
+
+      abbrev stopped-B : Balancing
+      stopped-B = record { world = w; allowed = B .allowed; steps = B .steps; goes-on = false }
+
+      stop-law : Stepped ts n (record { balancing = stopped b; cpus = cs }) (B .steps) stopped-B
+      unfolding stopped
+      stop-law = still (record { balancing = stopped b; cpus = cs }) (B .steps) stopped-B stays
+          (record { shows = m .shows; safe = m .safe; words = m .words; allowed = m .allowed; steps = m .steps; goes-on = refl; counted = m .counted; few = m .few })
+
+      on-law : Stepped ts n (record { balancing = outcome b donor recipient (sched.current-load (w .cpus donor)) (load (w .cpus donor .queue)) (is-some (got .got)); cpus = marked }) (B .steps)
+          (cond (ltb 0 (load (w .cpus donor .queue))) moved-B (passed-B (cond (eqb (sched.current-load (w .cpus donor)) 1) (at (B .allowed) donor false) (B .allowed))))
+      unfolding outcome
+      on-law =
+          both (ltb 0 (load (w .cpus donor .queue)))
+          (λ e. rw e (move-law (got .got) refl))
+          (λ e. rw e none-waits)
+
+      donor-law : Stepped ts n (pairStep cs b donor recipient) (B .steps) (sched.balance-pair limits topology tick us w (B .allowed) (B .steps) (pair donor recipient))
+      unfolding sched.balance-pair
+      donor-law =
+          subst (λ (s : Balanced). Stepped ts n s (B .steps) (sched.balance-pair limits topology tick us w (B .allowed) (B .steps) (pair donor recipient))) (sym pair-is)
+          (both (eqb (sched.current-load (w .cpus donor)) 0) (λ e. rw e stop-law) (λ e. rw e on-law))
+
+    pair-law : (p : Pair) → PairUnder (limits .cpus) p → Stepped ts n (pairOf cs b p) (B .steps) (sched.balance-pair limits topology tick us w (B .allowed) (B .steps) p)
+    unfolding pairOf passed sched.balance-pair PairUnder
+    pair-law no-pair h =
+        still (record { balancing = passed b; cpus = cs }) (B .steps) (record { world = w; allowed = B .allowed; steps = B .steps + 1; goes-on = true }) stays
+        (record { shows = m .shows; safe = m .safe; words = m .words; allowed = m .allowed; steps = one-more; goes-on = on; counted = m .counted; few = omega (arith, m .few) })
+    pair-law (pair donor recipient) h = donor-law donor recipient (h .0) (h .1)
+
+  -- the draws of a choice
+  drawn-meets : {ts : List Thread} {cs : List (List ℕ)} {n : ℕ} {b : step.Balancing} {B : Balancing} → Meets ts cs n b B → (d : ℕ)
+      → Meets ts (put-word cs us 79 d) n b (record { world = with-cpu (B .world) us (with-draws (B .world .cpus us) d); allowed = B .allowed; steps = B .steps; goes-on = B .goes-on })
+  unfolding with-draws with-cpu
+  drawn-meets {B = B} m d = record {
+    shows = shows-draws (m .shows) us us-in d;
+    safe = sound-same (same-cpu-changed limits (B .world) us (with-draws (B .world .cpus us) d) refl refl) (m .safe);
+    words = m .words;
+    allowed = m .allowed;
+    steps = m .steps;
+    goes-on = m .goes-on;
+    counted = m .counted;
+    few = m .few;
+  }
+
+  module _ (nodes : List (List ℕ)) (tree : Tree limits nodes topology) where
+    -- ONE CHOICE AND THE MOVE THAT IT COMES TO ARE ONE STEP OF THE RULES
+    pub step-law : {ts : List Thread} {cs : List (List ℕ)} {n : ℕ} {b : step.Balancing} {B : Balancing} → Meets ts cs n b B → b .moves ≡ false → b .«goes_on» ≡ true → B .steps < 20
+        → Stepped ts n (balanceStep cs nodes us (limits .cpus) b) (B .steps) (sched.balance-step limits topology tick us B)
+    unfolding balanceStep chosenAt sched.balance-step
+    step-law {ts} {cs} {n} {b} {B} m stays on under =
+        let f : Chosen = choose-cpu-balance us (B .allowed) (λ c. sched.current-load (B .world .cpus c)) (cpus-of limits topology 0) (B .world .cpus us .draw-state) in
+        subst (λ (c : Chosen). Stepped ts n (pairOf (put-word cs us 79 (c .draws)) b (c .found)) (B .steps)
+        (sched.balance-pair limits topology tick us (with-cpu (B .world) us (with-draws (B .world .cpus us) (f .draws))) (B .allowed) (B .steps) (f .found)))
+        (sym (balance-memory (m .shows) small us us-in nodes tree (cpus.contains (b .allowed)) (B .allowed) (m .allowed)))
+        (pair-law (drawn-meets m (f .draws)) stays on under (f .found) (chosen-in limits topology us (B .allowed) _ _ (omega arith)))

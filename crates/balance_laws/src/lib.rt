@@ -1,0 +1,1 @@
+// No code: that `balance` and the stat tick over lent records and words are those of the rules, in specs/.

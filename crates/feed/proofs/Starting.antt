@@ -1,0 +1,15 @@
+-- The CPUs made new one after the other. Assumes nothing.
+use mathlib.Core.Path.{_≡_, refl}
+use Prim.Native.Nat.{ℕ, zero, suc, _+_, _≤_}
+use native.Mathlib.Omega.{arith}
+use native.Mathlib.Numerals.{add-one}
+use mathlib.Core.List.{List}
+use Rattle.feed.specs.Start.{newCpu, newCpus}
+
+module _ (cs ds : List (List ℕ)) (c : ℕ) (done : ds ≡ newCpus c cs) where
+  pub one-cpu-more : newCpu ds c ≡ newCpus (c + 1) cs
+  unfolding newCpus
+  one-cpu-more = rw (add-one, done)
+
+  pub every-cpu : (n : ℕ) → c ≤ n → n ≤ c → ds ≡ newCpus n cs
+  every-cpu n p q = let e : c ≡ n = omega arith in rw e at done

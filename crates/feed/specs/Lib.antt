@@ -1,0 +1,3 @@
+pub mod Fed
+pub mod Feed
+pub mod Start

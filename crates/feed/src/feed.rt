@@ -1,0 +1,51 @@
+// A block of a stream, through as many commands as fit.
+ghost use mathlib.Core.Path.{_≡_};
+ghost use Rattle.feed.specs.Feed.{Fedded, worldOf, runDef, feedDef};
+use crate::fed::Fed;
+use crate::fed::answered;
+use crate::fed::closed;
+use crate::fed::more;
+use crate::fed::opened;
+use command::obey::command_at;
+use thread::Thread;
+
+// The commands of the first n bytes, each answered in output, until one of the two is used up.
+fn run(
+    threads: &mut [Thread],
+    cpus: &mut [[u64; 96]],
+    nodes: &mut [[u64; 32]],
+    input: &[u8],
+    output: &mut [u8],
+    n: usize,
+    last: bool,
+    fed: Fed,
+) -> Fed
+    ensures { λ r. ⌜ Fedded (runDef n (now (input .entry)) n last (worldOf (now (threads .entry)) (now (cpus .entry)) (now (nodes .entry)) (now (output .entry)) fed)) r (now (threads .exit)) (now (cpus .exit)) (now (nodes .exit)) (now (output .exit)) ⌝ }
+{
+    let mut f = fed;
+    while more(input, output, n, last, f) {
+        let a = command_at(threads, cpus, nodes, input, n, f.at, f.state);
+        let g = answered(output, n, a, f);
+        f = g;
+    }
+    f
+}
+
+// The first n bytes of input, `last` if no block follows: header, lines and end line in output. The bytes of a command cut short are not taken: they go
+// to the front of the next block.
+pub fn feed(
+    threads: &mut [Thread],
+    cpus: &mut [[u64; 96]],
+    nodes: &mut [[u64; 32]],
+    input: &[u8],
+    output: &mut [u8],
+    n: usize,
+    last: bool,
+    fed: Fed,
+) -> Fed
+    ensures { λ r. ⌜ Fedded (feedDef (now (input .entry)) n last (worldOf (now (threads .entry)) (now (cpus .entry)) (now (nodes .entry)) (now (output .entry)) fed)) r (now (threads .exit)) (now (cpus .exit)) (now (nodes .exit)) (now (output .exit)) ⌝ }
+{
+    let f = opened(output, fed);
+    let g = run(threads, cpus, nodes, input, output, n, last, f);
+    closed(output, n, last, g)
+}

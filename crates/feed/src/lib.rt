@@ -1,0 +1,4 @@
+// The library's start, and a stream of commands fed block by block.
+pub mod fed;
+pub mod feed;
+pub mod start;

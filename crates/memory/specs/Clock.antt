@@ -1,0 +1,64 @@
+-- A CLOCK AND A HARD TICK of the run queue of a CPU. Assumes nothing.
+use Prim.Native.Nat.{ℕ, _-_, _^_, _≤_, _<_}
+use mathlib.Core.Path.{_≡_, refl, ap}
+use mathlib.Core.Bool.{Bool}
+use mathlib.Core.List.{List}
+use Rattle.rules.specs.Line.{has}
+use Rattle.rules.specs.Queue.{order, advance-insert-index}
+use Rattle.rules.specs.Effect.{advance-order}
+use Rattle.rules.specs.State.{Limits, Topology, Cpu}
+use Rattle.rules.specs.Schedule as sched
+use Rattle.rules.specs.Schedule.{World, with-cpu, with-queue, with-ticks}
+use Rattle.rules.specs.Sound.{at-keeps}
+use Rattle.thread.specs.declared.Thread.{Thread}
+use Rattle.runqueue.specs.RunQueue.{rqClock, rqHardtick}
+use Rattle.processor.specs.Queue.{queueAt}
+use Rattle.represent.specs.Well.{Reading, clock-reading, hardtick-reading}
+use Rattle.represent.specs.System.{clock-law, hardtick-law, ticks-law}
+use Rattle.lent.specs.Rq.{clockDef, hardtickDef}
+use Rattle.memory.specs.Shows.{reading-of, Words-show, Small, Shows}
+use Rattle.memory.specs.Frames.{places-same}
+use Rattle.memory.specs.Queues.{fits, words-queue, shows-stored}
+
+words-ticked : {topology : Topology} (cs : List (List ℕ)) (c : ℕ) (p : Cpu) (last : ℕ) → Words-show topology cs c p → Words-show topology cs c (with-ticks p last (p .idle-timeslice))
+unfolding with-ticks
+words-ticked cs c p last s = record {
+  declared = s .declared;
+  placed = s .placed;
+  running = s .running;
+  own-priority = s .own-priority;
+  is-idle = s .is-idle;
+  must-rebalance = s .must-rebalance;
+  preempt = s .preempt;
+  draw-state = s .draw-state;
+  rebalance-time = s .rebalance-time;
+  idle-timeslice = s .idle-timeslice;
+}
+
+module _ {limits : Limits} {topology : Topology} {known active : ℕ → Bool} {ts : List Thread} {cs : List (List ℕ)} {w : World} (s : Shows limits topology known active ts cs w) (small : Small limits) (c : ℕ) (near : c < limits .cpus) where
+  abbrev Rs : ℕ → Reading
+  Rs d = reading-of (w .cpus d)
+
+  -- CLOCK
+  pub shows-clock : (tick : ℕ) → Shows limits topology known active ts (clockDef cs c) (sched.clock limits topology tick c w)
+  unfolding clockDef sched.clock with-cpu with-queue clock-reading reading-of
+  shows-clock tick =
+      let p : Cpu = with-queue (w .cpus c) (advance-insert-index (w .cpus c .queue)) (w .cpus c .advertised) in
+      shows-stored s c ts (rqClock (queueAt cs c)) p (with-cpu w c p) refl refl
+      (clock-law (limits .threads) (limits .cpus) ts cs Rs (s .queues) c near (fits small))
+      (words-queue cs c (w .cpus c) _ _ (s .words c near)) (s .threads) (s .queue-cpus)
+      (places-same w (with-cpu w c p) (λ d x. ap (λ (l : List ℕ). has x l) (at-keeps (λ (u : Cpu). order (u .queue)) (w .cpus) c p (advance-order (w .cpus c .queue)) d)) (s .places))
+
+  -- HARD TICK: the tick is kept, and the ticks since the last one are answered
+  pub shows-hardtick : (now : ℕ) → Shows limits topology known active ts (hardtickDef cs c now .cpus) (with-cpu w c (with-ticks (w .cpus c) now (w .cpus c .idle-timeslice)))
+  unfolding hardtickDef with-cpu with-ticks hardtick-reading reading-of
+  shows-hardtick now =
+      let p : Cpu = with-ticks (w .cpus c) now (w .cpus c .idle-timeslice) in
+      shows-stored s c ts (rqHardtick (queueAt cs c) now .queue) p (with-cpu w c p) refl refl
+      (hardtick-law (limits .threads) (limits .cpus) ts cs Rs (s .queues) c near (fits small) now)
+      (words-ticked cs c (w .cpus c) now (s .words c near)) (s .threads) (s .queue-cpus)
+      (places-same w (with-cpu w c p) (λ d x. at-keeps (λ (u : Cpu). has x (order (u .queue))) (w .cpus) c p refl d) (s .places))
+
+  pub ticks-shown : (now : ℕ) → now < 2 ^ 64 → w .cpus c .last-tick ≤ now → hardtickDef cs c now .ticks ≡ now - w .cpus c .last-tick
+  unfolding reading-of
+  ticks-shown now h l = ticks-law (limits .threads) (limits .cpus) ts cs Rs (s .queues) c near (fits small) now h l

@@ -1,0 +1,214 @@
+-- THE COMMANDS THAT A CPU RUNS, over records and words: 12, 13, 14, 16, 17. Assumes nothing.
+use Prim.Native.Nat.{ℕ, zero, suc, _≤_, _<_}
+use mathlib.Core.Path.{_≡_, refl, sym, ap, _∙_}
+use mathlib.Core.Logic.{_≢_}
+use mathlib.Core.Bool.{Bool, true, false, true≢false, false≢true}
+use mathlib.Core.Option.{Option, none, some}
+use mathlib.Core.List.{List, []}
+use lib.Dec.{eqb}
+use borrow.Author.Tests.{eqb-true, eqb-false, eq-eqb}
+use native.Mathlib.Omega.{arith}
+use Rattle.rules.specs.Line.{both}
+use Rattle.rules.specs.Times.{is-some}
+use Rattle.rules.specs.Puts.{PutOrTake}
+use Rattle.rules.specs.State.{at, any-below, is-number, Limits, Topology, Cpu}
+use Rattle.rules.specs.Topology.{visited}
+use Rattle.rules.specs.Schedule as sched
+use Rattle.rules.specs.Schedule.{World, Got, with-cpu, with-thread, with-preempt}
+use Rattle.rules.specs.Sound.{at-here, at-there, at-keeps, same-cpu-changed, sound-same, New, Sound}
+use Rattle.rules.specs.Steps.{nobody-but, Selected, select-cpu-selected}
+use Rattle.rules.specs.Reached.{any-not}
+use Rattle.thread.specs.declared.Thread.{Thread}
+use Rattle.thread.specs.declared.time.OptionCpu.{OptionCpu}
+use Rattle.thread.specs.declared.time.OptionCpu.the-variants as cpu
+use Rattle.thread.specs.Reads.{named}
+use Rattle.thread.specs.Thread.{NONE}
+use Rattle.lent.specs.Rq.{recordAt}
+use Rattle.memory.specs.Shows.{Small, Shows}
+use Rattle.tree.specs.Tree.{Tree, number-is}
+use Rattle.choice.specs.Reads.{as-cpu}
+use Rattle.step.specs.Option.{isNone, cpuOf}
+use Rattle.step.specs.Choose.{selectFor, selectedFor}
+use Rattle.step.specs.Preempt.{swapped}
+use Rattle.sched.specs.declared.context.Context.{Context}
+use Rattle.sched.specs.Queues.{wakeDef}
+use Rattle.sched.specs.Schedule.{scheduleDef, scheduledOn, scheduleThread}
+use Rattle.sched.specs.Ticks.{scheduleHardtick, scheduleResched, scheduleMaybePreempt, preempting}
+use Rattle.sched_laws.specs.Steps.{swapped-mark, shows-swapped, unswapped}
+use Rattle.sched_laws.specs.Ticks.{shows-resched}
+use Rattle.sched_laws.specs.Ticked.{context, shows-schedule-hardtick}
+use Rattle.sched_laws.specs.Moves.{shows-scheduled, counts-scheduled}
+use Rattle.sched_laws.specs.Picks.{Settled, no-one, Ends}
+use Rattle.sched_laws.specs.Schedules.{select-finds, new-same, put-running, select-shown, shows-selected}
+use Rattle.sched_laws.specs.Scheduled.{flags-in, Leaves, select-wakeups, shows-schedule}
+
+-- ---- the active threads are those that run
+
+pub settled-same : {active : ℕ → Bool} (w v : World) → ((c : ℕ) → v .cpus c .running ≡ w .cpus c .running) → Settled no-one active w → Settled no-one active v
+settled-same w v e s = record { runs = λ c x b r. s .runs c x b (sym (e c) ∙ r); others = λ x h. s .others x (λ c b r. h c b (e c ∙ r)) }
+
+-- another table that says the same
+pub shows-active : {limits : Limits} {topology : Topology} {known active : ℕ → Bool} {ts : List Thread} {cs : List (List ℕ)} {w : World} (active′ : ℕ → Bool) → ((x : ℕ) → active′ x ≡ active x)
+    → Shows limits topology known active ts cs w → Shows limits topology known active′ ts cs w
+shows-active active′ e s = record {
+  queues = s .queues;
+  none-past = s .none-past;
+  rows = s .rows;
+  threads = s .threads;
+  queue-cpus = s .queue-cpus;
+  words = s .words;
+  places = record {
+    waiting = s .places .waiting;
+    running = λ x h. s .places .running x (sym (e x) ∙ h);
+    blocked = λ x l k a f. s .places .blocked x l k (sym (e x) ∙ a) f;
+    undeclared = s .places .undeclared;
+  };
+}
+
+-- thread x runs on one of the CPUs
+unfoldable pub runs-somewhere : Limits → World → ℕ → Bool
+runs-somewhere limits w x = any-below (limits .cpus) (λ c. is-number x (w .cpus c .running))
+
+is-the-number : (x : ℕ) (o : Option ℕ) → o ≡ some x → is-number x o ≡ true
+unfolding is-number
+is-the-number x none e = let z : _≡_ {A = ℕ} 0 1 = cc in absurd (omega arith)
+is-the-number x (some y) e = let z : y ≡ x = cc in eq-eqb y x z
+
+some-below : (n : ℕ) (test : ℕ → Bool) (P : Type 0) → any-below n test ≡ true → ((c : ℕ) → c < n → test c ≡ true → P) → P
+unfolding any-below
+some-below zero test P e f = absurd (false≢true e)
+some-below (suc n) test P e f =
+    both (test n) (λ t. f n (omega arith) t) (λ t. some-below n test P (both (any-below n test) (λ u. u) (λ u. absurd (false≢true (rw (t, u) at e)))) (λ c h q. f c (omega arith) q))
+
+pub settled-is : (limits : Limits) (active : ℕ → Bool) (w : World) → ((c x : ℕ) → w .cpus c .running ≡ some x → c < limits .cpus) → Settled no-one active w → (x : ℕ) → runs-somewhere limits w x ≡ active x
+unfolding runs-somewhere
+settled-is limits active w near s x =
+    both (any-below (limits .cpus) (λ c. is-number x (w .cpus c .running)))
+    (λ e. e ∙ sym (some-below (limits .cpus) _ (active x ≡ true) e (λ c h t. s .runs c x refl (number-is x (w .cpus c .running) t))))
+    (λ e. e ∙ sym (s .others x (λ c b r. true≢false (sym (is-the-number x (w .cpus c .running) r) ∙ any-not (limits .cpus) _ e c (near c x r)))))
+
+pub settled-runs : (limits : Limits) (w : World) → ((c x : ℕ) → w .cpus c .running ≡ some x → c < limits .cpus) → Settled no-one (runs-somewhere limits w) w
+unfolding runs-somewhere
+settled-runs limits w near = record {
+  runs = λ c x b r. both (any-below (limits .cpus) (λ d. is-number x (w .cpus d .running))) (λ e. e) (λ e. absurd (true≢false (sym (is-the-number x (w .cpus c .running) r) ∙ any-not (limits .cpus) _ e c (near c x r))));
+  others = λ x h. both (any-below (limits .cpus) (λ d. is-number x (w .cpus d .running))) (λ e. absurd (some-below (limits .cpus) _ ⊥ e (λ c l t. h c refl (number-is x (w .cpus c .running) t)))) (λ e. e);
+}
+
+-- WHAT A COMMAND LEFT, with those active that run
+pub ends-runs : {limits : Limits} {topology : Topology} {known : ℕ → Bool} {ts : List Thread} {cs : List (List ℕ)} {v : World} → ((c x : ℕ) → v .cpus c .running ≡ some x → c < limits .cpus)
+    → Ends limits topology known ts cs v → Shows limits topology known (runs-somewhere limits v) ts cs v
+ends-runs {limits} {v = v} near e = shows-active (runs-somewhere limits v) (settled-is limits (e .active) v near (e .settled)) (e .shows)
+
+module _ (limits : Limits) (topology : Topology) (tick us : ℕ) (known : ℕ → Bool) (numbered : (x : ℕ) → known x ≡ true → x < limits .threads) (small : Small limits)
+    (early : tick ≤ 4611686018427387904) (us-in : us < limits .cpus) (H : ℕ → List PutOrTake) (ns : List (List ℕ)) (tree : Tree limits ns topology) (node : ℕ) (put-on : topology .placed us ≡ some node)
+    (crowd : visited limits topology ≢ []) where
+  abbrev k : Context
+  k = context limits tick us
+
+  module _ {active : ℕ → Bool} {ts : List Thread} {cs : List (List ℕ)} {w : World} (s : Shows limits topology known active ts cs w) (safe : Sound limits known H nobody-but w) (st : Settled no-one active w)
+      (wakeups : ℕ) (count : wakeups ≡ w .wakeups) (few : w .wakeups < NONE) where
+    -- 17: `schedule_maybe_preempt`
+    abbrev cleared : World
+    cleared = with-cpu w us (with-preempt (w .cpus us) false)
+
+    obeyed : w .cpus us .preempt ≡ true → Leaves limits topology known (scheduleDef ts (swapped cs us .cpus) ns k preempting wakeups) (sched.schedule limits topology tick us cleared (record { yield = false; preempt = true; again = true }))
+    unfolding flags-in with-cpu with-preempt
+    obeyed e =
+        shows-schedule limits topology tick us known numbered small early us-in H ns tree node put-on crowd (shows-swapped limits topology tick us known numbered small early s us-in e)
+        (sound-same (same-cpu-changed limits w us (with-preempt (w .cpus us) false) refl refl) safe) (settled-same w cleared (at-keeps (λ (p : Cpu). p .running) (w .cpus) us (with-preempt (w .cpus us) false) refl) st)
+        wakeups count few preempting
+
+    pub shows-maybe-preempt : Leaves limits topology known (scheduleMaybePreempt ts cs ns k wakeups) (sched.schedule-maybe-preempt limits topology tick us w)
+    unfolding scheduleMaybePreempt sched.schedule-maybe-preempt context with-preempt
+    shows-maybe-preempt =
+        both (w .cpus us .preempt)
+        (λ e. rw (swapped-mark limits topology tick us known numbered small early s us-in ∙ e, e) (obeyed e))
+        (λ e. rw (swapped-mark limits topology tick us known numbered small early s us-in ∙ e, e, unswapped limits topology tick us known numbered small early s us-in e)
+        (record { ends = record { active = active; shows = s; settled = st }; counted = count }))
+
+    -- 16: `schedule_resched`
+    runs-known : (x : ℕ) → w .cpus us .running ≡ some x → known x ≡ true
+    runs-known x e = safe .runs us x e .1
+
+    mark-running : (u : World) (b : Bool) (c : ℕ) → sched.mark-preempt limits topology tick us u b .cpus c .running ≡ u .cpus c .running
+    unfolding sched.mark-preempt with-cpu with-preempt
+    mark-running u true c = at-keeps (λ (p : Cpu). p .running) (u .cpus) us _ refl c
+    mark-running u false c = refl
+
+    pub ends-resched : Ends limits topology known ts (scheduleResched ts cs us) (sched.schedule-resched limits topology tick us w)
+    unfolding scheduleResched sched.schedule-resched
+    ends-resched = record {
+      active = active;
+      shows = unfold sched.schedule-resched in shows-resched limits topology tick us known numbered small early us-in s runs-known;
+      settled = settled-same w _ (mark-running w _) st;
+    }
+
+    -- 14: `schedule_hardtick`
+    paid-running : (o : Option ℕ) (n c : ℕ) → sched.paid-by limits topology tick us w o n .cpus c .running ≡ w .cpus c .running
+    unfolding sched.paid-by with-thread with-cpu sched.with-ticks
+    paid-running none n c = at-keeps (λ (p : Cpu). p .running) (w .cpus) us _ refl c
+    paid-running (some x) n c = at-keeps (λ (p : Cpu). p .running) (w .cpus) us _ refl c
+
+    hard-running : (c : ℕ) → sched.schedule-hardtick limits topology tick us w .cpus c .running ≡ w .cpus c .running
+    unfolding sched.schedule-hardtick
+    hard-running c = mark-running _ _ c ∙ paid-running _ _ c
+
+    pub ends-hardtick : w .cpus us .last-tick ≤ tick → Ends limits topology known (scheduleHardtick ts cs k .threads) (scheduleHardtick ts cs k .cpus) (sched.schedule-hardtick limits topology tick us w)
+    ends-hardtick late = record {
+      active = active;
+      shows = shows-schedule-hardtick limits topology tick us known numbered small early us-in s runs-known late;
+      settled = settled-same w _ hard-running st;
+    }
+
+    -- 12: `schedule_thread`: a blocked thread goes into the queue of the CPU selected for it
+    module _ (x : ℕ) (is-known : known x ≡ true) (new : (c : ℕ) → c < limits .cpus → New limits known nobody-but w c x) where
+      abbrev selected : Got
+      selected = sched.select-cpu limits topology tick us w x none
+
+      chosen-is : selectFor cs ns us (limits .cpus) (recordAt ts x) cpu.None ≡ as-cpu (selected .got)
+      unfolding named
+      chosen-is = select-shown limits topology tick us known numbered small early us-in H ns tree node put-on s safe x (numbered x is-known) cpu.None
+
+      abbrev selection : Selected limits topology tick us known numbered H us-in w selected
+      selection = select-cpu-selected limits topology tick us known numbered H us-in w x none (safe .mild x)
+
+      shows-selection : Shows limits topology known active ts (selectedFor cs ns us (limits .cpus) (recordAt ts x) cpu.None) (selected .world)
+      unfolding named
+      shows-selection = shows-selected limits topology tick us known numbered small early us-in H ns tree node put-on s safe x (numbered x is-known) cpu.None
+
+      pub woken-on : is-some (selected .got) ≡ true
+      woken-on = select-finds limits topology tick us known numbered small early us-in H ns tree node put-on crowd w x none
+
+      woken-settled : (v : World) → ((c : ℕ) → v .cpus c .running ≡ w .cpus c .running) → Settled no-one (at active x false) v
+      unfolding nobody-but
+      woken-settled v e = record {
+        runs = λ c y b r.
+            let n : y ≢ x = λ q. new us us-in .runs-not c refl (sym (e c) ∙ r ∙ ap some q) in
+            at-there active x false y n ∙ st .runs c y refl (sym (e c) ∙ r);
+        others = λ y h. both (eqb y x)
+            (λ q. rw (eqb-true y x q) (at-here active x false))
+            (λ q. at-there active x false y (eqb-false y x q) ∙ st .others y (λ c b r. h c b (e c ∙ r)));
+      }
+
+      pub wakes : (c : ℕ) → selected .got ≡ some c → c < limits .cpus → 0 ≡ w .wakeups
+          → (let d = wakeDef ts (selectedFor cs ns us (limits .cpus) (recordAt ts x) cpu.None) k c x 0 in
+          Leaves limits topology known d (sched.schedule-thread-on-cpu limits topology tick us (selected .world) c x))
+      unfolding wakeDef
+      wakes c g near zero-now =
+          let n : New limits known nobody-but (selected .world) c x = new-same limits topology tick us known numbered small early us-in H ns tree node put-on (selection .same) (new c near) in
+          let e : selected .world .wakeups ≡ w .wakeups = select-wakeups limits topology tick us w x none in
+          record {
+            ends = record {
+              active = at active x false;
+              shows = shows-scheduled limits topology tick us known numbered small early us-in H shows-selection c x n 0;
+              settled = woken-settled _ (λ d. put-running limits topology tick us known numbered small early us-in H ns tree node put-on (selected .world) c x d ∙ selection .same .running d);
+            };
+            counted = counts-scheduled limits topology tick us known numbered small early us-in H shows-selection c x n 0 (zero-now ∙ sym e) (rw e few);
+          }
+
+      -- what the definition answers and leaves, once the CPU is known
+      pub scheduled-thread : (c : ℕ) → selected .got ≡ some c
+          → (let d = wakeDef ts (selectedFor cs ns us (limits .cpus) (recordAt ts x) cpu.None) k c x 0 in
+          scheduleThread ts cs ns k x ≡ record { answer = record { cpu = c; wakeups = d .wakeups }; threads = d .threads; cpus = d .cpus })
+      unfolding scheduleThread scheduledOn context isNone cpuOf as-cpu
+      scheduled-thread c g = ap (λ (o : OptionCpu). scheduledOn k x o ts (selectedFor cs ns us (limits .cpus) (recordAt ts x) cpu.None)) (chosen-is ∙ ap as-cpu g)

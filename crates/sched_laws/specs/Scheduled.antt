@@ -1,0 +1,292 @@
+-- `do_schedule`, `schedule` AND `schedule_thread` OVER RECORDS AND WORDS ARE THE RULES'. Assumes nothing.
+use Prim.Native.Nat.{ℕ, _≤_, _<_}
+use mathlib.Core.Path.{_≡_, refl, sym, ap, subst, _∙_}
+use mathlib.Core.Logic.{_≢_}
+use mathlib.Core.Bool.{Bool, true, false, not, _||_, false≢true}
+use mathlib.Core.Option.{Option, none, some}
+use mathlib.Core.List.{List, []}
+use lib.ListN.{set}
+use lib.Dec.{eqb}
+use borrow.Author.Tests.{eqb-true}
+use native.Mathlib.Omega.{arith}
+use Rattle.rules.specs.declared.Priority.{Priority}
+use Rattle.rules.specs.Line.{both}
+use Rattle.rules.specs.Times.{effective-priority, is-some}
+use Rattle.rules.specs.Queue.{Next, nobody, next-in}
+use Rattle.rules.specs.Puts.{PutOrTake}
+use Rattle.rules.specs.State.{Limits, Topology}
+use Rattle.rules.specs.Topology.{visited}
+use Rattle.rules.specs.Schedule as sched
+use Rattle.rules.specs.Schedule.{World, Got, Flags, with-cpu, with-thread, wakeup, noted}
+use Rattle.rules.specs.Sound.{Under, Same, same-self, sound-same, New, Sound}
+use Rattle.rules.specs.Steps.{nobody-but, Selected, select-cpu-selected}
+use Rattle.thread.specs.declared.Thread.{Thread}
+use Rattle.thread.specs.declared.time.OptionCpu.{OptionCpu}
+use Rattle.thread.specs.declared.time.OptionCpu.the-variants as cpu
+use Rattle.thread.specs.Reads.{named}
+use Rattle.thread.specs.Thread.{NONE}
+use Rattle.lent.specs.Rq.{recordAt}
+use Rattle.memory.specs.Shows.{number-or-none, Small, Shows}
+use Rattle.tree.specs.Tree.{Tree}
+use Rattle.choice.specs.Reads.{as-cpu}
+use Rattle.step.specs.Option.{isNone, cpuOf}
+use Rattle.step.specs.Choose.{selectedFor, reinsertAt}
+use Rattle.step.specs.Preempt.{rqHasHigher}
+use Rattle.step.specs.Running.{runningAt, mustRebalance}
+use Rattle.sched.specs.declared.context.Context.{Context}
+use Rattle.sched.specs.declared.context.SchedFlags.{SchedFlags}
+use Rattle.sched.specs.World as lent
+use Rattle.sched.specs.Queues.{blockDef, scheduleThreadOnCpu}
+use Rattle.sched.specs.Schedule.{mustMove, reinsertedDef, resetThreadTime, thenNext, pickNext, reinsertDef, doSchedule, scheduleDef}
+use Rattle.sched_laws.specs.Steps.{running-is, critical-at-work, idle-at-work, must-rebalance-shown, higher-shown, shows-reset}
+use Rattle.sched_laws.specs.Ticked.{context}
+use Rattle.sched_laws.specs.Moves.{shows-scheduled, counts-scheduled}
+use Rattle.sched_laws.specs.Picks.{Settled, no-one, Ends, some-number, shows-picked}
+use Rattle.sched_laws.specs.Schedules.{unsettle, select-finds, weaker, running-new, new-same, ok-put, put-running, shows-blocked, select-shown, shows-selected}
+
+-- the flags as the rules have them
+unfoldable pub flags-in : SchedFlags → Flags
+flags-in f = record { yield = f .yields; preempt = f .preempt; again = f .reinsert }
+
+named-some : {c : ℕ} → named (cpu.Some c) ≡ some c
+unfolding named
+named-some = refl
+
+no-some : (y : ℕ) → none ≡ some y → ⊥
+no-some y e = let z : _≡_ {A = ℕ} 0 1 = cc in omega arith
+
+idle-is : not (is-some none) ≡ true
+unfolding is-some
+idle-is = refl
+
+some-is : (x : ℕ) → not (is-some (some x)) ≡ false
+unfolding is-some
+some-is x = refl
+
+-- What a command's function leaves: records, words and the count of wake-ups.
+pub record Leaves (limits : Limits) (topology : Topology) (known : ℕ → Bool) (d : lent.World) (v : World) : Type 0 where
+  pub ends : Ends limits topology known (d .threads) (d .cpus) v
+  pub counted : d .wakeups ≡ v .wakeups
+
+module _ (limits : Limits) (topology : Topology) (tick us : ℕ) where
+  -- ---- what wakes nobody
+
+  handed-wakeups : (w : World) (c : ℕ) (b : Bool) (n : Next) → sched.handed-out limits topology tick us w c b n .world .wakeups ≡ w .wakeups
+  unfolding sched.handed-out noted with-cpu
+  handed-wakeups w c b nobody = refl
+  handed-wakeups w c b (next-in p j x) = refl
+
+  moved-wakeups : (d : ℕ) (o : Option ℕ) (w : World) → sched.moved-for limits topology tick us d o w .world .wakeups ≡ w .wakeups
+  unfolding sched.moved-for with-thread
+  moved-wakeups d none w = refl
+  moved-wakeups d (some x) w = refl
+
+  pub from-wakeups : (w : World) (c d : ℕ) → sched.take-a-thread-from-cpu limits topology tick us w c d .world .wakeups ≡ w .wakeups
+  unfolding sched.take-a-thread-from-cpu sched.take-thread
+  from-wakeups w c d = moved-wakeups d _ _ ∙ handed-wakeups w c _ _
+
+  steal-wakeups : (w : World) (o : Option ℕ) → sched.steal-from limits topology tick us w o .world .wakeups ≡ w .wakeups
+  unfolding sched.steal-from
+  steal-wakeups w none = refl
+  steal-wakeups w (some c) = from-wakeups w c us
+
+  switch-wakeups : (w : World) (o : Option ℕ) → sched.switch-to limits topology tick us w o .wakeups ≡ w .wakeups
+  unfolding sched.switch-to sched.activated with-cpu with-thread
+  switch-wakeups w none = refl
+  switch-wakeups w (some x) = refl
+
+  stolen-wakeups : (w : World) (cur o : Option ℕ) → sched.run-stolen limits topology tick us w cur o .wakeups ≡ w .wakeups
+  unfolding sched.run-stolen
+  stolen-wakeups w cur (some y) = switch-wakeups w (some y)
+  stolen-wakeups w none none = refl
+  stolen-wakeups w (some x) none = switch-wakeups w none
+
+  taken-wakeups : (w : World) (cur o : Option ℕ) → sched.run-taken limits topology tick us w cur o .wakeups ≡ w .wakeups
+  unfolding sched.run-taken sched.try-steal
+  taken-wakeups w cur (some y) = both (sched.same-cpu y cur) (λ e. rw e) (λ e. rw e (switch-wakeups w (some y)))
+  taken-wakeups w cur none = stolen-wakeups _ cur _ ∙ steal-wakeups w _
+
+  pub pick-wakeups : (w : World) → sched.pick-next limits topology tick us w .wakeups ≡ w .wakeups
+  unfolding sched.pick-next sched.take-thread
+  pick-wakeups w = taken-wakeups _ _ _ ∙ handed-wakeups w us false _
+
+  topo-wakeups : (w : World) (p : Option Priority) → sched.find-cpu-from-topo limits topology tick us w p .world .wakeups ≡ w .wakeups
+  unfolding sched.find-cpu-from-topo with-cpu
+  topo-wakeups w p = refl
+
+  or-any-wakeups : (w : World) (avoid o : Option ℕ) → sched.found-or-any limits topology tick us w avoid o .world .wakeups ≡ w .wakeups
+  unfolding sched.found-or-any
+  or-any-wakeups w avoid none = topo-wakeups w none
+  or-any-wakeups w avoid (some c) = both (sched.same-cpu c avoid) (λ e. rw e (topo-wakeups w none)) (λ e. rw e)
+
+  select-from-wakeups : (w : World) (x : ℕ) (avoid o : Option ℕ) → sched.select-from limits topology tick us w x avoid o .world .wakeups ≡ w .wakeups
+  unfolding sched.select-from
+  select-from-wakeups w x avoid none = or-any-wakeups _ avoid _ ∙ topo-wakeups w _
+  select-from-wakeups w x avoid (some c) = refl
+
+  pub select-wakeups : (w : World) (x : ℕ) (avoid : Option ℕ) → sched.select-cpu limits topology tick us w x avoid .world .wakeups ≡ w .wakeups
+  unfolding sched.select-cpu
+  select-wakeups w x avoid = select-from-wakeups w x avoid _
+
+module _ (limits : Limits) (topology : Topology) (tick us : ℕ) (known : ℕ → Bool) (numbered : (x : ℕ) → known x ≡ true → x < limits .threads) (small : Small limits)
+    (early : tick ≤ 4611686018427387904) (us-in : us < limits .cpus) (H : ℕ → List PutOrTake) (ns : List (List ℕ)) (tree : Tree limits ns topology) (node : ℕ) (put-on : topology .placed us ≡ some node)
+    (crowd : visited limits topology ≢ []) where
+  abbrev k : Context
+  k = context limits tick us
+
+  module _ {active : ℕ → Bool} {ts : List Thread} {cs : List (List ℕ)} {w : World} (s : Shows limits topology known active ts cs w) (safe : Sound limits known H nobody-but w) (st : Settled no-one active w)
+      (wakeups : ℕ) (count : wakeups ≡ w .wakeups) (few : w .wakeups < NONE) where
+    runs-known : (x : ℕ) → w .cpus us .running ≡ some x → known x ≡ true
+    runs-known x e = safe .runs us x e .1
+
+    -- the thread running, x, goes into the queue of CPU c, and the next is picked
+    put-and-pick : (cs₁ : List (List ℕ)) (v : World) (c x : ℕ) → Shows limits topology known active ts cs₁ v → Same limits w v → v .wakeups ≡ w .wakeups → c < limits .cpus → w .cpus us .running ≡ some x
+        → Leaves limits topology known (thenNext ns k x (scheduleThreadOnCpu ts cs₁ k c x wakeups)) (sched.pick-next limits topology tick us (sched.schedule-thread-on-cpu limits topology tick us v c x))
+    unfolding thenNext
+    put-and-pick cs₁ v c x s₁ same e near r =
+        let n : New limits known (λ d. eqb d us) v c x = new-same limits topology tick us known numbered small early us-in H ns tree node put-on same (running-new limits topology tick us known numbered small early us-in H ns tree node put-on w c x safe r near) in
+        let v′ : World = sched.schedule-thread-on-cpu limits topology tick us v c x in
+        let runs : (d : ℕ) → v′ .cpus d .running ≡ w .cpus d .running = λ d. put-running limits topology tick us known numbered small early us-in H ns tree node put-on v c x d ∙ same .running d in
+        let st₁ = unsettle us x active w v′ r (safe .one) runs st in
+        let s₂ = shows-scheduled limits topology tick us known numbered small early us-in H s₁ c x n wakeups in
+        let ok = ok-put limits topology tick us known numbered small early us-in H ns tree node put-on (λ d. eqb d us) v c x (sound-same same (weaker limits topology tick us known numbered small early us-in H ns tree node put-on w safe)) n in
+        let number : number-or-none (v′ .cpus us .running) ≡ x = ap number-or-none (runs us ∙ r) ∙ (unfold number-or-none in refl) in
+        record {
+          ends = subst (λ m. Ends limits topology known (pickNext (scheduleThreadOnCpu ts cs₁ k c x wakeups .threads) (scheduleThreadOnCpu ts cs₁ k c x wakeups .cpus) ns k m .threads)
+              (pickNext (scheduleThreadOnCpu ts cs₁ k c x wakeups .threads) (scheduleThreadOnCpu ts cs₁ k c x wakeups .cpus) ns k m .cpus) (sched.pick-next limits topology tick us v′)) number
+              (shows-picked limits topology tick us known numbered small early us-in H ns tree node put-on st₁ s₂ ok);
+          counted = counts-scheduled limits topology tick us known numbered small early us-in H s₁ c x n wakeups (count ∙ sym e) (rw e few) ∙ sym (pick-wakeups limits topology tick us v′);
+        }
+
+    -- ---- where it goes back into a queue
+
+    module _ (x : ℕ) (r : w .cpus us .running ≡ some x) where
+      below : x < limits .threads
+      below = numbered x (runs-known x r)
+
+      abbrev at-queue : Got
+      at-queue = sched.reinsert-at limits topology tick us w x
+
+      must : mustRebalance cs us ≡ w .cpus us .must-rebalance
+      must = must-rebalance-shown limits topology tick us known numbered small early s us us-in runs-known
+
+      reinsert-chosen : reinsertAt cs ns us (limits .cpus) (recordAt ts x) .chosen ≡ as-cpu (at-queue .got)
+      unfolding reinsertAt sched.reinsert-at
+      reinsert-chosen =
+          both (w .cpus us .must-rebalance)
+          (λ e. rw (must ∙ e, e) (select-shown limits topology tick us known numbered small early us-in H ns tree node put-on s safe x below (cpu.Some us) ∙ ap (λ (o : Option ℕ). as-cpu (sched.select-cpu limits topology tick us w x o .got)) named-some))
+          (λ e. rw (must ∙ e, e) (unfold as-cpu in refl))
+
+      reinsert-shown : Shows limits topology known active ts (reinsertAt cs ns us (limits .cpus) (recordAt ts x) .cpus) (at-queue .world)
+      unfolding reinsertAt sched.reinsert-at
+      reinsert-shown =
+          both (w .cpus us .must-rebalance)
+          (λ e. rw (must ∙ e, e) (subst (λ (o : Option ℕ). Shows limits topology known active ts (selectedFor cs ns us (limits .cpus) (recordAt ts x) (cpu.Some us)) (sched.select-cpu limits topology tick us w x o .world)) named-some
+          (shows-selected limits topology tick us known numbered small early us-in H ns tree node put-on s safe x below (cpu.Some us))))
+          (λ e. rw (must ∙ e, e) s)
+
+      -- it finds a CPU below the limit, and changes draws alone
+      reinsert-finds : is-some (at-queue .got) ≡ true
+      unfolding sched.reinsert-at
+      reinsert-finds =
+          both (w .cpus us .must-rebalance) (λ e. rw e (select-finds limits topology tick us known numbered small early us-in H ns tree node put-on crowd w x (some us))) (λ e. rw e (unfold is-some in refl))
+
+      reinsert-wakeups : at-queue .world .wakeups ≡ w .wakeups
+      unfolding sched.reinsert-at
+      reinsert-wakeups = both (w .cpus us .must-rebalance) (λ e. rw e (select-wakeups limits topology tick us w x (some us))) (λ e. rw e)
+
+      reinsert-selected : Selected limits topology tick us known numbered H us-in w at-queue
+      unfolding sched.reinsert-at
+      reinsert-selected =
+          both (w .cpus us .must-rebalance)
+          (λ e. rw e (select-cpu-selected limits topology tick us known numbered H us-in w x (some us) (safe .mild x)))
+          (λ e. rw e (record { same = same-self limits w; under = unfold Under in us-in }))
+
+      -- `reinsert`, once it has to move
+      moves : (o : Option ℕ) → at-queue .got ≡ o → is-some o ≡ true → Under (limits .cpus) o
+          → Leaves limits topology known
+          (thenNext ns k x (reinsertedDef ts (reinsertAt cs ns us (limits .cpus) (recordAt ts x) .cpus) k (as-cpu o) x wakeups))
+          (sched.pick-next limits topology tick us (sched.reinserted limits topology tick us (at-queue .world) x o))
+      unfolding is-some Under sched.reinserted reinsertedDef isNone cpuOf as-cpu
+      moves none e i u = absurd (false≢true i)
+      moves (some c) e i u = put-and-pick (reinsertAt cs ns us (limits .cpus) (recordAt ts x) .cpus) (at-queue .world) c x reinsert-shown (reinsert-selected .same) reinsert-wakeups u r
+
+      moves-shown : Leaves limits topology known
+          (thenNext ns k x (reinsertedDef ts (reinsertAt cs ns us (limits .cpus) (recordAt ts x) .cpus) k (reinsertAt cs ns us (limits .cpus) (recordAt ts x) .chosen) x wakeups))
+          (sched.pick-next limits topology tick us (sched.reinserted limits topology tick us (at-queue .world) x (at-queue .got)))
+      moves-shown =
+          subst (λ (o : OptionCpu). Leaves limits topology known (thenNext ns k x (reinsertedDef ts (reinsertAt cs ns us (limits .cpus) (recordAt ts x) .cpus) k o x wakeups))
+          (sched.pick-next limits topology tick us (sched.reinserted limits topology tick us (at-queue .world) x (at-queue .got)))) (sym reinsert-chosen)
+          (moves (at-queue .got) refl reinsert-finds (reinsert-selected .under))
+
+      must-move : (f : SchedFlags) → mustMove cs us (recordAt ts x) f ≡ (f .preempt || (w .cpus us .must-rebalance || sched.has-higher limits topology tick us w x (f .yields)))
+      unfolding mustMove sched.has-higher
+      must-move f =
+          ap (λ (b : Bool). f .preempt || (b || rqHasHigher cs us (recordAt ts x) (f .yields))) must
+          ∙ ap (λ (b : Bool). f .preempt || (w .cpus us .must-rebalance || b))
+          (higher-shown limits topology tick us known numbered small early s us us-in runs-known (recordAt ts x) _ (f .yields) (ap effective-priority (s .threads x below)))
+
+      -- its deadline is set anew
+      reset-leaves : Leaves limits topology known (record { threads = resetThreadTime ts cs k x; cpus = cs; wakeups = wakeups }) (sched.reset-thread-time limits topology tick us w us x)
+      unfolding resetThreadTime context sched.reset-thread-time with-thread
+      reset-leaves = record {
+        ends = record {
+          active = active;
+          shows = shows-reset limits topology tick us known numbered small early s us us-in x below;
+          settled = record { runs = st .runs; others = st .others };
+        };
+        counted = count;
+      }
+
+      pub shows-reinserted : (f : SchedFlags) → Leaves limits topology known (reinsertDef ts cs ns k x f wakeups) (sched.reinsert limits topology tick us w x (f .yields) (f .preempt))
+      unfolding reinsertDef sched.reinsert context
+      shows-reinserted f =
+          both (f .preempt || (w .cpus us .must-rebalance || sched.has-higher limits topology tick us w x (f .yields)))
+          (λ e. rw (must-move f ∙ e, e) moves-shown)
+          (λ e. rw (must-move f ∙ e, e) (both (f .yields)
+          (λ y. rw y (put-and-pick cs w us x s (same-self limits w) refl us-in r))
+          (λ y. rw y reset-leaves)))
+
+    -- ---- `do_schedule`
+
+    abbrev Picked : List Thread → ℕ → Type 0
+    Picked ts′ n = Ends limits topology known (pickNext ts′ cs ns k n .threads) (pickNext ts′ cs ns k n .cpus) (sched.pick-next limits topology tick us w)
+
+    idle-picks : w .cpus us .running ≡ none → Leaves limits topology known (lent.after (pickNext ts cs ns k (runningAt cs us)) wakeups) (sched.pick-next limits topology tick us w)
+    idle-picks e = record {
+      ends = subst (Picked ts) (sym (running-is limits topology tick us known numbered small early s us us-in runs-known))
+          (shows-picked limits topology tick us known numbered small early us-in H ns tree node put-on
+          (record {
+            runs = λ c y b q. st .runs c y refl q;
+            others = λ y h. st .others y (λ c b q. both (eqb c us)
+                (λ p. no-some y (sym e ∙ ap (λ d. w .cpus d .running) (sym (eqb-true c us p)) ∙ q))
+                (λ p. h c p q));
+          })
+          s (weaker limits topology tick us known numbered small early us-in H ns tree node put-on w safe));
+      counted = count ∙ sym (pick-wakeups limits topology tick us w);
+    }
+
+    block-picks : (x : ℕ) → w .cpus us .running ≡ some x → Leaves limits topology known (lent.after (pickNext (blockDef ts x) cs ns k x) wakeups) (sched.pick-next limits topology tick us w)
+    block-picks x r = record {
+      ends = subst (Picked (blockDef ts x)) (ap number-or-none r ∙ some-number x)
+          (shows-picked limits topology tick us known numbered small early us-in H ns tree node put-on (unsettle us x active w w r (safe .one) (λ c. refl) st)
+          (shows-blocked limits topology tick us known numbered small early us-in H ns tree node put-on s x (runs-known x r) (safe .free us x (unfold nobody-but in refl) r))
+          (weaker limits topology tick us known numbered small early us-in H ns tree node put-on w safe));
+      counted = count ∙ sym (pick-wakeups limits topology tick us w);
+    }
+
+    do-schedules : (f : SchedFlags) (o : Option ℕ) → w .cpus us .running ≡ o → Leaves limits topology known (doSchedule ts cs ns k f wakeups) (sched.do-schedule-of limits topology tick us w o (flags-in f))
+    unfolding doSchedule sched.do-schedule-of context flags-in reinsertDef mustMove
+    do-schedules f none e = rw (idle-at-work limits topology tick us known numbered small early s us us-in runs-known ∙ ap (λ (o : Option ℕ). not (is-some o)) e ∙ idle-is) (idle-picks e)
+    do-schedules f (some x) e =
+        let n : runningAt cs us ≡ x = running-is limits topology tick us known numbered small early s us us-in runs-known ∙ ap number-or-none e ∙ some-number x in
+        rw (idle-at-work limits topology tick us known numbered small early s us us-in runs-known ∙ ap (λ (o : Option ℕ). not (is-some o)) e ∙ some-is x, n)
+        (both (f .reinsert) (λ b. rw b (shows-reinserted x e f)) (λ b. rw b (block-picks x e)))
+
+    -- SCHEDULE: "with a critical thread running it changes nothing"
+    pub shows-schedule : (f : SchedFlags) → Leaves limits topology known (scheduleDef ts cs ns k f wakeups) (sched.schedule limits topology tick us w (flags-in f))
+    unfolding scheduleDef sched.schedule sched.do-schedule context
+    shows-schedule f =
+        both (sched.critical-running w (w .cpus us .running))
+        (λ e. rw (critical-at-work limits topology tick us known numbered small early s us us-in runs-known ∙ e, e) (record { ends = record { active = active; shows = s; settled = st }; counted = count }))
+        (λ e. rw (critical-at-work limits topology tick us known numbered small early s us us-in runs-known ∙ e, e) (do-schedules f (w .cpus us .running) refl))

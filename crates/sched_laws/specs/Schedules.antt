@@ -1,0 +1,241 @@
+-- `do_schedule` AND `schedule` OVER RECORDS AND WORDS ARE THE RULES'. Assumes nothing.
+use Prim.Native.Nat.{ℕ, _≤_, _<_}
+use mathlib.Core.Path.{_≡_, refl, sym, ap, subst, _∙_}
+use mathlib.Core.Logic.{_≢_}
+use mathlib.Core.Bool.{Bool, true, false, cond, not, true≢false, false≢true}
+use mathlib.Core.Option.{Option, none, some}
+use mathlib.Core.List.{List, [], _∷_}
+use lib.ListN.{set}
+use lib.Dec.{eqb, ltb}
+use borrow.Author.Tests.{eqb-true, eqb-false, ne-eqb}
+use native.Mathlib.Omega.{arith}
+use Rattle.rules.specs.Line.{both}
+use Rattle.rules.specs.Times as times
+use Rattle.rules.specs.Times.{effective-priority, is-some, either}
+use Rattle.rules.specs.Puts.{PutOrTake}
+use Rattle.rules.specs.State.{at, Limits, Topology, Cpu}
+use Rattle.rules.specs.Topology.{visited}
+use Rattle.rules.specs.Choice.{Best, none-yet, best, lower, Searched, find-cpu}
+use Rattle.rules.specs.Schedule as sched
+use Rattle.rules.specs.Schedule.{World, Got, with-cpu, with-thread, wakeup}
+use Rattle.rules.specs.Sound.{at-here, at-there, at-keeps, Under, alike-queue, alike-reset, Free, Same, same-then, same-free, same-thread-changed, same-wakeup, sound-same, New, Sound, sound-insert}
+use Rattle.rules.specs.Steps.{nobody-but}
+use Rattle.thread.specs.declared.Thread.{Thread}
+use Rattle.thread.specs.declared.place.Place.the-variants as place
+use Rattle.thread.specs.declared.time.OptionCpu.{OptionCpu}
+use Rattle.thread.specs.declared.time.Preferred.{Preferred}
+use Rattle.thread.specs.declared.time.Preferred.the-variants as preferred
+use Rattle.thread.specs.Reads.{reads, named}
+use Rattle.thread.specs.Thread.{BLOCKED, with-place}
+use Rattle.thread.specs.Place.{place-in, reads-place}
+use Rattle.thread.specs.Time.{preferred-cpu, chosen, reads-preferred-cpu}
+use Rattle.lent.specs.Rq.{recordAt}
+use Rattle.memory.specs.Shows.{place-at, Places, Small, Shows}
+use Rattle.memory.specs.Frames.{shows-alike, shows-record, in-records}
+use Rattle.represent.specs.Records.{read-set}
+use Rattle.tree.specs.Tree.{Tree}
+use Rattle.choice.specs.Reads.{as-cpu}
+use Rattle.choice.specs.Select as choice
+use Rattle.choice_laws.specs.Memory.{select-memory}
+use Rattle.step.specs.Choose.{preferredOf, selectFor, selectedFor}
+use Rattle.sched.specs.declared.context.Context.{Context}
+use Rattle.sched.specs.Queues.{blockDef}
+use Rattle.sched_laws.specs.Ticked.{context}
+use Rattle.sched_laws.specs.Picks.{Settled, no-one}
+
+-- ---- a choice finds a CPU where there is one
+
+unfoldable is-found : Best → Bool
+is-found none-yet = false
+is-found (best s c) = true
+
+lower-found : (b : Best) (s c : ℕ) → is-found (lower b s c) ≡ true
+unfolding lower is-found
+lower-found none-yet s c = refl
+lower-found (best t d) s c = both (ltb s t) (λ e. rw e) (λ e. rw e)
+
+find-keeps : (us : ℕ) (skip : ℕ → Bool) (load : ℕ → ℕ) (l : List ℕ) (f : Searched) → is-found (f .found) ≡ true → is-found (find-cpu us skip load l f .found) ≡ true
+unfolding find-cpu
+find-keeps us skip load [] f h = h
+find-keeps us skip load (c ∷ l) f h =
+    both (skip c) (λ e. rw e (find-keeps us skip load l f h)) (λ e. rw e (find-keeps us skip load l _ (lower-found (f .found) _ c)))
+
+find-finds : (us : ℕ) (skip : ℕ → Bool) (load : ℕ → ℕ) (l : List ℕ) (f : Searched) → l ≢ [] → ((c : ℕ) → skip c ≡ false) → is-found (find-cpu us skip load l f .found) ≡ true
+unfolding find-cpu
+find-finds us skip load [] f n h = absurd (n refl)
+find-finds us skip load (c ∷ l) f n h = rw (h c) (find-keeps us skip load l _ (lower-found (f .found) _ c))
+
+-- ---- the thread running is on its way
+
+pub unsettle : (us x : ℕ) (active : ℕ → Bool) (w v : World) → w .cpus us .running ≡ some x → ((c d y : ℕ) → w .cpus c .running ≡ some y → w .cpus d .running ≡ some y → c ≡ d)
+    → ((c : ℕ) → v .cpus c .running ≡ w .cpus c .running) → Settled no-one active w → Settled (λ c. eqb c us) (at active x false) v
+unsettle us x active w v r one f s = record {
+  runs = λ c y b q.
+      let n : y ≢ x = λ e. eqb-false c us b (one c us x (sym (f c) ∙ q ∙ ap some e) r) in
+      at-there active x false y n ∙ s .runs c y refl (sym (f c) ∙ q);
+  others = λ y h. both (eqb y x)
+      (λ e. rw (eqb-true y x e) (at-here active x false))
+      (λ e. at-there active x false y (eqb-false y x e)
+      ∙ s .others y (λ c b q. both (eqb c us)
+      (λ p. let z : some x ≡ some y = sym r ∙ ap (λ d. w .cpus d .running) (sym (eqb-true c us p)) ∙ q in let m : x ≡ y = cc in eqb-false y x e (sym m))
+      (λ p. h c p (f c ∙ q))));
+}
+
+-- ---- the CPU preferred
+
+preferred-as : (p : Preferred) → named (preferredOf p) ≡ chosen p
+unfolding named preferredOf chosen
+preferred-as (preferred.Pinned c) = refl
+preferred-as (preferred.Last c) = refl
+preferred-as preferred.None = refl
+
+preferred-reads : (t : Thread) → named (preferredOf (preferred-cpu t)) ≡ times.preferred-cpu (reads t)
+preferred-reads t = preferred-as (preferred-cpu t) ∙ reads-preferred-cpu t
+
+either-in : (n : ℕ) (a b : Option ℕ) → Under n a → Under n b → (c : ℕ) → either a b ≡ some c → c < n
+unfolding either Under
+either-in n none none u v c e = let z : _≡_ {A = ℕ} 0 1 = cc in absurd (omega arith)
+either-in n none (some d) u v c e = let z : d ≡ c = cc in rw (← z) v
+either-in n (some d) b u v c e = let z : d ≡ c = cc in rw (← z) u
+
+module _ (limits : Limits) (topology : Topology) (tick us : ℕ) (known : ℕ → Bool) (numbered : (x : ℕ) → known x ≡ true → x < limits .threads) (small : Small limits)
+    (early : tick ≤ 4611686018427387904) (us-in : us < limits .cpus) (H : ℕ → List PutOrTake) (ns : List (List ℕ)) (tree : Tree limits ns topology) (node : ℕ) (put-on : topology .placed us ≡ some node) where
+  abbrev k : Context
+  k = context limits tick us
+
+  abbrev OK : (ℕ → Bool) → World → Type 0
+  OK but w = Sound limits known H but w
+
+  -- ---- a choice finds a CPU, since there is one
+
+  module _ (crowd : visited limits topology ≢ []) where
+    cpu-found : (b : Best) → is-found b ≡ true → is-some (sched.cpu-of limits topology tick us b) ≡ true
+    unfolding is-found sched.cpu-of is-some
+    cpu-found none-yet e = e
+    cpu-found (best s c) e = refl
+
+    any-finds : (w : World) → is-some (sched.find-cpu-from-topo limits topology tick us w none .got) ≡ true
+    unfolding sched.find-cpu-from-topo sched.skips
+    any-finds w = cpu-found _ (find-finds us _ _ (visited limits topology) _ crowd (λ c. refl))
+
+    or-any-finds : (w : World) (avoid o : Option ℕ) → is-some (sched.found-or-any limits topology tick us w avoid o .got) ≡ true
+    unfolding sched.found-or-any is-some
+    or-any-finds w avoid none = any-finds w
+    or-any-finds w avoid (some c) = both (sched.same-cpu c avoid) (λ e. rw e (any-finds w)) (λ e. rw e)
+
+    select-from-finds : (w : World) (x : ℕ) (avoid o : Option ℕ) → is-some (sched.select-from limits topology tick us w x avoid o .got) ≡ true
+    unfolding sched.select-from is-some
+    select-from-finds w x avoid none = or-any-finds _ avoid _
+    select-from-finds w x avoid (some c) = refl
+
+    pub select-finds : (w : World) (x : ℕ) (avoid : Option ℕ) → is-some (sched.select-cpu limits topology tick us w x avoid .got) ≡ true
+    unfolding sched.select-cpu
+    select-finds w x avoid = select-from-finds w x avoid _
+
+  -- ---- what is kept, as in the rules' Steps.antt
+
+  pub weaker : (w : World) → OK nobody-but w → OK (λ c. eqb c us) w
+  unfolding nobody-but
+  weaker w d = record {
+    kept = d .kept;
+    pins = d .pins;
+    mild = d .mild;
+    alone = d .alone;
+    placed = d .placed;
+    free = λ c x b r. d .free c x refl r;
+    one = d .one;
+    runs = d .runs;
+  }
+
+  pub running-new : (w : World) (c x : ℕ) → OK nobody-but w → w .cpus us .running ≡ some x → c < limits .cpus → New limits known (λ c. eqb c us) w c x
+  unfolding nobody-but
+  running-new w c x d r h = record {
+    nowhere = d .free us x refl r;
+    is-known = d .runs us x r .1;
+    near = h;
+    runs-not = λ e b s. eqb-false e us b (d .one e us x s r);
+  }
+
+  pub new-same : {but : ℕ → Bool} {w v : World} {c x : ℕ} → Same limits w v → New limits known but w c x → New limits known but v c x
+  new-same {x = x} s n = record {
+    nowhere = same-free x s (n .nowhere);
+    is-known = n .is-known;
+    near = n .near;
+    runs-not = λ d b r. n .runs-not d b (sym (s .running d) ∙ r);
+  }
+
+  pub ok-put : (but : ℕ → Bool) (w : World) (c x : ℕ) → OK but w → New limits known but w c x → OK but (sched.schedule-thread-on-cpu limits topology tick us w c x)
+  unfolding sched.schedule-thread-on-cpu sched.reset-thread-time
+  ok-put but w c x d n =
+      let v : World = with-thread w x (times.moving-to-queue (w .threads x) c) in
+      let s : Same limits w (sched.reset-thread-time limits topology tick us v c x) =
+      same-then (same-thread-changed limits w x _ (alike-queue limits (w .threads x) c)) (same-thread-changed limits v x _ (alike-reset limits (v .threads x) _)) in
+      sound-same (same-wakeup limits _ _) (sound-insert limits topology tick us known numbered H but _ c x false (sound-same s d) (new-same s n))
+
+  -- a put changes no thread running
+  pub put-running : (w : World) (c x d : ℕ) → sched.schedule-thread-on-cpu limits topology tick us w c x .cpus d .running ≡ w .cpus d .running
+  unfolding sched.schedule-thread-on-cpu sched.reset-thread-time sched.insert-thread sched.noted with-thread with-cpu wakeup sched.with-queue
+  put-running w c x d = at-keeps (λ (p : Cpu). p .running) (w .cpus) c _ refl d
+
+  -- ---- the thread running is blocked
+
+  module _ {active : ℕ → Bool} {ts : List Thread} {cs : List (List ℕ)} {w : World} (s : Shows limits topology known active ts cs w) (x : ℕ) (is-known : known x ≡ true) (free : Free w x) where
+    abbrev t : Thread
+    t = with-place (recordAt ts x) BLOCKED
+
+    blocked-at : (z : ℕ) → place-at (set ts x t) z ≡ cond (eqb z x) place.Blocked (place-at ts z)
+    unfolding place-in with-place
+    blocked-at z = rw (read-set ts x t z (in-records s x (numbered x is-known))) (both (eqb z x) (λ e. rw e) (λ e. rw e))
+
+    block-places : Places (limits .threads) known (at active x false) (set ts x t) w
+    block-places =
+        let other : (z : ℕ) → z ≢ x → place-at (set ts x t) z ≡ place-at ts z = λ z h. blocked-at z ∙ rw (ne-eqb z x h) in
+        let active-other : (z : ℕ) → z ≢ x → at active x false z ≡ active z = λ z h. at-there active x false z h in
+        record {
+          waiting = λ d z h. both (eqb z x)
+              (λ e. absurd (true≢false (sym (rw (eqb-true z x e) at h) ∙ free d)))
+              (λ e. other z (eqb-false z x e) ∙ s .places .waiting d z h);
+          running = λ z h. both (eqb z x)
+              (λ e. absurd (false≢true (sym (at-here active x false) ∙ rw (eqb-true z x e) at h)))
+              (λ e. let k = eqb-false z x e in other z k ∙ s .places .running z (sym (active-other z k) ∙ h));
+          blocked = λ z l m a f. both (eqb z x)
+              (λ e. blocked-at z ∙ rw e)
+              (λ e. let o = eqb-false z x e in other z o ∙ s .places .blocked z l m (sym (active-other z o) ∙ a) f);
+          undeclared = λ z l m. both (eqb z x)
+              (λ e. absurd (true≢false (sym is-known ∙ rw (eqb-true z x e) at m)))
+              (λ e. other z (eqb-false z x e) ∙ s .places .undeclared z l m);
+        }
+
+    pub shows-blocked : Shows limits topology known (at active x false) (blockDef ts x) cs w
+    unfolding blockDef with-place
+    shows-blocked =
+        let h = numbered x is-known in
+        shows-alike (with-thread w x (w .threads x)) w (λ c. unfold with-thread in refl) (λ z. unfold with-thread at in both (eqb z x) (λ e. rw (e, eqb-true z x e)) (λ e. rw e))
+        (shows-record s x t (w .threads x) h (reads-place (recordAt ts x) BLOCKED ∙ s .threads x h) refl refl refl (s .queue-cpus x h) block-places)
+
+  -- ---- where the thread running goes back into a queue
+
+  module _ {active : ℕ → Bool} {ts : List Thread} {cs : List (List ℕ)} {w : World} (s : Shows limits topology known active ts cs w) (safe : OK nobody-but w) where
+    pref-in : (x c : ℕ) → times.preferred-cpu (w .threads x) ≡ some c → c < limits .cpus
+    unfolding times.preferred-cpu
+    pref-in x c e = either-in (limits .cpus) (w .threads x .pin) (w .threads x .last) (safe .mild x .pin) (safe .mild x .last) c e
+
+    -- `select_cpu` for thread x
+    module _ (x : ℕ) (below : x < limits .threads) (avoid : OptionCpu) where
+      abbrev G : Got
+      G = sched.select-cpu limits topology tick us w x (named avoid)
+
+      pub select-shown : selectFor cs ns us (limits .cpus) (recordAt ts x) avoid ≡ as-cpu (G .got)
+      unfolding selectFor
+      select-shown =
+          ap as-cpu (ap (λ (o : Option ℕ). choice.select-cpu cs ns us (limits .cpus) o (effective-priority (reads (recordAt ts x))) (named avoid)) (preferred-reads (recordAt ts x))
+          ∙ ap (λ (t : times.Thread). choice.select-cpu cs ns us (limits .cpus) (times.preferred-cpu t) (effective-priority t) (named avoid)) (s .threads x below)
+          ∙ sym (select-memory s small us us-in ns tree tick x (named avoid) (pref-in x) .0))
+
+      pub shows-selected : Shows limits topology known active ts (selectedFor cs ns us (limits .cpus) (recordAt ts x) avoid) (G .world)
+      unfolding selectedFor
+      shows-selected =
+          subst (λ (cs′ : List (List ℕ)). Shows limits topology known active ts cs′ (G .world))
+          (sym (ap (λ (o : Option ℕ). choice.after-select cs ns us (limits .cpus) o (effective-priority (reads (recordAt ts x))) (named avoid)) (preferred-reads (recordAt ts x))
+          ∙ ap (λ (t : times.Thread). choice.after-select cs ns us (limits .cpus) (times.preferred-cpu t) (effective-priority t) (named avoid)) (s .threads x below)))
+          (select-memory s small us us-in ns tree tick x (named avoid) (pref-in x) .1)
