@@ -1,4 +1,4 @@
--- THE COMMANDS THAT A CPU RUNS, over records and words: 12, 13, 14, 16, 17. Assumes nothing.
+-- THE COMMANDS THAT A CPU RUNS, over records and words: hex 12, 14, 16 and 17; 13 is in Scheduled.antt. Assumes nothing.
 use Prim.Native.Nat.{ℕ, zero, suc, _≤_, _<_}
 use mathlib.Core.Path.{_≡_, refl, sym, ap, _∙_}
 use mathlib.Core.Logic.{_≢_}

@@ -1,4 +1,4 @@
--- 18 AND 19 AND THE CRITICAL MARK, over records and words. Assumes nothing.
+-- DONATION (hex 18), ITS REMOVAL (19) AND THE CRITICAL MARK (1A), over records and words. Assumes nothing.
 use Prim.Native.Nat.{ℕ, _≤_, _<_}
 use mathlib.Core.Path.{_≡_, refl, sym, ap, subst, _∙_}
 use mathlib.Core.Bool.{Bool, true, false, cond, not, _&&_}
@@ -79,17 +79,17 @@ module _ (limits : Limits) (topology : Topology) (tick us : ℕ) (known : ℕ �
     abbrev u : times.Thread
     u = w .threads x
 
-    -- 1A: `remove_donated_priority`
+    -- 19: `remove_donated_priority`
     pub shows-removed : Shows limits topology known active (removeDonated ts x) cs (with-thread w x (donated-to u none))
     unfolding removeDonated donated-to pinned
     shows-removed = shows-fields s x (remove-donated-priority r) _ below (reads-removed r ∙ ap (λ (t : times.Thread). donated-to t none) (s .threads x below)) (removed-next r) (removed-place r) refl refl (s .queue-cpus x below)
 
-    -- 1B: the critical mark
+    -- 1A: the critical mark
     pub shows-critical : (m : ℕ) → Shows limits topology known active (setCritical ts x m) cs (with-thread w x (critical-at u (critical-in m)))
     unfolding setCritical critical-at pinned with-critical
     shows-critical m = shows-fields s x (with-critical r m) _ below (reads-critical r m ∙ ap (λ (t : times.Thread). critical-at t (critical-in m)) (s .threads x below)) refl refl refl refl (s .queue-cpus x below)
 
-    -- 19: `donate_priority`
+    -- 18: `donate_priority`
     module _ (p : Priority) (low : p .value < nr-values) where
       abbrev accepted : Bool
       accepted = donation-accepted (u .donated) p
