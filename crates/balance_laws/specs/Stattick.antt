@@ -6,34 +6,31 @@ use mathlib.Core.List.{List}
 use lib.Dec.{eqb, ltb}
 use borrow.Author.Tests.{eqb-true, eqb-false}
 use native.Mathlib.Omega.{arith}
-use Rattle.rules.specs.Line.{has, both}
+use Rattle.rules.specs.Line.{both}
 use Rattle.rules.specs.Draw.{next-state, draw}
-use Rattle.rules.specs.Queue.{order, advance-insert-index}
-use Rattle.rules.specs.Effect.{advance-order}
 use Rattle.rules.specs.Puts.{PutOrTake}
-use Rattle.rules.specs.State.{at, Limits, Topology, Cpu}
+use Rattle.rules.specs.State.{Limits, Topology, Cpu}
 use Rattle.rules.specs.Schedule as sched
-use Rattle.rules.specs.Schedule.{World, with-cpu, with-draws, with-queue, with-rebalance-time}
-use Rattle.rules.specs.Sound.{at-here, at-there, waits, Sound, same-cpu-changed, sound-same, sound-clock}
+use Rattle.rules.specs.Schedule.{World, with-cpu, with-draws, with-rebalance-time}
+use Rattle.rules.specs.Sound.{at-here, at-there, Sound, same-cpu-changed, sound-same, sound-clock}
 use Rattle.rules.specs.Steps.{nobody-but}
 use Rattle.thread.specs.declared.Thread.{Thread}
 use Rattle.thread.specs.Thread.{NONE}
-use Rattle.runqueue.specs.RunQueue.{rqClock}
 use Rattle.processor.specs.Words.{word, put-word}
-use Rattle.processor.specs.Queue.{queueAt}
-use Rattle.represent.specs.Well.{Reading, clock-reading}
-use Rattle.represent.specs.System.{Good, clock-law}
-use Rattle.lent.specs.Rq.{clockDef}
-use Rattle.memory.specs.Shows.{reading-of, Small, Shows}
-use Rattle.memory.specs.Frames.{places-same, shows-alike, shows-draws, shows-rebalance-time}
-use Rattle.memory.specs.Queues.{fits, words-queue, shows-stored}
+use Rattle.memory.specs.Shows.{Small, Shows}
+use Rattle.memory.specs.Frames.{shows-alike, shows-draws, shows-rebalance-time}
+use Rattle.memory.specs.Clock.{shows-clock}
 use Rattle.tree.specs.Tree.{Tree}
 use Rattle.step.specs.Preempt.{Marked}
 use Rattle.step.specs.Rebalance.{timePassed, rebalanceDue}
 use Rattle.sched.specs.World as code
 use Rattle.sched.specs.Balance.{balanceDef, maybeRebalance, clocked, scheduleStattick}
 use Rattle.sched_laws.specs.Ticked.{context}
-use Rattle.balance_laws.specs.Balance.{Leaves, balance-law}
+use Rattle.sched_laws.specs.Picks.{Settled, no-one}
+use Rattle.sched_laws.specs.Scheduled.{Leaves}
+use Rattle.sched_laws.specs.Commands.{settled-same}
+use Rattle.balance_laws.specs.Balance.{Shown, balance-law}
+use Rattle.balance_laws.specs.Runs.{stattick-runs}
 
 module _ (limits : Limits) (topology : Topology) (tick us : ℕ) (known : ℕ → Bool) (numbered : (x : ℕ) → known x ≡ true → x < limits .threads) (small : Small limits)
     (early : tick ≤ 4611686018427387904) (H : ℕ → List PutOrTake) (us-in : us < limits .cpus) (active : ℕ → Bool) (nodes : List (List ℕ)) (tree : Tree limits nodes topology) where
@@ -84,7 +81,7 @@ module _ (limits : Limits) (topology : Topology) (tick us : ℕ) (known : ℕ �
     ran n d = cond (d .mark) (balanceDef ts (d .cpus) nodes (context limits tick us) n) (record { threads = ts; cpus = d .cpus; wakeups = n })
 
     module _ (dt n : ℕ) (e : n ≡ w .wakeups) (room : w .wakeups + 40 < NONE) where
-      due-law : Leaves limits topology known active H (ran n (timePassed cs us dt))
+      due-law : Shown limits topology known active H (ran n (timePassed cs us dt))
           (cond (ltb (p .rebalance-time) dt)
           (sched.balance limits topology tick us (with-cpu w us (with-rebalance-time (with-draws p (next-state us (p .draw-state))) (500000000 + draw (next-state us (p .draw-state)) % 1000000000))))
           (with-cpu w us (with-rebalance-time p (p .rebalance-time - dt))))
@@ -96,41 +93,27 @@ module _ (limits : Limits) (topology : Topology) (tick us : ℕ) (known : ℕ �
           (λ t. rw t (record { shows = shows-rebalance-time s us us-in (p .rebalance-time - dt); safe = safe-passed (p .rebalance-time - dt); counted = e })))
 
       -- ONLY ON THE BOOT CPU
-      pub maybe-rebalance-law : Leaves limits topology known active H (maybeRebalance ts cs nodes (context limits tick us) dt n) (sched.maybe-rebalance limits topology tick us w dt)
+      pub maybe-rebalance-law : Shown limits topology known active H (maybeRebalance ts cs nodes (context limits tick us) dt n) (sched.maybe-rebalance limits topology tick us w dt)
       unfolding maybeRebalance rebalanceDue sched.maybe-rebalance sched.rebalance-period context
       maybe-rebalance-law =
           both (eqb us 0)
           (λ t. rw t due-law)
           (λ t. rw t (record { shows = s; safe = safe; counted = e }))
 
-  -- ---- `clock`
-
-  clock-reads : (p : Cpu) → clock-reading (reading-of p) ≡ reading-of (with-queue p (advance-insert-index (p .queue)) (p .advertised))
-  unfolding clock-reading reading-of with-queue
-  clock-reads p = refl
-
-  pub shows-clock : {ts : List Thread} {cs : List (List ℕ)} {w : World} → Shows limits topology known active ts cs w → Shows limits topology known active ts (clockDef cs us) (sched.clock limits topology tick us w)
-  unfolding clockDef sched.clock with-cpu with-queue
-  shows-clock {ts} {cs} {w} s =
-      let p : Cpu = w .cpus us in
-      let q : Cpu = with-queue p (advance-insert-index (p .queue)) (p .advertised) in
-      shows-stored s us ts (rqClock (queueAt cs us)) q (with-cpu w us q) refl refl
-      (subst (λ (r : Reading). Good (limits .threads) (limits .cpus) ts (clockDef cs us) (at (λ d. reading-of (w .cpus d)) us r)) (clock-reads p)
-      (clock-law (limits .threads) (limits .cpus) ts cs (λ d. reading-of (w .cpus d)) (s .queues) us us-in (fits small)))
-      (words-queue cs us p _ _ (s .words us us-in)) (s .threads) (s .queue-cpus)
-      (places-same w (with-cpu w us q)
-      (λ d x. both (eqb d us)
-      (λ e. rw (eqb-true d us e) (ap (λ (u : Cpu). has x (order (u .queue))) (at-here (w .cpus) us q) ∙ ap (has x) (advance-order (p .queue))))
-      (λ e. ap (λ (u : Cpu). has x (order (u .queue))) (at-there (w .cpus) us q d (eqb-false d us e)))) (s .places))
-
-  -- STAT TICK
-  pub stattick-law : {ts : List Thread} {cs : List (List ℕ)} {w : World} (dt n : ℕ) → Shows limits topology known active ts cs w → Sound limits known H nobody-but w → n ≡ w .wakeups → w .wakeups + 40 < NONE
-      → Leaves limits topology known active H (scheduleStattick ts cs nodes (context limits tick us) dt n) (sched.schedule-stattick limits topology tick us w dt)
+  stattick-shown : {ts : List Thread} {cs : List (List ℕ)} {w : World} (dt n : ℕ) → Shows limits topology known active ts cs w → Sound limits known H nobody-but w → n ≡ w .wakeups → w .wakeups + 40 < NONE
+      → Shown limits topology known active H (scheduleStattick ts cs nodes (context limits tick us) dt n) (sched.schedule-stattick limits topology tick us w dt)
   unfolding scheduleStattick clocked sched.schedule-stattick context
-  stattick-law dt n s safe e room =
+  stattick-shown dt n s safe e room =
       let m = maybe-rebalance-law s safe dt n e room in
       record {
-        shows = shows-clock (m .shows);
+        shows = shows-clock (m .shows) small us us-in tick;
         safe = sound-clock limits topology tick us known numbered H nobody-but _ (m .safe);
         counted = m .counted ∙ (unfold sched.clock with-cpu in refl);
       }
+
+  -- 15: `schedule_stattick`
+  pub shows-stattick : {ts : List Thread} {cs : List (List ℕ)} {w : World} (dt n : ℕ) → Shows limits topology known active ts cs w → Sound limits known H nobody-but w → Settled no-one active w → n ≡ w .wakeups
+      → w .wakeups + 40 < NONE → Leaves limits topology known (scheduleStattick ts cs nodes (context limits tick us) dt n) (sched.schedule-stattick limits topology tick us w dt)
+  shows-stattick {w = w} dt n s safe settled e room =
+      let m = stattick-shown dt n s safe e room in
+      record { ends = record { active = active; shows = m .shows; settled = settled-same w _ (stattick-runs limits topology tick us w dt) settled }; counted = m .counted }
