@@ -74,7 +74,7 @@ module _ (limits : Limits) (topology : Topology) (tick us : ℕ) (known : ℕ �
   abbrev left : Balancing → Balancing
   left B = rest limits topology tick us B
 
-  module _ (base : ℕ) (room : base + 40 < NONE) where
+  module _ (base : ℕ) (room : base + 2 ≤ NONE) where
     abbrev Met : List Thread → List (List ℕ) → ℕ → step.Balancing → Balancing → Type 0
     Met ts cs n b B = Meets limits topology tick us known numbered small early H us-in active base room ts cs n b B
 
@@ -138,10 +138,10 @@ module _ (limits : Limits) (topology : Topology) (tick us : ℕ) (known : ℕ �
   eleven-more B (inr l) g = omega arith
 
   -- BALANCE
-  pub balance-law : {ts : List Thread} {cs : List (List ℕ)} {w : World} (n : ℕ) → Shows limits topology known active ts cs w → Sound limits known H nobody-but w → n ≡ w .wakeups → w .wakeups + 40 < NONE
+  pub balance-shown : {ts : List Thread} {cs : List (List ℕ)} {w : World} (n : ℕ) → Shows limits topology known active ts cs w → Sound limits known H nobody-but w → n ≡ w .wakeups → w .wakeups + 2 ≤ NONE
       → Shown limits topology known active H (balanceDef ts cs nodes (context limits tick us) n) (sched.balance limits topology tick us w)
   unfolding balanceDef moveTwo context moved begun sched.balance sched.max-steps
-  balance-law {ts} {cs} {w} n s safe e room =
+  balance-shown {ts} {cs} {w} n s safe e room =
       let B : Balancing = record { world = w; allowed = λ c. true; steps = 0; goes-on = true } in
       let b : step.Balancing = moved begun in
       let m : Meets limits topology tick us known numbered small early H us-in active (w .wakeups) room ts cs n b B = record {

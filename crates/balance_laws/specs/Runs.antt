@@ -1,7 +1,7 @@
--- `balance` and the stat tick change no thread running. Assumes nothing.
+-- `balance` changes no thread running. Assumes nothing.
 use Prim.Native.Nat.{ℕ, zero, suc}
 use mathlib.Core.Path.{_≡_, refl, _∙_}
-use mathlib.Core.Bool.{Bool, true, false, cond, not, _&&_}
+use mathlib.Core.Bool.{Bool, not, _&&_}
 use mathlib.Core.Option.{Option, none, some}
 use lib.Dec.{eqb, ltb}
 use Rattle.rules.specs.Line.{both}
@@ -9,7 +9,7 @@ use Rattle.rules.specs.Queue.{load, Next, nobody, next-in}
 use Rattle.rules.specs.State.{Limits, Topology, Cpu}
 use Rattle.rules.specs.Choice.{Pair, no-pair, pair}
 use Rattle.rules.specs.Schedule as sched
-use Rattle.rules.specs.Schedule.{World, Balancing, with-cpu, with-thread, with-queue, with-draws, with-rebalance-time, set-rebalance, current-load}
+use Rattle.rules.specs.Schedule.{World, Balancing, with-cpu, with-thread, with-queue, with-draws, set-rebalance, current-load}
 use Rattle.rules.specs.Sound.{at-keeps}
 
 -- the same threads run
@@ -19,10 +19,6 @@ Runs w v = (c : ℕ) → v .cpus c .running ≡ w .cpus c .running
 cpu-runs : (w : World) (c : ℕ) (p : Cpu) → p .running ≡ w .cpus c .running → Runs w (with-cpu w c p)
 unfolding with-cpu
 cpu-runs w c p e d = at-keeps (λ (u : Cpu). u .running) (w .cpus) c p e d
-
-either-runs : (w : World) (t : Bool) (a b : World) → Runs w a → Runs w b → Runs w (cond t a b)
-either-runs w true a b f g = f
-either-runs w false a b f g = g
 
 module _ (limits : Limits) (topology : Topology) (tick us : ℕ) where
   put-runs : (w : World) (c x : ℕ) → Runs w (sched.schedule-thread-on-cpu limits topology tick us w c x)
@@ -68,17 +64,7 @@ module _ (limits : Limits) (topology : Topology) (tick us : ℕ) where
   turns-runs (suc n) b d =
       both (b .goes-on && ltb (b .steps) (sched.max-steps limits topology tick us)) (λ e. rw e (turns-runs n (sched.balance-step limits topology tick us b) d ∙ step-runs b d)) (λ e. rw e)
 
-  balance-runs : (w : World) → Runs w (sched.balance limits topology tick us w)
+  -- BALANCE
+  pub balance-runs : (w : World) → Runs w (sched.balance limits topology tick us w)
   unfolding sched.balance
   balance-runs w d = turns-runs _ _ d
-
-  rebalance-runs : (w : World) (time : ℕ) → Runs w (sched.maybe-rebalance limits topology tick us w time)
-  unfolding sched.maybe-rebalance with-rebalance-time with-draws
-  rebalance-runs w time =
-      either-runs w (eqb us 0) _ _
-      (either-runs w (ltb (w .cpus us .rebalance-time) time) _ _ (λ d. balance-runs _ d ∙ cpu-runs w us _ refl d) (cpu-runs w us _ refl)) (λ d. refl)
-
-  -- A STAT TICK
-  pub stattick-runs : (w : World) (time : ℕ) → Runs w (sched.schedule-stattick limits topology tick us w time)
-  unfolding sched.schedule-stattick sched.clock with-queue
-  stattick-runs w time d = cpu-runs (sched.maybe-rebalance limits topology tick us w time) us _ refl d ∙ rebalance-runs w time d
