@@ -1,12 +1,12 @@
 -- A CLOCK AND A HARD TICK of the run queue of a CPU. Assumes nothing.
 use Prim.Native.Nat.{ℕ, _-_, _^_, _≤_, _<_}
-use mathlib.Core.Path.{_≡_, refl, sym, ap, subst, _∙_}
+use mathlib.Core.Path.{_≡_, refl, ap}
 use mathlib.Core.Bool.{Bool}
 use mathlib.Core.List.{List}
 use Rattle.rules.specs.Line.{has}
-use Rattle.rules.specs.Queue.{Queue, order, advance-insert-index}
+use Rattle.rules.specs.Queue.{order, advance-insert-index}
 use Rattle.rules.specs.Effect.{advance-order}
-use Rattle.rules.specs.State.{at, Limits, Topology, Cpu}
+use Rattle.rules.specs.State.{Limits, Topology, Cpu}
 use Rattle.rules.specs.Schedule as sched
 use Rattle.rules.specs.Schedule.{World, with-cpu, with-queue, with-ticks}
 use Rattle.rules.specs.Sound.{at-keeps}

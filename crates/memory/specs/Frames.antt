@@ -2,8 +2,7 @@
 use Prim.Native.Nat.{ℕ, _+_, _%_, _≤_, _<_}
 use mathlib.Core.Path.{_≡_, refl, sym, ap, subst, _∙_}
 use mathlib.Core.Logic.{_≢_}
-use mathlib.Core.Bool.{Bool, true, false, cond, _&&_}
-use mathlib.Core.Option.{Option}
+use mathlib.Core.Bool.{Bool, cond}
 use mathlib.Core.List.{List, []}
 use lib.ListN.{length, getD, set, length-set}
 use lib.Seq.{getD-set-same, set-out}
@@ -13,26 +12,20 @@ use native.Mathlib.Omega.{arith}
 use Rattle.rules.specs.Line.{has, both}
 use Rattle.rules.specs.Queue.{Queue, order}
 use Rattle.rules.specs.Times as times
-use Rattle.rules.specs.Times.{pinned, is-some}
-use Rattle.rules.specs.declared.Priority.{Priority}
-use Rattle.rules.specs.Priority.{from-raw}
+use Rattle.rules.specs.Times.{pinned}
 use Rattle.rules.specs.State.{at, Limits, Topology, Cpu}
-use Rattle.rules.specs.Schedule.{World, with-cpu, with-thread, set-rebalance, with-preempt, with-draws, with-rebalance-time, with-ticks, with-running}
-use Rattle.rules.specs.Sound.{at-here, at-there, at-keeps, Under, waits, Free}
+use Rattle.rules.specs.Schedule.{World, with-cpu, with-thread, set-rebalance, with-preempt, with-draws, with-rebalance-time, with-ticks}
+use Rattle.rules.specs.Sound.{at-here, at-there, at-keeps, Under, waits}
 use Rattle.thread.specs.declared.Thread.{Thread}
-use Rattle.thread.specs.declared.place.Place.{Place}
 use Rattle.thread.specs.Reads.{reads}
 use Rattle.thread.specs.Place.{place-in}
-use Rattle.thread.specs.Thread.{blank}
 use Rattle.processor.specs.Words.{width, word, put-word, word-put-same, word-put-other, row-put-other, length-put}
 use Rattle.processor.specs.Queue.{queueAt, queueIn, queue-same}
-use Rattle.represent.specs.Linked.{below-has}
 use Rattle.represent.specs.Well.{Reading}
-use Rattle.represent.specs.Queues.{Agree}
 use Rattle.lent.specs.Rq.{recordAt}
 use Rattle.represent.specs.Records.{marks, read-set}
 use Rattle.represent.specs.System.{Good, good-frame}
-use Rattle.memory.specs.Shows.{reading-of, number-or-none, mark-in, Words-show, place-at, Places, Shows}
+use Rattle.memory.specs.Shows.{reading-of, mark-in, Words-show, place-at, Places, Shows}
 
 -- ---- the words of a CPU
 

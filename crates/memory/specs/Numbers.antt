@@ -1,39 +1,33 @@
 -- WHAT IS READ: each number that the scheduler asks of the words is the rules'. Assumes nothing.
 use Prim.Native.Nat.{ℕ, _+_, _*_, _/_, _%_, _^_, _≤_, _<_}
-use mathlib.Core.Path.{_≡_, refl, sym, ap, subst, _∙_}
-use mathlib.Core.Bool.{Bool, true, false, cond, not, _&&_, _||_}
+use mathlib.Core.Path.{_≡_, refl, sym, ap, _∙_}
+use mathlib.Core.Bool.{Bool, cond, not}
 use mathlib.Core.Option.{Option, none, some}
 use mathlib.Core.List.{List, []}
-use lib.ListN.{length, getD}
-use lib.Dec.{eqb, ltb, leb}
-use borrow.Author.Tests.{eqb-true, eqb-false, eq-eqb, ne-eqb}
+use lib.ListN.{getD}
+use lib.Dec.{eqb, ltb}
 use native.Mathlib.Omega.{arith}
 use native.Mathlib.Nat.{mul-le-mul, mod-eq-of-lt, div-le-self}
 use Rattle.rules.specs.declared.PriorityClass.{PriorityClass}
 use Rattle.rules.specs.declared.PriorityClass.the-variants as class
-use Rattle.rules.specs.declared.Priority.{Priority}
-use Rattle.rules.specs.Line.{has, both, distinct-length}
-use Rattle.rules.specs.Priority.{from-raw, greater-of, at-most, less}
-use Rattle.rules.specs.Times.{timeslice, deadline-distance, effective-priority, is-some, pinned}
-use Rattle.rules.specs.Queue.{Queue, order, load, timeshare-load, movable, empty}
-use Rattle.rules.specs.State.{at, Limits, Topology, Cpu}
-use Rattle.rules.specs.Schedule.{World, one-unless-idle, current-load, current-priority, is-empty, movable-on, priority-running}
+use Rattle.rules.specs.Line.{both, distinct-length}
+use Rattle.rules.specs.Priority.{from-raw}
+use Rattle.rules.specs.Times.{timeslice, deadline-distance, is-some, pinned}
+use Rattle.rules.specs.Queue.{Queue, order, load, timeshare-load, movable}
+use Rattle.rules.specs.State.{Limits, Topology}
+use Rattle.rules.specs.Schedule.{World, one-unless-idle, current-load, current-priority, is-empty, movable-on}
 use Rattle.thread.specs.declared.Thread.{Thread}
-use Rattle.thread.specs.Reads.{reads}
-use Rattle.thread.specs.Thread.{NONE}
 use Rattle.queue.specs.Num.{sum, sum-exact}
-use Rattle.runqueue.specs.declared.rq.RunQueue.{RunQueue}
 use Rattle.runqueue.specs.RunQueue.{rqEmpty}
-use Rattle.processor.specs.Words.{width, word}
+use Rattle.processor.specs.Words.{word}
 use Rattle.processor.specs.Window.{load-at}
 use Rattle.processor.specs.Queue.{queueAt, queueIn, queueFrom, builtOf}
 use Rattle.processor.specs.Cpu as cpu
 use Rattle.represent.specs.Linked.{below-has}
-use Rattle.represent.specs.Well.{Reading, Well}
-use Rattle.represent.specs.Operations.{empty-is, deadline-exact}
+use Rattle.represent.specs.Well.{Well}
+use Rattle.represent.specs.Operations.{empty-is}
 use Rattle.represent.specs.Records.{marks}
-use Rattle.lent.specs.Rq.{recordAt}
-use Rattle.memory.specs.Shows.{reading-of, number-or-none, mark-in, Words-show, Small, Shows}
+use Rattle.memory.specs.Shows.{reading-of, number-or-none, Small, Shows}
 use Rattle.memory.specs.Queues.{movable-same, fits}
 
 -- ---- words that are read by themselves

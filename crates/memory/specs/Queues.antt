@@ -1,5 +1,5 @@
 -- A PUT AND A TAKE: what the definitions of the lent functions leave shows what `insert` and `take` of the rules leave. Assumes nothing.
-use Prim.Native.Nat.{ℕ, _%_, _≤_, _<_}
+use Prim.Native.Nat.{ℕ, _≤_, _<_}
 use mathlib.Core.Path.{_≡_, refl, sym, ap, subst, _∙_}
 use mathlib.Core.Logic.{_≢_}
 use mathlib.Core.Bool.{Bool, true, false, cond, _||_, true≢false, false≢true}
@@ -13,7 +13,6 @@ use native.Mathlib.Omega.{arith}
 use Rattle.rules.specs.declared.Part.{Part}
 use Rattle.rules.specs.declared.Part.the-variants as part
 use Rattle.rules.specs.Line.{has, both}
-use Rattle.rules.specs.Priority.{nr-values}
 use Rattle.rules.specs.Times as times
 use Rattle.rules.specs.Times.{pinned, effective-priority, steadied}
 use Rattle.rules.specs.declared.Priority.{Priority}
@@ -21,11 +20,10 @@ use Rattle.rules.specs.Puts.{PutOrTake, a-take}
 use Rattle.rules.specs.Queue.{Queue, order, timeshare-line, movable, highest-value, said-timeshare, said-after-take, Next, nobody, next-in, asked, leave, insert, is-timeshare, part-of, part-for, said-after-put}
 use Rattle.rules.specs.State.{at, Limits, Topology, Cpu}
 use Rattle.rules.specs.Schedule.{World, Got, with-cpu, with-thread, with-queue, noted, pinned-in, arrival, insert-thread, take-thread, handed-out}
-use Rattle.rules.specs.Sound.{at-here, at-there, at-keeps, Under, waits, Free, New, Sound, take-taken}
+use Rattle.rules.specs.Sound.{at-here, at-there, Under, waits, New, Sound, take-taken}
 use Rattle.rules.specs.Sound as sound
 use Rattle.rules.specs.Kept.{asked-head}
 use Rattle.thread.specs.declared.Thread.{Thread}
-use Rattle.thread.specs.declared.place.Place.{Place}
 use Rattle.thread.specs.declared.place.Place.the-variants as place
 use Rattle.thread.specs.Reads.{reads}
 use Rattle.thread.specs.Thread.{NONE, WAITING, RUNNING, with-place, with-next, with-stable}
@@ -36,13 +34,12 @@ use Rattle.runqueue.specs.declared.rq.Arrival.{Arrival}
 use Rattle.runqueue.specs.declared.rq.Front.{Front}
 use Rattle.runqueue.specs.declared.rq.Front.the-variants as front
 use Rattle.runqueue.specs.RunQueue.{rqFront, rqInsert, rqInsertInto, rqInsertRealtime, rqInsertTimeshare, rqInsertIdle}
-use Rattle.processor.specs.Words.{width, word}
+use Rattle.processor.specs.Words.{word}
 use Rattle.processor.specs.Window.{length-place}
 use Rattle.processor.specs.Queue.{queueAt, queueStored, queueInto, storedFrom, length-lists, queue-elsewhere, word-after-store}
 use Rattle.represent.specs.Well.{Reading, Well, put-reading, as-arrival, take-reading}
 use Rattle.represent.specs.Linked.{has-first, has-later}
-use Rattle.represent.specs.Operations.{put-has, in-ts, well-shape}
-use Rattle.represent.specs.Queues as queues
+use Rattle.represent.specs.Operations.{put-has, in-ts}
 use Rattle.lent.specs.declared.rq.Taken.{Taken}
 use Rattle.lent.specs.declared.rq.Taken.the-variants as taken
 use Rattle.lent.specs.Rq.{recordAt, arrivalOf, steadyIn, putIn, linkBehind, putOf, insertDef, leftBy, Took, tookFrom, takeDef}

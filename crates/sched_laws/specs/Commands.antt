@@ -1,22 +1,21 @@
 -- THE COMMANDS THAT A CPU RUNS, over records and words: 12, 13, 14, 16, 17. Assumes nothing.
 use Prim.Native.Nat.{ℕ, zero, suc, _≤_, _<_}
-use mathlib.Core.Path.{_≡_, refl, sym, ap, subst, _∙_}
+use mathlib.Core.Path.{_≡_, refl, sym, ap, _∙_}
 use mathlib.Core.Logic.{_≢_}
-use mathlib.Core.Bool.{Bool, true, false, cond, not, _&&_, _||_, true≢false, false≢true}
+use mathlib.Core.Bool.{Bool, true, false, true≢false, false≢true}
 use mathlib.Core.Option.{Option, none, some}
-use mathlib.Core.List.{List, [], _∷_}
+use mathlib.Core.List.{List, []}
 use lib.Dec.{eqb}
-use borrow.Author.Tests.{eqb-true, eqb-false, eq-eqb, ne-eqb}
+use borrow.Author.Tests.{eqb-true, eqb-false, eq-eqb}
 use native.Mathlib.Omega.{arith}
 use Rattle.rules.specs.Line.{both}
-use Rattle.rules.specs.Times as times
 use Rattle.rules.specs.Times.{is-some}
 use Rattle.rules.specs.Puts.{PutOrTake}
 use Rattle.rules.specs.State.{at, any-below, is-number, Limits, Topology, Cpu}
 use Rattle.rules.specs.Topology.{visited}
 use Rattle.rules.specs.Schedule as sched
-use Rattle.rules.specs.Schedule.{World, Got, Flags, with-cpu, with-thread, with-preempt}
-use Rattle.rules.specs.Sound.{at-here, at-there, at-keeps, Under, Same, same-cpu-changed, sound-same, New, Sound}
+use Rattle.rules.specs.Schedule.{World, Got, with-cpu, with-thread, with-preempt}
+use Rattle.rules.specs.Sound.{at-here, at-there, at-keeps, same-cpu-changed, sound-same, New, Sound}
 use Rattle.rules.specs.Steps.{nobody-but, Selected, select-cpu-selected}
 use Rattle.rules.specs.Reached.{any-not}
 use Rattle.thread.specs.declared.Thread.{Thread}
@@ -25,14 +24,13 @@ use Rattle.thread.specs.declared.time.OptionCpu.the-variants as cpu
 use Rattle.thread.specs.Reads.{named}
 use Rattle.thread.specs.Thread.{NONE}
 use Rattle.lent.specs.Rq.{recordAt}
-use Rattle.memory.specs.Shows.{Places, Small, Shows}
-use Rattle.tree.specs.Tree.{Tree}
+use Rattle.memory.specs.Shows.{Small, Shows}
+use Rattle.tree.specs.Tree.{Tree, number-is}
 use Rattle.choice.specs.Reads.{as-cpu}
 use Rattle.step.specs.Option.{isNone, cpuOf}
 use Rattle.step.specs.Choose.{selectFor, selectedFor}
 use Rattle.step.specs.Preempt.{swapped}
 use Rattle.sched.specs.declared.context.Context.{Context}
-use Rattle.sched.specs.World as lent
 use Rattle.sched.specs.Queues.{wakeDef}
 use Rattle.sched.specs.Schedule.{scheduleDef, scheduledOn, scheduleThread}
 use Rattle.sched.specs.Ticks.{scheduleHardtick, scheduleResched, scheduleMaybePreempt, preempting}
@@ -70,11 +68,6 @@ shows-active active′ e s = record {
 -- thread x runs on one of the CPUs
 unfoldable pub runs-somewhere : Limits → World → ℕ → Bool
 runs-somewhere limits w x = any-below (limits .cpus) (λ c. is-number x (w .cpus c .running))
-
-number-is : (x : ℕ) (o : Option ℕ) → is-number x o ≡ true → o ≡ some x
-unfolding is-number
-number-is x none e = absurd (false≢true e)
-number-is x (some y) e = ap some (eqb-true y x e)
 
 is-the-number : (x : ℕ) (o : Option ℕ) → o ≡ some x → is-number x o ≡ true
 unfolding is-number

@@ -1,13 +1,11 @@
 -- THREADS GO INTO QUEUES AND COME OUT OF THEM: puts on a CPU, takes for a CPU, steals. Assumes nothing.
 use Prim.Native.Nat.{ℕ, zero, suc, _≤_, _<_}
-use mathlib.Core.Path.{_≡_, refl, sym, ap, subst, _∙_}
-use mathlib.Core.Logic.{_≢_}
-use mathlib.Core.Bool.{Bool, true, false, cond, not, true≢false, false≢true}
+use mathlib.Core.Path.{_≡_, refl, sym, ap, subst}
+use mathlib.Core.Bool.{Bool, true, false, cond, not}
 use mathlib.Core.Option.{Option, none, some}
 use mathlib.Core.List.{List, [], _∷_, _++_}
 use lib.ListN.{set}
 use lib.Dec.{eqb}
-use borrow.Author.Tests.{eqb-true, eqb-false, ne-eqb}
 use native.Mathlib.Omega.{arith}
 use Rattle.rules.specs.Line.{both, Below}
 use Rattle.rules.specs.Times as times
@@ -17,11 +15,10 @@ use Rattle.rules.specs.Topology.{cpus-of, nearest, nearest-from}
 use Rattle.rules.specs.Choice.{first-that}
 use Rattle.rules.specs.Schedule as sched
 use Rattle.rules.specs.Schedule.{World, Got, with-thread}
-use Rattle.rules.specs.Sound.{Under, alike-queue, alike-reset, Free, Same, same-self, same-then, same-free, same-thread-changed, same-wakeup, sound-same, New, Sound, sound-insert, Taken, take-taken}
+use Rattle.rules.specs.Sound.{Under, alike-queue, Same, same-thread-changed, sound-same, New, Sound, Taken, take-taken}
 use Rattle.thread.specs.declared.Thread.{Thread}
 use Rattle.thread.specs.Thread.{NONE}
 use Rattle.thread.specs.Time.{moving-to-queue}
-use Rattle.thread.specs.declared.time.OptionCpu.{OptionCpu}
 use Rattle.lent.specs.declared.rq.Taken.the-variants as taken
 use Rattle.lent.specs.declared.rq.Taken as lent
 use Rattle.lent.specs.Rq.{recordAt, Took, takeDef}
@@ -33,7 +30,6 @@ use Rattle.choice_laws.specs.Memory.{steal-memory}
 use Rattle.step.specs.Option.{isNone, cpuOf}
 use Rattle.step.specs.Choose.{stealFrom}
 use Rattle.sched.specs.declared.context.Context.{Context}
-use Rattle.sched.specs.World as memory
 use Rattle.sched.specs.Queues.{isNobody, threadOf, movedIn, scheduleThreadOnCpu, movedFor, takeFrom, trySteal}
 use Rattle.sched_laws.specs.Steps.{shows-moving-to-queue, shows-put, put-counts}
 use Rattle.sched_laws.specs.Ticked.{context}

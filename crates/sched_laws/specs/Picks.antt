@@ -2,7 +2,7 @@
 use Prim.Native.Nat.{ℕ, _≤_, _<_}
 use mathlib.Core.Path.{_≡_, refl, sym, ap, subst, _∙_}
 use mathlib.Core.Logic.{_≢_}
-use mathlib.Core.Bool.{Bool, true, false, cond, not, true≢false, false≢true}
+use mathlib.Core.Bool.{Bool, true, false, cond, false≢true}
 use mathlib.Core.Option.{Option, none, some}
 use mathlib.Core.List.{List}
 use lib.Dec.{eqb}
@@ -22,7 +22,7 @@ use Rattle.lent.specs.Rq.{Took, takeDef}
 use Rattle.memory.specs.Shows.{number-or-none, Small, Shows}
 use Rattle.memory.specs.Queues.{active-with, as-taken, Take-shows, shows-take}
 use Rattle.tree.specs.Tree.{Tree}
-use Rattle.step.specs.Running.{runningAt, ranIdle}
+use Rattle.step.specs.Running.{ranIdle}
 use Rattle.sched.specs.declared.context.Context.{Context}
 use Rattle.sched.specs.World.{Memory}
 use Rattle.sched.specs.Queues.{isNobody, threadOf, trySteal}
@@ -98,7 +98,7 @@ no-number : number-or-none none ≡ NONE
 unfolding number-or-none
 no-number = refl
 
-some-number : (x : ℕ) → number-or-none (some x) ≡ x
+pub some-number : (x : ℕ) → number-or-none (some x) ≡ x
 unfolding number-or-none
 some-number x = refl
 

@@ -2,37 +2,35 @@
 use Prim.Native.Nat.{ℕ, _≤_, _<_}
 use mathlib.Core.Path.{_≡_, refl, sym, ap, subst, _∙_}
 use mathlib.Core.Logic.{_≢_}
-use mathlib.Core.Bool.{Bool, true, false, cond, not, _&&_, _||_, true≢false, false≢true}
+use mathlib.Core.Bool.{Bool, true, false, not, _||_, false≢true}
 use mathlib.Core.Option.{Option, none, some}
-use mathlib.Core.List.{List, [], _∷_}
+use mathlib.Core.List.{List, []}
 use lib.ListN.{set}
 use lib.Dec.{eqb}
-use borrow.Author.Tests.{eqb-true, eqb-false, eq-eqb, ne-eqb}
+use borrow.Author.Tests.{eqb-true}
 use native.Mathlib.Omega.{arith}
 use Rattle.rules.specs.declared.Priority.{Priority}
 use Rattle.rules.specs.Line.{both}
-use Rattle.rules.specs.Priority.{less, at-most}
-use Rattle.rules.specs.Times as times
 use Rattle.rules.specs.Times.{effective-priority, is-some}
 use Rattle.rules.specs.Queue.{Next, nobody, next-in}
 use Rattle.rules.specs.Puts.{PutOrTake}
-use Rattle.rules.specs.State.{at, Limits, Topology, Cpu}
+use Rattle.rules.specs.State.{Limits, Topology}
 use Rattle.rules.specs.Topology.{visited}
 use Rattle.rules.specs.Schedule as sched
 use Rattle.rules.specs.Schedule.{World, Got, Flags, with-cpu, with-thread, wakeup, noted}
-use Rattle.rules.specs.Sound.{Under, Free, Same, same-self, sound-same, New, Sound}
+use Rattle.rules.specs.Sound.{Under, Same, same-self, sound-same, New, Sound}
 use Rattle.rules.specs.Steps.{nobody-but, Selected, select-cpu-selected}
 use Rattle.thread.specs.declared.Thread.{Thread}
 use Rattle.thread.specs.declared.time.OptionCpu.{OptionCpu}
 use Rattle.thread.specs.declared.time.OptionCpu.the-variants as cpu
-use Rattle.thread.specs.Reads.{reads, named, critical-in}
+use Rattle.thread.specs.Reads.{named}
 use Rattle.thread.specs.Thread.{NONE}
 use Rattle.lent.specs.Rq.{recordAt}
 use Rattle.memory.specs.Shows.{number-or-none, Small, Shows}
 use Rattle.tree.specs.Tree.{Tree}
 use Rattle.choice.specs.Reads.{as-cpu}
 use Rattle.step.specs.Option.{isNone, cpuOf}
-use Rattle.step.specs.Choose.{selectFor, selectedFor, reinsertAt}
+use Rattle.step.specs.Choose.{selectedFor, reinsertAt}
 use Rattle.step.specs.Preempt.{rqHasHigher}
 use Rattle.step.specs.Running.{runningAt, mustRebalance}
 use Rattle.sched.specs.declared.context.Context.{Context}
@@ -43,7 +41,7 @@ use Rattle.sched.specs.Schedule.{mustMove, reinsertedDef, resetThreadTime, then
 use Rattle.sched_laws.specs.Steps.{running-is, critical-at-work, idle-at-work, must-rebalance-shown, higher-shown, shows-reset}
 use Rattle.sched_laws.specs.Ticked.{context}
 use Rattle.sched_laws.specs.Moves.{shows-scheduled, counts-scheduled}
-use Rattle.sched_laws.specs.Picks.{Settled, no-one, Ends, shows-picked}
+use Rattle.sched_laws.specs.Picks.{Settled, no-one, Ends, some-number, shows-picked}
 use Rattle.sched_laws.specs.Schedules.{unsettle, select-finds, weaker, running-new, new-same, ok-put, put-running, shows-blocked, select-shown, shows-selected}
 
 -- the flags as the rules have them
@@ -56,10 +54,6 @@ named-some = refl
 
 no-some : (y : ℕ) → none ≡ some y → ⊥
 no-some y e = let z : _≡_ {A = ℕ} 0 1 = cc in omega arith
-
-some-number : (x : ℕ) → number-or-none (some x) ≡ x
-unfolding number-or-none
-some-number x = refl
 
 idle-is : not (is-some none) ≡ true
 unfolding is-some

@@ -2,51 +2,46 @@
 use Prim.Native.Nat.{ℕ, _≤_, _<_}
 use mathlib.Core.Path.{_≡_, refl, sym, ap, subst, _∙_}
 use mathlib.Core.Logic.{_≢_}
-use mathlib.Core.Bool.{Bool, true, false, cond, not, _&&_, _||_, true≢false, false≢true}
+use mathlib.Core.Bool.{Bool, true, false, cond, not, true≢false, false≢true}
 use mathlib.Core.Option.{Option, none, some}
 use mathlib.Core.List.{List, [], _∷_}
 use lib.ListN.{set}
 use lib.Dec.{eqb, ltb}
-use borrow.Author.Tests.{eqb-true, eqb-false, eq-eqb, ne-eqb}
+use borrow.Author.Tests.{eqb-true, eqb-false, ne-eqb}
 use native.Mathlib.Omega.{arith}
-use Rattle.rules.specs.declared.Priority.{Priority}
 use Rattle.rules.specs.Line.{both}
-use Rattle.rules.specs.Priority.{less, at-most}
 use Rattle.rules.specs.Times as times
-use Rattle.rules.specs.Times.{effective-priority, is-some, pinned, either}
+use Rattle.rules.specs.Times.{effective-priority, is-some, either}
 use Rattle.rules.specs.Puts.{PutOrTake}
 use Rattle.rules.specs.State.{at, Limits, Topology, Cpu}
 use Rattle.rules.specs.Topology.{visited}
 use Rattle.rules.specs.Choice.{Best, none-yet, best, lower, Searched, find-cpu}
 use Rattle.rules.specs.Schedule as sched
-use Rattle.rules.specs.Schedule.{World, Got, Flags, with-cpu, with-thread, wakeup}
-use Rattle.rules.specs.Sound.{at-here, at-there, at-keeps, Under, Mild, alike-queue, alike-reset, waits, Free, Same, same-then, same-free, same-thread-changed, same-wakeup, sound-same, New, Sound, sound-insert}
-use Rattle.rules.specs.Steps.{nobody-but, Selected, select-cpu-selected}
+use Rattle.rules.specs.Schedule.{World, Got, with-cpu, with-thread, wakeup}
+use Rattle.rules.specs.Sound.{at-here, at-there, at-keeps, Under, alike-queue, alike-reset, Free, Same, same-then, same-free, same-thread-changed, same-wakeup, sound-same, New, Sound, sound-insert}
+use Rattle.rules.specs.Steps.{nobody-but}
 use Rattle.thread.specs.declared.Thread.{Thread}
 use Rattle.thread.specs.declared.place.Place.the-variants as place
 use Rattle.thread.specs.declared.time.OptionCpu.{OptionCpu}
-use Rattle.thread.specs.declared.time.OptionCpu.the-variants as cpu
 use Rattle.thread.specs.declared.time.Preferred.{Preferred}
 use Rattle.thread.specs.declared.time.Preferred.the-variants as preferred
 use Rattle.thread.specs.Reads.{reads, named}
-use Rattle.thread.specs.Thread.{NONE, BLOCKED, with-place}
+use Rattle.thread.specs.Thread.{BLOCKED, with-place}
 use Rattle.thread.specs.Place.{place-in, reads-place}
 use Rattle.thread.specs.Time.{preferred-cpu, chosen, reads-preferred-cpu}
 use Rattle.lent.specs.Rq.{recordAt}
-use Rattle.memory.specs.Shows.{number-or-none, place-at, Places, Small, Shows}
+use Rattle.memory.specs.Shows.{place-at, Places, Small, Shows}
 use Rattle.memory.specs.Frames.{shows-alike, shows-record, in-records}
 use Rattle.represent.specs.Records.{read-set}
 use Rattle.tree.specs.Tree.{Tree}
 use Rattle.choice.specs.Reads.{as-cpu}
 use Rattle.choice.specs.Select as choice
 use Rattle.choice_laws.specs.Memory.{select-memory}
-use Rattle.step.specs.Choose.{preferredOf, selectFor, selectedFor, reinsertAt}
-use Rattle.step.specs.Running.{runningAt}
+use Rattle.step.specs.Choose.{preferredOf, selectFor, selectedFor}
 use Rattle.sched.specs.declared.context.Context.{Context}
-use Rattle.sched.specs.declared.context.SchedFlags.{SchedFlags}
 use Rattle.sched.specs.Queues.{blockDef}
 use Rattle.sched_laws.specs.Ticked.{context}
-use Rattle.sched_laws.specs.Picks.{Settled, no-one, Ends}
+use Rattle.sched_laws.specs.Picks.{Settled, no-one}
 
 -- ---- a choice finds a CPU where there is one
 

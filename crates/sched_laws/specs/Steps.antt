@@ -1,44 +1,43 @@
 -- WHAT THE SCHEDULER DECIDES of words and records is what the rules decide, and each change of them is the rules'. Assumes nothing.
-use Prim.Native.Nat.{ℕ, _+_, _-_, _%_, _^_, _≤_, _<_}
-use mathlib.Core.Path.{_≡_, refl, sym, ap, subst, _∙_}
-use mathlib.Core.Logic.{_≢_}
+use Prim.Native.Nat.{ℕ, _+_, _≤_, _<_}
+use mathlib.Core.Path.{_≡_, refl, ap, subst, _∙_}
 use mathlib.Core.Bool.{Bool, true, false, cond, not, _&&_, _||_, true≢false, false≢true}
 use mathlib.Core.Option.{Option, none, some}
-use mathlib.Core.List.{List, []}
-use lib.ListN.{length, getD, set, length-set, List·getD-eq-default}
+use mathlib.Core.List.{List}
+use lib.ListN.{set, List·getD-eq-default}
 use lib.Seq.{getD-set-same, set-set}
-use lib.Dec.{eqb, ltb, leb}
-use borrow.Author.Tests.{eqb-true, eqb-false, eq-eqb, ne-eqb}
+use lib.Dec.{eqb}
+use borrow.Author.Tests.{ne-eqb}
 use native.Mathlib.Omega.{arith}
 use Rattle.rules.specs.declared.Priority.{Priority}
 use Rattle.rules.specs.Line.{has, both}
 use Rattle.rules.specs.Priority.{from-raw, raw, class-at, cut, nr-values, less, at-most, effective}
 use Rattle.rules.specs.Times as times
 use Rattle.rules.specs.Times.{deadline-distance, effective-priority, is-some, pinned, reset-time}
-use Rattle.rules.specs.Queue.{Queue, order, load, timeshare-load}
-use Rattle.rules.specs.State.{at, Limits, Topology, Cpu, idle-priority, new-thread}
+use Rattle.rules.specs.Queue.{load, timeshare-load}
+use Rattle.rules.specs.State.{at, Limits, Topology, idle-priority, new-thread}
 use Rattle.rules.specs.Schedule as sched
 use Rattle.rules.specs.Schedule.{World, with-cpu, with-thread, wakeup, with-running, with-preempt, priority-running, critical-running, is-empty}
-use Rattle.rules.specs.Sound.{at-here, at-there, at-keeps, Under, waits, Free, New, Sound}
+use Rattle.rules.specs.Sound.{Under, New}
 use Rattle.thread.specs.declared.Thread.{Thread}
-use Rattle.thread.specs.Reads.{reads, critical-in, donated-in, held, cpu-in, named}
+use Rattle.thread.specs.Reads.{reads, critical-in}
 use Rattle.thread.specs.Thread.{NONE, blank, with-deadline, with-timeslice, with-queue, with-last}
 use Rattle.thread.specs.Place.{reads-blank}
 use Rattle.thread.specs.Priority.{raw-again, effective-below}
 use Rattle.thread.specs.Time.{moving-to-queue, moving-to-active, set-deadline, reset-timeslice, reads-set-deadline, reads-moving-to-queue, reads-moving-to-active}
-use Rattle.queue.specs.Num.{sum, sum-exact}
+use Rattle.queue.specs.Num.{sum-exact}
 use Rattle.runqueue.specs.RunQueue.{rqEmpty}
-use Rattle.processor.specs.Words.{width, word, put-word}
+use Rattle.processor.specs.Words.{word}
 use Rattle.processor.specs.Queue.{queueAt}
 use Rattle.lent.specs.Rq.{recordAt, insertDef}
 use Rattle.step.specs.Signal.{signal}
 use Rattle.step.specs.Time.{deadlineAt, resetTime, movedTo, shouldSignal}
 use Rattle.step.specs.Running.{runningAt, mustRebalance, ranBy, ranIdle}
-use Rattle.step.specs.Preempt.{higher, rqHasHigher, needsReschedule, marked, swapped, rescheds}
-use Rattle.memory.specs.Shows.{reading-of, number-or-none, mark-in, Words-show, Places, Small, Shows}
-use Rattle.memory.specs.Frames.{kept, Beside, Written, written-none, written-put, places-same, in-records, in-rows, shows-alike, shows-beside, shows-fields, shows-preempt}
+use Rattle.step.specs.Preempt.{higher, rqHasHigher, needsReschedule, marked, swapped}
+use Rattle.memory.specs.Shows.{reading-of, number-or-none, mark-in, Words-show, Small, Shows}
+use Rattle.memory.specs.Frames.{Written, written-none, written-put, places-same, in-records, in-rows, shows-beside, shows-fields, shows-preempt}
 use Rattle.memory.specs.Queues.{shows-insert}
-use Rattle.memory.specs.Numbers.{load-shown, timeshare-load-shown, advertised-shown, empty-shown, deadline-shown}
+use Rattle.memory.specs.Numbers.{advertised-shown, empty-shown, deadline-shown}
 
 -- the count of wake-ups is not shown
 pub shows-wakeup : {limits : Limits} {topology : Topology} {known active : ℕ → Bool} {ts : List Thread} {cs : List (List ℕ)} {w : World} (b : Bool)

@@ -1,12 +1,11 @@
 -- HARD TICKS, RESCHEDULING AND THE TIME UNTIL THE CPUS ARE BALANCED. Assumes nothing.
-use Prim.Native.Nat.{ℕ, _+_, _-_, _%_, _^_, _≤_, _<_}
+use Prim.Native.Nat.{ℕ, _+_, _-_, _%_, _≤_, _<_}
 use mathlib.Core.Path.{_≡_, refl, sym, ap, subst, _∙_}
-use mathlib.Core.Bool.{Bool, true, false, cond, not, _&&_, _||_, true≢false, false≢true}
+use mathlib.Core.Bool.{Bool, true, false, not, _&&_, _||_, true≢false, false≢true}
 use mathlib.Core.Option.{Option, none, some}
 use mathlib.Core.List.{List}
 use lib.ListN.{set}
 use lib.Dec.{eqb, ltb, leb}
-use borrow.Author.Tests.{eqb-true, eqb-false, eq-eqb, ne-eqb, ltb-true, ltb-false}
 use native.Mathlib.Omega.{arith}
 use Rattle.rules.specs.Line.{both}
 use Rattle.rules.specs.declared.Priority.{Priority}
@@ -17,24 +16,24 @@ use Rattle.rules.specs.Times.{timeslice, effective-priority, is-some, pinned, p
 use Rattle.rules.specs.Queue.{timeshare-load}
 use Rattle.rules.specs.State.{at, Limits, Topology, Cpu, idle-priority, new-thread}
 use Rattle.rules.specs.Schedule as sched
-use Rattle.rules.specs.Schedule.{World, with-cpu, with-thread, with-ticks, with-draws, with-rebalance-time, priority-running}
-use Rattle.rules.specs.Sound.{at-here, at-there, Under}
+use Rattle.rules.specs.Schedule.{World, with-cpu, with-ticks, with-draws, with-rebalance-time, priority-running}
+use Rattle.rules.specs.Sound.{at-here}
 use Rattle.thread.specs.declared.Thread.{Thread}
-use Rattle.thread.specs.Thread.{NONE, blank, with-timeslice}
+use Rattle.thread.specs.Thread.{blank, with-timeslice}
 use Rattle.thread.specs.Reads.{reads, donated-in}
 use Rattle.thread.specs.Place.{reads-blank}
 use Rattle.thread.specs.Time.{pay-ticks, reads-pay-ticks, expired-pay-ticks}
 use Rattle.processor.specs.Words.{word, put-word}
 use Rattle.processor.specs.Queue.{queueAt}
 use Rattle.lent.specs.Rq.{recordAt, hardtickDef, Ticked}
-use Rattle.memory.specs.Shows.{number-or-none, Small, Shows}
+use Rattle.memory.specs.Shows.{Small, Shows}
 use Rattle.memory.specs.Frames.{shows-alike, shows-fields, shows-idle-timeslice, shows-draws, shows-rebalance-time}
 use Rattle.memory.specs.Numbers.{timeshare-load-shown}
 use Rattle.memory.specs.Clock.{shows-hardtick, ticks-shown}
 use Rattle.step.specs.Running.{runningAt}
-use Rattle.step.specs.Preempt.{Marked, needsReschedule, marked, allowedAt, idlePayer, idlePaid, expires, rescheds}
+use Rattle.step.specs.Preempt.{needsReschedule, marked, allowedAt, idlePayer, idlePaid, rescheds}
 use Rattle.step.specs.Rebalance.{timePassed, rebalanceDue}
-use Rattle.sched_laws.specs.Steps.{running-is, priority-at-work, idle-at-work, needs-shown, shows-marked}
+use Rattle.sched_laws.specs.Steps.{idle-at-work, needs-shown, shows-marked}
 
 -- a CPU changed twice is changed once
 pub cpu-twice : (w : World) (c : ℕ) (p q : Cpu) (d : ℕ) → with-cpu (with-cpu w c p) c q .cpus d ≡ with-cpu w c q .cpus d

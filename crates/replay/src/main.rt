@@ -1,0 +1,160 @@
+// Commands from standard input, document 01's output to standard output.
+use feed::fed::ENDED;
+use feed::fed::Fed;
+use feed::fed::begin;
+use feed::feed::feed;
+use feed::start::Started;
+use feed::start::start;
+use questions::state::State;
+use thread::Thread;
+use thread::blank;
+
+// What was fed, and the bytes at the front of the next block.
+pub struct Serving {
+    pub fed: Fed,
+    pub left: usize,
+}
+
+// Bytes of standard input behind the first `left`; answers how many there are then. A read that fails ends the input.
+fn fill(input: &mut [u8], left: usize) -> usize {
+    if left < input.len() {
+        let got = io::read_full(libc::STDIN_FILENO, &mut input[left..]);
+        return more_by(left, got);
+    }
+    left
+}
+
+fn more_by(left: usize, got: usize) -> usize {
+    std::num::wrapping_add_usize(left, got)
+}
+
+fn show(output: &[u8], n: usize) -> bool {
+    if n <= output.len() {
+        return io::write_all(libc::STDOUT_FILENO, &output[..n]);
+    }
+    false
+}
+
+// The bytes from `from` to below n go to the front; answers how many.
+fn keep(input: &mut [u8], from: usize, n: usize) -> usize {
+    if input.len() < n {
+        return 0;
+    }
+    if n <= from {
+        return 0;
+    }
+    let count = n - from;
+    let mut i: usize = 0;
+    while i < count {
+        let j = from + i;
+        let byte = input[j];
+        input[i] = byte;
+        i += 1;
+    }
+    count
+}
+
+// The end line is written, or the output takes no more bytes.
+fn stops(f: Fed, shown: bool) -> bool {
+    if f.phase == ENDED {
+        return true;
+    }
+    if shown {
+        return false;
+    }
+    true
+}
+
+fn with_left(fed: Fed, left: usize) -> Serving {
+    Serving { fed, left }
+}
+
+// Each turn but the last takes a command, and a run has fewer than 2^32.
+fn turns() -> u64 {
+    18446744073709551615
+}
+
+fn serve(
+    threads: &mut [Thread],
+    cpus: &mut [[u64; 96]],
+    nodes: &mut [[u64; 32]],
+    input: &mut [u8],
+    output: &mut [u8],
+    begun: Serving,
+) -> bool {
+    let mut s = begun;
+    let mut budget: u64 = turns();
+    while 0 < budget {
+        let left = s.left;
+        let fed = s.fed;
+        let n = fill(input, left);
+        let last = n <= left;
+        let f = feed(threads, cpus, nodes, input, output, n, last, fed);
+        let shown = show(output, f.done);
+        if stops(f, shown) {
+            return shown;
+        }
+        let kept = keep(input, f.at, n);
+        let g = with_left(f, kept);
+        s = g;
+        budget = budget - 1;
+    }
+    false
+}
+
+// The memory that `main` lends is large enough for every start.
+fn begun(started: Started) -> Serving {
+    match started {
+        Started::Ready(state) => with_left(begin(state), 0),
+        Started::NoRoom => with_left(nothing(), 0),
+    }
+}
+
+fn nothing() -> Fed {
+    Fed {
+        at: 0,
+        done: 0,
+        number: 0,
+        refused: 0,
+        phase: ENDED,
+        state: State {
+            cpus: 0,
+            nodes: 0,
+            shortest: 0,
+            wide: false,
+            tick: 0,
+            sealed: false,
+            accepted: 0,
+            node_count: 0,
+        },
+    }
+}
+
+fn no_cpu() -> [u64; 96] {
+    [0; 96]
+}
+
+fn no_node() -> [u64; 32] {
+    [0; 32]
+}
+
+fn main() {
+    let t = blank();
+    let c = no_cpu();
+    let d = no_node();
+    let mut threads = [t; 1024];
+    let mut cpus = [c; 64];
+    let mut nodes = [d; 128];
+    let mut input = [0u8; 4096];
+    let mut output = [0u8; 262144];
+    let started = start(&mut threads, &mut cpus, &mut nodes);
+    let s = begun(started);
+    serve(
+        &mut threads,
+        &mut cpus,
+        &mut nodes,
+        &mut input,
+        &mut output,
+        s,
+    );
+}
