@@ -16,7 +16,6 @@ use Rattle.rules.specs.State.{Limits, is-number, runs-on, start, new-cpu, new-t
 use Rattle.rules.specs.Commands.{world-of}
 use Rattle.rules.specs.Effect.{start-order}
 use Rattle.rules.specs.Sound.{Under, waits}
-use Rattle.thread.specs.declared.place.Place.the-variants as place
 use Rattle.thread.specs.Thread.{NONE, blank}
 use Rattle.thread.specs.Reads.{reads}
 use Rattle.thread.specs.Place.{place-in, reads-blank}
