@@ -3,4 +3,5 @@ pub mod Pairs
 pub mod Runs
 pub mod Moves
 pub mod Balance
+pub mod Rebalance
 pub mod Stattick

@@ -372,7 +372,7 @@ module _ (limits : Limits) (topology : Topology) (tick us : ℕ) (known : ℕ �
                   counted = put-wakeups marked-shows marked-safe donor recipient donor-in recipient-in x e n (m .counted ∙ sym v-counts) (omega (arith, v-counts, m .few, room));
                   few = omega (arith, put-wakeups-few marked-shows marked-safe donor recipient donor-in recipient-in x e, v-counts, m .few);
                 }));
-            far = λ z. subst (λ (C : Balancing). B .steps + 11 ≤ C .steps) (sym r) (omega arith);
+            far = λ z. let l : moved-B .steps ≡ B .steps + 11 = ap (λ (C : Balancing). C .steps) r in omega arith;
           }
 
       move-law : (o : Option ℕ) → got .got ≡ o → Stepped ts n (record { balancing = cond (is-some o) (moving b donor recipient) (without b recipient); cpus = marked }) (B .steps) moved-B

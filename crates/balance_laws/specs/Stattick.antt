@@ -19,7 +19,7 @@ use Rattle.sched_laws.specs.Ticked.{context}
 use Rattle.sched_laws.specs.Picks.{Settled, no-one}
 use Rattle.sched_laws.specs.Scheduled.{Leaves}
 use Rattle.sched_laws.specs.Commands.{settled-same}
-use Rattle.sched_laws.specs.Stattick.{Balances, shows-maybe-rebalance, shows-stattick}
+use Rattle.balance_laws.specs.Rebalance.{Balances, shows-maybe-rebalance, shows-stattick}
 use Rattle.balance_laws.specs.Runs.{balance-runs}
 use Rattle.balance_laws.specs.Balance.{balance-shown}
 
