@@ -171,6 +171,10 @@ pub new-all : (g : ℕ → List (List ℕ)) (n : ℕ) → ((k : ℕ) → k < n �
     → (c : ℕ) → c < n → New (g n) c
 new-all g n step m l c h = so-far g n step m l n (omega arith) .news c h
 
+pub as-many-cpus : (g : ℕ → List (List ℕ)) (n : ℕ) → ((k : ℕ) → k < n → g (suc k) ≡ cpu-written (g k) k) → n ≤ length (g 0) → ((c : ℕ) → c < n → length (getD (g 0) c []) ≡ width)
+    → n ≤ length (g n)
+as-many-cpus g n step m l = so-far g n step m l n (omega arith) .many
+
 -- ---- the start stands
 
 blank-at : (n x : ℕ) → recordAt (replicate n blank) x ≡ blank
