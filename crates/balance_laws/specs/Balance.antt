@@ -2,9 +2,9 @@
 use Prim.Native.Nat.{ℕ, zero, suc, _+_, _≤_, _<_}
 use mathlib.Core.Path.{_≡_, refl, sym, ap, subst, _∙_}
 use mathlib.Core.Logic.{_⊎_, inl, inr}
-use mathlib.Core.Bool.{Bool, true, false, cond, not, _&&_, _||_, true≢false, false≢true}
+use mathlib.Core.Bool.{Bool, true, false, not, _&&_, _||_, true≢false, false≢true}
 use mathlib.Core.List.{List}
-use lib.Dec.{eqb, ltb, leb}
+use lib.Dec.{ltb, leb}
 use borrow.Author.Tests.{ltb-true, ltb-false, lt-ltb, le-leb, lt-leb}
 use native.Mathlib.Omega.{arith}
 use Rattle.rules.specs.Line.{both}
@@ -17,7 +17,6 @@ use Rattle.rules.specs.Steps.{nobody-but}
 use Rattle.thread.specs.declared.Thread.{Thread}
 use Rattle.thread.specs.Thread.{NONE}
 use Rattle.memory.specs.Shows.{Small, Shows}
-use Rattle.topology.specs.CpuSet as cpus
 use Rattle.topology.specs.CpuSet.{sixteen-all, contains-all, max-cpu-id}
 use Rattle.tree.specs.Tree.{Tree}
 use Rattle.step.specs.declared.balance.Balancing as step
@@ -27,7 +26,7 @@ use Rattle.sched.specs.World as code
 use Rattle.sched.specs.Balance.{moveOne, moveTwo, balanceDef}
 use Rattle.sched_laws.specs.Ticked.{context}
 use Rattle.balance_laws.specs.Turns.{going, rest, rest-next, step-more, turns-stop, spent}
-use Rattle.balance_laws.specs.Moves.{Meets, Stepped, move-none, step-law}
+use Rattle.balance_laws.specs.Moves.{Meets, move-none, step-law}
 
 -- ---- whether another turn is due
 

@@ -14,7 +14,7 @@ use Rattle.rules.specs.Times.{is-some}
 use Rattle.rules.specs.Queue.{order, load, Next, nobody, next-in, asked, leave}
 use Rattle.rules.specs.Puts.{PutOrTake}
 use Rattle.rules.specs.Kept.{asked-head}
-use Rattle.rules.specs.State.{at, Limits, Topology, Cpu}
+use Rattle.rules.specs.State.{at, Limits, Topology}
 use Rattle.rules.specs.Topology.{cpus-of}
 use Rattle.rules.specs.Choice.{Pair, no-pair, pair, Chosen, choose-cpu-balance}
 use Rattle.rules.specs.Schedule as sched
@@ -22,7 +22,6 @@ use Rattle.rules.specs.Schedule.{World, Got, Balancing, with-cpu, with-thread, 
 use Rattle.rules.specs.Sound.{at-here, at-there, waits, Sound, Same, New, Taken, not-true-is, alike-queue, alike-reset, same-free, same-then, same-cpu-changed, same-thread-changed, same-wakeup, sound-same, sound-insert, take-taken}
 use Rattle.rules.specs.Steps.{nobody-but}
 use Rattle.thread.specs.declared.Thread.{Thread}
-use Rattle.thread.specs.declared.place.Place.{Place}
 use Rattle.thread.specs.Thread.{NONE}
 use Rattle.thread.specs.Time.{moving-to-queue}
 use Rattle.queue.specs.Num.{sum, sum-exact}
@@ -37,7 +36,7 @@ use Rattle.represent.specs.Linked.{has-first}
 use Rattle.lent.specs.declared.rq.Taken as lent
 use Rattle.lent.specs.declared.rq.Taken.the-variants as taken
 use Rattle.lent.specs.Rq.{recordAt, Took, tookFrom, takeDef}
-use Rattle.memory.specs.Shows.{place-at, Small, Shows}
+use Rattle.memory.specs.Shows.{Small, Shows}
 use Rattle.memory.specs.Frames.{beside-put, in-rows, shows-must-rebalance, shows-draws}
 use Rattle.memory.specs.Queues.{active-with, as-taken, Take-shows, shows-take}
 use Rattle.memory.specs.Numbers.{word-load, load-shown, current-load-shown}
@@ -46,7 +45,7 @@ use Rattle.topology.specs.CpuSet.{Sixteen, sixteen-remove, remove-same, remove-
 use Rattle.tree.specs.Tree.{Tree}
 use Rattle.choice_laws.specs.Memory.{balance-memory}
 use Rattle.step.specs.declared.balance.Balancing as step
-use Rattle.step.specs.Balance.{Balanced, passed, stopped, without, moving, moved, isSomebody, handsOut, outcome, pairStep, pairOf, chosenAt, balanceStep}
+use Rattle.step.specs.Balance.{Balanced, passed, stopped, without, moving, isSomebody, handsOut, outcome, pairStep, pairOf, chosenAt, balanceStep}
 use Rattle.sched.specs.declared.context.Context.{Context}
 use Rattle.sched.specs.World as code
 use Rattle.sched.specs.Queues.{isNobody, threadOf, movedIn, scheduleThreadOnCpu, movedFor, takeFrom}
