@@ -1,5 +1,5 @@
 -- ONE CHOICE OF `balance`, and the move that it comes to: memory that meets the rules' balancing meets it again after the rules' step. Assumes nothing.
-use Prim.Native.Nat.{ℕ, _+_, _≤_, _<_}
+use Prim.Native.Nat.{ℕ, _+_, _*_, _≤_, _<_}
 use mathlib.Core.Path.{_≡_, refl, sym, ap, subst, _∙_}
 use mathlib.Core.Bool.{Bool, true, false, cond, not, true≢false, false≢true}
 use mathlib.Core.Option.{Option, none, some}
@@ -104,9 +104,9 @@ one-at-most : (b : Bool) (n : ℕ) → cond b (n + 1) n ≤ n + 1
 one-at-most true n = omega arith
 one-at-most false n = omega arith
 
--- us: the CPU that runs the command; base: the wake-ups counted before, which leave room for those of a balancing
+-- us: the CPU that runs the command; base: the wake-ups counted before, which leave room for those of two moves
 module _ (limits : Limits) (topology : Topology) (tick us : ℕ) (known : ℕ → Bool) (numbered : (x : ℕ) → known x ≡ true → x < limits .threads) (small : Small limits)
-    (early : tick ≤ 4611686018427387904) (H : ℕ → List PutOrTake) (us-in : us < limits .cpus) (active : ℕ → Bool) (base : ℕ) (room : base + 40 < NONE) where
+    (early : tick ≤ 4611686018427387904) (H : ℕ → List PutOrTake) (us-in : us < limits .cpus) (active : ℕ → Bool) (base : ℕ) (room : base + 2 ≤ NONE) where
   abbrev pub k : Context
   k = record { us = us; tick = tick; shortest = limits .shortest; limit = limits .cpus }
 
@@ -122,7 +122,7 @@ module _ (limits : Limits) (topology : Topology) (tick us : ℕ) (known : ℕ �
     pub steps : b .steps ≡ B .steps
     pub goes-on : b .«goes_on» ≡ B .goes-on
     pub counted : wakeups ≡ B .world .wakeups
-    pub few : B .world .wakeups ≤ base + B .steps
+    pub few : B .world .wakeups * 11 ≤ base * 11 + B .steps
 
   -- ---- the rules
 
@@ -372,7 +372,7 @@ module _ (limits : Limits) (topology : Topology) (tick us : ℕ) (known : ℕ �
                   counted = put-wakeups marked-shows marked-safe donor recipient donor-in recipient-in x e n (m .counted ∙ sym v-counts) (omega (arith, v-counts, m .few, room));
                   few = omega (arith, put-wakeups-few marked-shows marked-safe donor recipient donor-in recipient-in x e, v-counts, m .few);
                 }));
-            far = λ z. subst (λ (C : Balancing). B .steps + 11 ≤ C .steps) (sym r) (omega arith);
+            far = λ z. let l : moved-B .steps ≡ B .steps + 11 = ap (λ (C : Balancing). C .steps) r in omega arith;
           }
 
       move-law : (o : Option ℕ) → got .got ≡ o → Stepped ts n (record { balancing = cond (is-some o) (moving b donor recipient) (without b recipient); cpus = marked }) (B .steps) moved-B

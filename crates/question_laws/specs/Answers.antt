@@ -16,7 +16,7 @@ use Rattle.rules.specs.Puts.{PutOrTake}
 use Rattle.rules.specs.State as rules
 use Rattle.rules.specs.State.{Limits, any-below, all-below, runs-on, waits-on, blocked}
 use Rattle.rules.specs.Topology.{nr-nodes, leaf}
-use Rattle.rules.specs.Requests.{Request, declare-cpu, add-node, place-cpu, seal, declare-thread, set-tick, schedule-thread, schedule, hardtick, stattick, resched, maybe-preempt, donate, remove-donation, set-critical, Reading, unknown, cut-short, asks}
+use Rattle.rules.specs.Requests.{Request, declare-cpu, add-node, place-cpu, seal, declare-thread, set-tick, schedule-thread, schedule, hardtick, stattick, resched, maybe-preempt, donate, remove-donation, set-critical, Reading, unknown, cut-short, asks, widths, pin-of, operands, request, read-operands, read}
 use Rattle.rules.specs.Questions as rules-ask
 use Rattle.rules.specs.Questions.{Question, question, first-no, refusal}
 use Rattle.rules.specs.Commands.{world-of}
@@ -32,6 +32,7 @@ use Rattle.lent.specs.Rq.{recordAt}
 use Rattle.memory.specs.Shows.{number-or-none, mark-in, place-at}
 use Rattle.tree.specs.Lists.{any-true, any-none}
 use Rattle.tree.specs.Tree.{own-same}
+use Rattle.request.specs.Request.{limits-of}
 use Rattle.questions.specs.declared.state.State.{State}
 use Rattle.questions.specs.Questions as ask
 use Rattle.question_laws.specs.Stands.{limits-in, runs, Stands}
@@ -113,6 +114,29 @@ blocked-test n =
     both (eqb n BLOCKED) (λ t. rw t)
     (λ t. rw t (both (eqb n RUNNING) (λ u. rw u) (λ u. rw u (both (eqb n WAITING) (λ v. rw v) (λ v. rw v)))))
 
+-- reading asks only how many bytes an operand has that names a CPU or a node
+record Widths (l k : Limits) : Type 0 where
+  of-cpus : l .cpu-bytes ≡ k .cpu-bytes
+  of-nodes : l .node-bytes ≡ k .node-bytes
+
+widths-same : (l k : Limits) → Widths l k → (byte : ℕ) → widths l byte ≡ widths k byte
+unfolding widths
+widths-same l k e byte = rw (e .of-cpus, e .of-nodes)
+
+request-same : (l k : Limits) → Widths l k → (byte : ℕ) (v : List ℕ) → request l byte v ≡ request k byte v
+unfolding request pin-of
+request-same l k e byte v = rw (e .of-cpus)
+
+read-operands-same : (l k : Limits) → Widths l k → (byte : ℕ) (bytes : List ℕ) (o : Option (List ℕ)) → read-operands l byte bytes o ≡ read-operands k byte bytes o
+unfolding read-operands
+read-operands-same l k e byte bytes none = refl
+read-operands-same l k e byte bytes (some ns) = rw (request-same l k e byte (operands ns bytes))
+
+read-widths : (l k : Limits) → Widths l k → (bytes : List ℕ) → read l bytes ≡ read k bytes
+unfolding read
+read-widths l k e [] = refl
+read-widths l k e (byte ∷ bytes) = read-operands-same l k e byte bytes (widths l byte) ∙ ap (read-operands k byte bytes) (widths-same l k e byte)
+
 -- ---- memory that stands for a state
 
 module _ {H : ℕ → List PutOrTake} {ts : List Thread} {cs ns : List (List ℕ)} {a : State} {s : rules.State} (m : Stands ts cs ns a s) (reached : Reached H s) where
@@ -127,6 +151,15 @@ module _ {H : ℕ → List PutOrTake} {ts : List Thread} {cs ns : List (List ℕ
   pub threads-are : s .limits .threads ≡ 1024
   unfolding limits-in
   threads-are = ap (λ (l : Limits). l .threads) (m .limits)
+
+  -- 1 and 2: THE BYTES, read by the state's widths
+  pub read-same : (bytes : List ℕ) → read (limits-of (a .wide)) bytes ≡ read (s .limits) bytes
+  unfolding limits-of limits-in
+  read-same bytes =
+      read-widths (limits-of (a .wide)) (s .limits) (record {
+        of-cpus = sym (ap (λ (l : Limits). l .cpu-bytes) (m .limits));
+        of-nodes = sym (ap (λ (l : Limits). l .node-bytes) (m .limits));
+      }) bytes
 
   -- 3
   pub open-same : ask.open-yet a ≡ rules-ask.open-yet s

@@ -2,3 +2,4 @@ pub mod Stands
 pub mod Answers
 pub mod Changes
 pub mod Start
+pub mod Started

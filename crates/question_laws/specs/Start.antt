@@ -16,7 +16,6 @@ use Rattle.rules.specs.State.{Limits, is-number, runs-on, start, new-cpu, new-t
 use Rattle.rules.specs.Commands.{world-of}
 use Rattle.rules.specs.Effect.{start-order}
 use Rattle.rules.specs.Sound.{Under, waits}
-use Rattle.thread.specs.declared.place.Place.the-variants as place
 use Rattle.thread.specs.Thread.{NONE, blank}
 use Rattle.thread.specs.Reads.{reads}
 use Rattle.thread.specs.Place.{place-in, reads-blank}
@@ -171,6 +170,10 @@ so-far g n step m l (suc k) h =
 pub new-all : (g : ℕ → List (List ℕ)) (n : ℕ) → ((k : ℕ) → k < n → g (suc k) ≡ cpu-written (g k) k) → n ≤ length (g 0) → ((c : ℕ) → c < n → length (getD (g 0) c []) ≡ width)
     → (c : ℕ) → c < n → New (g n) c
 new-all g n step m l c h = so-far g n step m l n (omega arith) .news c h
+
+pub as-many-cpus : (g : ℕ → List (List ℕ)) (n : ℕ) → ((k : ℕ) → k < n → g (suc k) ≡ cpu-written (g k) k) → n ≤ length (g 0) → ((c : ℕ) → c < n → length (getD (g 0) c []) ≡ width)
+    → n ≤ length (g n)
+as-many-cpus g n step m l = so-far g n step m l n (omega arith) .many
 
 -- ---- the start stands
 

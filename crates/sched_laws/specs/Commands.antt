@@ -4,7 +4,7 @@ use mathlib.Core.Path.{_≡_, refl, sym, ap, _∙_}
 use mathlib.Core.Logic.{_≢_}
 use mathlib.Core.Bool.{Bool, true, false, true≢false, false≢true}
 use mathlib.Core.Option.{Option, none, some}
-use mathlib.Core.List.{List, []}
+use mathlib.Core.List.{List}
 use lib.Dec.{eqb}
 use borrow.Author.Tests.{eqb-true, eqb-false, eq-eqb}
 use native.Mathlib.Omega.{arith}
@@ -12,7 +12,6 @@ use Rattle.rules.specs.Line.{both}
 use Rattle.rules.specs.Times.{is-some}
 use Rattle.rules.specs.Puts.{PutOrTake}
 use Rattle.rules.specs.State.{at, any-below, is-number, Limits, Topology, Cpu}
-use Rattle.rules.specs.Topology.{visited}
 use Rattle.rules.specs.Schedule as sched
 use Rattle.rules.specs.Schedule.{World, Got, with-cpu, with-thread, with-preempt}
 use Rattle.rules.specs.Sound.{at-here, at-there, at-keeps, same-cpu-changed, sound-same, New, Sound}
@@ -36,6 +35,7 @@ use Rattle.sched.specs.Schedule.{scheduleDef, scheduledOn, scheduleThread}
 use Rattle.sched.specs.Ticks.{scheduleHardtick, scheduleResched, scheduleMaybePreempt, preempting}
 use Rattle.sched_laws.specs.Steps.{swapped-mark, shows-swapped, unswapped}
 use Rattle.sched_laws.specs.Ticks.{shows-resched}
+use Rattle.sched_laws.specs.Crowd.{visited-placed}
 use Rattle.sched_laws.specs.Ticked.{context, shows-schedule-hardtick}
 use Rattle.sched_laws.specs.Moves.{shows-scheduled, counts-scheduled}
 use Rattle.sched_laws.specs.Picks.{Settled, no-one, Ends}
@@ -100,8 +100,7 @@ pub ends-runs : {limits : Limits} {topology : Topology} {known : ℕ → Bool} {
 ends-runs {limits} {v = v} near e = shows-active (runs-somewhere limits v) (settled-is limits (e .active) v near (e .settled)) (e .shows)
 
 module _ (limits : Limits) (topology : Topology) (tick us : ℕ) (known : ℕ → Bool) (numbered : (x : ℕ) → known x ≡ true → x < limits .threads) (small : Small limits)
-    (early : tick ≤ 4611686018427387904) (us-in : us < limits .cpus) (H : ℕ → List PutOrTake) (ns : List (List ℕ)) (tree : Tree limits ns topology) (node : ℕ) (put-on : topology .placed us ≡ some node)
-    (crowd : visited limits topology ≢ []) where
+    (early : tick ≤ 4611686018427387904) (us-in : us < limits .cpus) (H : ℕ → List PutOrTake) (ns : List (List ℕ)) (tree : Tree limits ns topology) (node : ℕ) (put-on : topology .placed us ≡ some node) where
   abbrev k : Context
   k = context limits tick us
 
@@ -114,7 +113,7 @@ module _ (limits : Limits) (topology : Topology) (tick us : ℕ) (known : ℕ �
     obeyed : w .cpus us .preempt ≡ true → Leaves limits topology known (scheduleDef ts (swapped cs us .cpus) ns k preempting wakeups) (sched.schedule limits topology tick us cleared (record { yield = false; preempt = true; again = true }))
     unfolding flags-in with-cpu with-preempt
     obeyed e =
-        shows-schedule limits topology tick us known numbered small early us-in H ns tree node put-on crowd (shows-swapped limits topology tick us known numbered small early s us-in e)
+        shows-schedule limits topology tick us known numbered small early us-in H ns tree node put-on (shows-swapped limits topology tick us known numbered small early s us-in e)
         (sound-same (same-cpu-changed limits w us (with-preempt (w .cpus us) false) refl refl) safe) (settled-same w cleared (at-keeps (λ (p : Cpu). p .running) (w .cpus) us (with-preempt (w .cpus us) false) refl) st)
         wakeups count few preempting
 
@@ -177,7 +176,7 @@ module _ (limits : Limits) (topology : Topology) (tick us : ℕ) (known : ℕ �
       shows-selection = shows-selected limits topology tick us known numbered small early us-in H ns tree node put-on s safe x (numbered x is-known) cpu.None
 
       pub woken-on : is-some (selected .got) ≡ true
-      woken-on = select-finds limits topology tick us known numbered small early us-in H ns tree node put-on crowd w x none
+      woken-on = select-finds limits topology tick us known numbered small early us-in H ns tree node put-on (visited-placed limits topology (tree .sound) us node put-on) w x none
 
       woken-settled : (v : World) → ((c : ℕ) → v .cpus c .running ≡ w .cpus c .running) → Settled no-one (at active x false) v
       unfolding nobody-but

@@ -1,10 +1,9 @@
 -- `do_schedule`, `schedule` AND `schedule_thread` OVER RECORDS AND WORDS ARE THE RULES'. Assumes nothing.
 use Prim.Native.Nat.{ℕ, _≤_, _<_}
 use mathlib.Core.Path.{_≡_, refl, sym, ap, subst, _∙_}
-use mathlib.Core.Logic.{_≢_}
 use mathlib.Core.Bool.{Bool, true, false, not, _||_, false≢true}
 use mathlib.Core.Option.{Option, none, some}
-use mathlib.Core.List.{List, []}
+use mathlib.Core.List.{List}
 use lib.ListN.{set}
 use lib.Dec.{eqb}
 use borrow.Author.Tests.{eqb-true}
@@ -15,7 +14,6 @@ use Rattle.rules.specs.Times.{effective-priority, is-some}
 use Rattle.rules.specs.Queue.{Next, nobody, next-in}
 use Rattle.rules.specs.Puts.{PutOrTake}
 use Rattle.rules.specs.State.{Limits, Topology}
-use Rattle.rules.specs.Topology.{visited}
 use Rattle.rules.specs.Schedule as sched
 use Rattle.rules.specs.Schedule.{World, Got, Flags, with-cpu, with-thread, wakeup, noted}
 use Rattle.rules.specs.Sound.{Under, Same, same-self, sound-same, New, Sound}
@@ -39,6 +37,7 @@ use Rattle.sched.specs.World as lent
 use Rattle.sched.specs.Queues.{blockDef, scheduleThreadOnCpu}
 use Rattle.sched.specs.Schedule.{mustMove, reinsertedDef, resetThreadTime, thenNext, pickNext, reinsertDef, doSchedule, scheduleDef}
 use Rattle.sched_laws.specs.Steps.{running-is, critical-at-work, idle-at-work, must-rebalance-shown, higher-shown, shows-reset}
+use Rattle.sched_laws.specs.Crowd.{visited-placed}
 use Rattle.sched_laws.specs.Ticked.{context}
 use Rattle.sched_laws.specs.Moves.{shows-scheduled, counts-scheduled}
 use Rattle.sched_laws.specs.Picks.{Settled, no-one, Ends, some-number, shows-picked}
@@ -129,8 +128,7 @@ module _ (limits : Limits) (topology : Topology) (tick us : ℕ) where
   select-wakeups w x avoid = select-from-wakeups w x avoid _
 
 module _ (limits : Limits) (topology : Topology) (tick us : ℕ) (known : ℕ → Bool) (numbered : (x : ℕ) → known x ≡ true → x < limits .threads) (small : Small limits)
-    (early : tick ≤ 4611686018427387904) (us-in : us < limits .cpus) (H : ℕ → List PutOrTake) (ns : List (List ℕ)) (tree : Tree limits ns topology) (node : ℕ) (put-on : topology .placed us ≡ some node)
-    (crowd : visited limits topology ≢ []) where
+    (early : tick ≤ 4611686018427387904) (us-in : us < limits .cpus) (H : ℕ → List PutOrTake) (ns : List (List ℕ)) (tree : Tree limits ns topology) (node : ℕ) (put-on : topology .placed us ≡ some node) where
   abbrev k : Context
   k = context limits tick us
 
@@ -189,7 +187,7 @@ module _ (limits : Limits) (topology : Topology) (tick us : ℕ) (known : ℕ �
       reinsert-finds : is-some (at-queue .got) ≡ true
       unfolding sched.reinsert-at
       reinsert-finds =
-          both (w .cpus us .must-rebalance) (λ e. rw e (select-finds limits topology tick us known numbered small early us-in H ns tree node put-on crowd w x (some us))) (λ e. rw e (unfold is-some in refl))
+          both (w .cpus us .must-rebalance) (λ e. rw e (select-finds limits topology tick us known numbered small early us-in H ns tree node put-on (visited-placed limits topology (tree .sound) us node put-on) w x (some us))) (λ e. rw e (unfold is-some in refl))
 
       reinsert-wakeups : at-queue .world .wakeups ≡ w .wakeups
       unfolding sched.reinsert-at

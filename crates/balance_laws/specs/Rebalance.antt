@@ -1,7 +1,8 @@
--- 15: `schedule_stattick` OVER RECORDS AND WORDS, where `balance` is the rules'. Assumes nothing.
+-- `schedule_maybe_rebalance` and `schedule_stattick` over records and words, where `balance` is the rules'. Assumes nothing.
 use Prim.Native.Nat.{ℕ, _+_, _≤_, _<_}
-use mathlib.Core.Path.{_≡_, refl, sym, subst, _∙_}
-use mathlib.Core.Bool.{Bool, true, false, _&&_, true≢false, false≢true}
+use mathlib.Core.Path.{_≡_, refl, sym, ap, subst, _∙_}
+use mathlib.Core.Bool.{Bool, true, false, cond, _&&_, true≢false, false≢true}
+use mathlib.Core.Option.{Option, none, some}
 use mathlib.Core.List.{List}
 use lib.Dec.{eqb, ltb}
 use Rattle.rules.specs.Line.{both}
@@ -18,11 +19,11 @@ use Rattle.memory.specs.Clock.{shows-clock}
 use Rattle.step.specs.Rebalance.{rebalanceDue}
 use Rattle.sched.specs.declared.context.Context.{Context}
 use Rattle.sched.specs.Balance.{balanceDef, maybeRebalance, clocked, scheduleStattick}
 use Rattle.sched_laws.specs.Ticks.{due-shown, anew, shows-due, shows-not-due}
 use Rattle.sched_laws.specs.Ticked.{context}
-use Rattle.sched_laws.specs.Picks.{Settled, no-one}
+use Rattle.sched_laws.specs.Picks.{Settled, no-one, Ends}
 use Rattle.sched_laws.specs.Scheduled.{Leaves}
 use Rattle.sched_laws.specs.Commands.{settled-same}
 
 and-both : (a b : Bool) → (a && b) ≡ true → (a ≡ true) × (b ≡ true)
 and-both true b e = (refl, e)
