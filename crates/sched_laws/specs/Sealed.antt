@@ -1,7 +1,7 @@
 -- ONCE SEALED, EVERY DECLARED CPU IS ON A NODE, whatever calls are made. Assumes nothing.
 use Prim.Native.Nat.{ℕ, zero, suc, _<_}
-use mathlib.Core.Path.{_≡_, refl, sym, ap, _∙_}
-use mathlib.Core.Bool.{Bool, true, false, cond, not, _&&_, _||_, true≢false, false≢true}
+use mathlib.Core.Path.{_≡_, refl, sym, _∙_}
+use mathlib.Core.Bool.{Bool, true, false, not, _&&_, _||_, true≢false, false≢true}
 use mathlib.Core.Option.{Option, none, some}
 use mathlib.Core.List.{List, [], _∷_, _++_}
 use lib.Dec.{eqb}
@@ -9,11 +9,11 @@ use borrow.Author.Tests.{eqb-true, eqb-false}
 use native.Mathlib.Omega.{arith}
 use Rattle.rules.specs.Line.{both}
 use Rattle.rules.specs.Times.{is-some}
-use Rattle.rules.specs.State.{Limits, Topology, all-below, State, start}
+use Rattle.rules.specs.State.{Limits, all-below, State, start}
 use Rattle.rules.specs.Schedule.{World}
 use Rattle.rules.specs.Requests.{Request, declare-cpu, add-node, place-cpu, seal, declare-thread, set-tick, schedule-thread, schedule, hardtick, stattick, resched, maybe-preempt, donate, remove-donation, set-critical, Reading, unknown, cut-short, asks, read}
 use Rattle.rules.specs.Questions.{Question, question, open-yet, all-placed, placed-if-declared, declared, concerning, first-no, room, refusal}
-use Rattle.rules.specs.Commands.{Step, refuses, changed, ran, ran-on, schedules, scheduled-on, obeys, answered, step, after-calls}
+use Rattle.rules.specs.Commands.{refuses, changed, ran, ran-on, schedules, scheduled-on, obeys, answered, step, after-calls}
 
 -- what is asked of a sealed topology
 pub record Sealed (s : State) : Type 0 where
@@ -23,7 +23,7 @@ pub sealed-start : (limits : Limits) → Sealed (start limits)
 unfolding start
 sealed-start limits = record { on-node = λ e c h d. absurd (false≢true e) }
 
-yes : (n : ℕ) (b : Bool) (l : List Question) → first-no (question (suc n) b ∷ l) ≡ 0 → (b ≡ true) × (first-no l ≡ 0)
+pub yes : (n : ℕ) (b : Bool) (l : List Question) → first-no (question (suc n) b ∷ l) ≡ 0 → (b ≡ true) × (first-no l ≡ 0)
 unfolding first-no question
 yes n b l e = both b (λ t. (t, rw t at e)) (λ t. let z : suc n ≡ 0 = rw t at e in absurd (omega arith))
 
