@@ -2,9 +2,9 @@
 use Prim.Native.Nat.{ℕ, zero, suc, _+_, _≤_, _<_}
 use mathlib.Core.Path.{_≡_, refl, sym, ap, subst, _∙_}
 use mathlib.Core.Logic.{_⊎_, inl, inr}
-use mathlib.Core.Bool.{Bool, true, false, cond, not, _&&_, _||_, true≢false, false≢true}
+use mathlib.Core.Bool.{Bool, true, false, not, _&&_, _||_, true≢false, false≢true}
 use mathlib.Core.List.{List}
-use lib.Dec.{eqb, ltb, leb}
+use lib.Dec.{ltb, leb}
 use borrow.Author.Tests.{ltb-true, ltb-false, lt-ltb, le-leb, lt-leb}
 use native.Mathlib.Omega.{arith}
 use Rattle.rules.specs.Line.{both}
@@ -17,7 +17,6 @@ use Rattle.rules.specs.Steps.{nobody-but}
 use Rattle.thread.specs.declared.Thread.{Thread}
 use Rattle.thread.specs.Thread.{NONE}
 use Rattle.memory.specs.Shows.{Small, Shows}
-use Rattle.topology.specs.CpuSet as cpus
 use Rattle.topology.specs.CpuSet.{sixteen-all, contains-all, max-cpu-id}
 use Rattle.tree.specs.Tree.{Tree}
 use Rattle.step.specs.declared.balance.Balancing as step
@@ -27,7 +26,7 @@ use Rattle.sched.specs.World as code
 use Rattle.sched.specs.Balance.{moveOne, moveTwo, balanceDef}
 use Rattle.sched_laws.specs.Ticked.{context}
 use Rattle.balance_laws.specs.Turns.{going, rest, rest-next, step-more, turns-stop, spent}
-use Rattle.balance_laws.specs.Moves.{Meets, Stepped, move-none, step-law}
+use Rattle.balance_laws.specs.Moves.{Meets, move-none, step-law}
 
 -- ---- whether another turn is due
 
@@ -58,7 +57,7 @@ unfolding findMove
 found-goes n cs ns us limit b e = rw e
 
 -- Memory that a function leaves shows what the rules leave, and the wake-ups are the rules'.
-pub record Leaves (limits : Limits) (topology : Topology) (known active : ℕ → Bool) (H : ℕ → List PutOrTake) (m : code.World) (w : World) : Type 0 where
+pub record Shown (limits : Limits) (topology : Topology) (known active : ℕ → Bool) (H : ℕ → List PutOrTake) (m : code.World) (w : World) : Type 0 where
   pub shows : Shows limits topology known active (m .threads) (m .cpus) w
   pub safe : Sound limits known H nobody-but w
   pub counted : m .wakeups ≡ w .wakeups
@@ -74,7 +73,7 @@ module _ (limits : Limits) (topology : Topology) (tick us : ℕ) (known : ℕ �
   abbrev left : Balancing → Balancing
   left B = rest limits topology tick us B
 
-  module _ (base : ℕ) (room : base + 40 < NONE) where
+  module _ (base : ℕ) (room : base + 2 ≤ NONE) where
     abbrev Met : List Thread → List (List ℕ) → ℕ → step.Balancing → Balancing → Type 0
     Met ts cs n b B = Meets limits topology tick us known numbered small early H us-in active base room ts cs n b B
 
@@ -138,10 +137,10 @@ module _ (limits : Limits) (topology : Topology) (tick us : ℕ) (known : ℕ �
   eleven-more B (inr l) g = omega arith
 
   -- BALANCE
-  pub balance-law : {ts : List Thread} {cs : List (List ℕ)} {w : World} (n : ℕ) → Shows limits topology known active ts cs w → Sound limits known H nobody-but w → n ≡ w .wakeups → w .wakeups + 40 < NONE
-      → Leaves limits topology known active H (balanceDef ts cs nodes (context limits tick us) n) (sched.balance limits topology tick us w)
+  pub balance-shown : {ts : List Thread} {cs : List (List ℕ)} {w : World} (n : ℕ) → Shows limits topology known active ts cs w → Sound limits known H nobody-but w → n ≡ w .wakeups → w .wakeups + 2 ≤ NONE
+      → Shown limits topology known active H (balanceDef ts cs nodes (context limits tick us) n) (sched.balance limits topology tick us w)
   unfolding balanceDef moveTwo context moved begun sched.balance sched.max-steps
-  balance-law {ts} {cs} {w} n s safe e room =
+  balance-shown {ts} {cs} {w} n s safe e room =
       let B : Balancing = record { world = w; allowed = λ c. true; steps = 0; goes-on = true } in
       let b : step.Balancing = moved begun in
       let m : Meets limits topology tick us known numbered small early H us-in active (w .wakeups) room ts cs n b B = record {
@@ -161,5 +160,5 @@ module _ (limits : Limits) (topology : Topology) (tick us : ℕ) (known : ℕ �
       (met-moved (w .wakeups) room (first .meets)) in
       let r : left B ≡ second .after = first .same ∙ second .same ∙ turns-stop limits topology tick us 20 (second .after) (over (second .after) 22 (omega arith) (second .ends)) in
       let u : sched.balance limits topology tick us w ≡ second .after .world = ap (λ (C : Balancing). C .world) r in
-      subst (λ (v : World). Leaves limits topology known active H (balanceDef ts cs nodes (context limits tick us) n) v) (sym u)
+      subst (λ (v : World). Shown limits topology known active H (balanceDef ts cs nodes (context limits tick us) n) v) (sym u)
       (record { shows = second .meets .shows; safe = second .meets .safe; counted = second .meets .counted })

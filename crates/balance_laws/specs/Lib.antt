@@ -1,5 +1,7 @@
 pub mod Turns
 pub mod Pairs
+pub mod Runs
 pub mod Moves
 pub mod Balance
+pub mod Rebalance
 pub mod Stattick

@@ -1,5 +1,5 @@
 -- ONE CHOICE OF `balance`, and the move that it comes to: memory that meets the rules' balancing meets it again after the rules' step. Assumes nothing.
-use Prim.Native.Nat.{ℕ, _+_, _≤_, _<_}
+use Prim.Native.Nat.{ℕ, _+_, _*_, _≤_, _<_}
 use mathlib.Core.Path.{_≡_, refl, sym, ap, subst, _∙_}
 use mathlib.Core.Bool.{Bool, true, false, cond, not, true≢false, false≢true}
 use mathlib.Core.Option.{Option, none, some}
@@ -14,7 +14,7 @@ use Rattle.rules.specs.Times.{is-some}
 use Rattle.rules.specs.Queue.{order, load, Next, nobody, next-in, asked, leave}
 use Rattle.rules.specs.Puts.{PutOrTake}
 use Rattle.rules.specs.Kept.{asked-head}
-use Rattle.rules.specs.State.{at, Limits, Topology, Cpu}
+use Rattle.rules.specs.State.{at, Limits, Topology}
 use Rattle.rules.specs.Topology.{cpus-of}
 use Rattle.rules.specs.Choice.{Pair, no-pair, pair, Chosen, choose-cpu-balance}
 use Rattle.rules.specs.Schedule as sched
@@ -22,7 +22,6 @@ use Rattle.rules.specs.Schedule.{World, Got, Balancing, with-cpu, with-thread, 
 use Rattle.rules.specs.Sound.{at-here, at-there, waits, Sound, Same, New, Taken, not-true-is, alike-queue, alike-reset, same-free, same-then, same-cpu-changed, same-thread-changed, same-wakeup, sound-same, sound-insert, take-taken}
 use Rattle.rules.specs.Steps.{nobody-but}
 use Rattle.thread.specs.declared.Thread.{Thread}
-use Rattle.thread.specs.declared.place.Place.{Place}
 use Rattle.thread.specs.Thread.{NONE}
 use Rattle.thread.specs.Time.{moving-to-queue}
 use Rattle.queue.specs.Num.{sum, sum-exact}
@@ -37,7 +36,7 @@ use Rattle.represent.specs.Linked.{has-first}
 use Rattle.lent.specs.declared.rq.Taken as lent
 use Rattle.lent.specs.declared.rq.Taken.the-variants as taken
 use Rattle.lent.specs.Rq.{recordAt, Took, tookFrom, takeDef}
-use Rattle.memory.specs.Shows.{place-at, Small, Shows}
+use Rattle.memory.specs.Shows.{Small, Shows}
 use Rattle.memory.specs.Frames.{beside-put, in-rows, shows-must-rebalance, shows-draws}
 use Rattle.memory.specs.Queues.{active-with, as-taken, Take-shows, shows-take}
 use Rattle.memory.specs.Numbers.{word-load, load-shown, current-load-shown}
@@ -46,7 +45,7 @@ use Rattle.topology.specs.CpuSet.{Sixteen, sixteen-remove, remove-same, remove-
 use Rattle.tree.specs.Tree.{Tree}
 use Rattle.choice_laws.specs.Memory.{balance-memory}
 use Rattle.step.specs.declared.balance.Balancing as step
-use Rattle.step.specs.Balance.{Balanced, passed, stopped, without, moving, moved, isSomebody, handsOut, outcome, pairStep, pairOf, chosenAt, balanceStep}
+use Rattle.step.specs.Balance.{Balanced, passed, stopped, without, moving, isSomebody, handsOut, outcome, pairStep, pairOf, chosenAt, balanceStep}
 use Rattle.sched.specs.declared.context.Context.{Context}
 use Rattle.sched.specs.World as code
 use Rattle.sched.specs.Queues.{isNobody, threadOf, movedIn, scheduleThreadOnCpu, movedFor, takeFrom}
@@ -104,9 +103,9 @@ one-at-most : (b : Bool) (n : ℕ) → cond b (n + 1) n ≤ n + 1
 one-at-most true n = omega arith
 one-at-most false n = omega arith
 
--- us: the CPU that runs the command; base: the wake-ups counted before, which leave room for those of a balancing
+-- us: the CPU that runs the command; base: the wake-ups counted before, which leave room for those of two moves
 module _ (limits : Limits) (topology : Topology) (tick us : ℕ) (known : ℕ → Bool) (numbered : (x : ℕ) → known x ≡ true → x < limits .threads) (small : Small limits)
-    (early : tick ≤ 4611686018427387904) (H : ℕ → List PutOrTake) (us-in : us < limits .cpus) (active : ℕ → Bool) (base : ℕ) (room : base + 40 < NONE) where
+    (early : tick ≤ 4611686018427387904) (H : ℕ → List PutOrTake) (us-in : us < limits .cpus) (active : ℕ → Bool) (base : ℕ) (room : base + 2 ≤ NONE) where
   abbrev pub k : Context
   k = record { us = us; tick = tick; shortest = limits .shortest; limit = limits .cpus }
 
@@ -122,7 +121,7 @@ module _ (limits : Limits) (topology : Topology) (tick us : ℕ) (known : ℕ �
     pub steps : b .steps ≡ B .steps
     pub goes-on : b .«goes_on» ≡ B .goes-on
     pub counted : wakeups ≡ B .world .wakeups
-    pub few : B .world .wakeups ≤ base + B .steps
+    pub few : B .world .wakeups * 11 ≤ base * 11 + B .steps
 
   -- ---- the rules
 
@@ -372,7 +371,7 @@ module _ (limits : Limits) (topology : Topology) (tick us : ℕ) (known : ℕ �
                   counted = put-wakeups marked-shows marked-safe donor recipient donor-in recipient-in x e n (m .counted ∙ sym v-counts) (omega (arith, v-counts, m .few, room));
                   few = omega (arith, put-wakeups-few marked-shows marked-safe donor recipient donor-in recipient-in x e, v-counts, m .few);
                 }));
-            far = λ z. subst (λ (C : Balancing). B .steps + 11 ≤ C .steps) (sym r) (omega arith);
+            far = λ z. let l : moved-B .steps ≡ B .steps + 11 = ap (λ (C : Balancing). C .steps) r in omega arith;
           }
 
       move-law : (o : Option ℕ) → got .got ≡ o → Stepped ts n (record { balancing = cond (is-some o) (moving b donor recipient) (without b recipient); cpus = marked }) (B .steps) moved-B

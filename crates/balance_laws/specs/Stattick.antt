@@ -1,136 +1,45 @@
--- `schedule_maybe_rebalance` AND `schedule_stattick`: memory shows what the rules leave. Assumes nothing.
-use Prim.Native.Nat.{ℕ, _+_, _-_, _%_, _≤_, _<_}
-use mathlib.Core.Path.{_≡_, refl, sym, ap, subst, _∙_}
-use mathlib.Core.Bool.{Bool, true, false, cond}
+-- `balance`, `schedule_maybe_rebalance` AND `schedule_stattick` OVER RECORDS AND WORDS: what they leave shows what the rules leave, and the wake-ups are
+-- the rules'. Assumes nothing.
+use Prim.Native.Nat.{ℕ, _+_, _≤_, _<_}
+use mathlib.Core.Path.{_≡_}
+use mathlib.Core.Bool.{Bool, true}
 use mathlib.Core.List.{List}
-use lib.Dec.{eqb, ltb}
-use borrow.Author.Tests.{eqb-true, eqb-false}
-use native.Mathlib.Omega.{arith}
-use Rattle.rules.specs.Line.{has, both}
-use Rattle.rules.specs.Draw.{next-state, draw}
-use Rattle.rules.specs.Queue.{order, advance-insert-index}
-use Rattle.rules.specs.Effect.{advance-order}
 use Rattle.rules.specs.Puts.{PutOrTake}
-use Rattle.rules.specs.State.{at, Limits, Topology, Cpu}
+use Rattle.rules.specs.State.{Limits, Topology}
 use Rattle.rules.specs.Schedule as sched
-use Rattle.rules.specs.Schedule.{World, with-cpu, with-draws, with-queue, with-rebalance-time}
-use Rattle.rules.specs.Sound.{at-here, at-there, waits, Sound, same-cpu-changed, sound-same, sound-clock}
+use Rattle.rules.specs.Schedule.{World}
+use Rattle.rules.specs.Sound.{Sound}
 use Rattle.rules.specs.Steps.{nobody-but}
 use Rattle.thread.specs.declared.Thread.{Thread}
 use Rattle.thread.specs.Thread.{NONE}
-use Rattle.runqueue.specs.RunQueue.{rqClock}
-use Rattle.processor.specs.Words.{word, put-word}
-use Rattle.processor.specs.Queue.{queueAt}
-use Rattle.represent.specs.Well.{Reading, clock-reading}
-use Rattle.represent.specs.System.{Good, clock-law}
-use Rattle.lent.specs.Rq.{clockDef}
-use Rattle.memory.specs.Shows.{reading-of, Small, Shows}
-use Rattle.memory.specs.Frames.{places-same, shows-alike, shows-draws, shows-rebalance-time}
-use Rattle.memory.specs.Queues.{fits, words-queue, shows-stored}
+use Rattle.memory.specs.Shows.{Small, Shows}
 use Rattle.tree.specs.Tree.{Tree}
-use Rattle.step.specs.Preempt.{Marked}
-use Rattle.step.specs.Rebalance.{timePassed, rebalanceDue}
-use Rattle.sched.specs.World as code
-use Rattle.sched.specs.Balance.{balanceDef, maybeRebalance, clocked, scheduleStattick}
+use Rattle.sched.specs.Balance.{balanceDef, maybeRebalance, scheduleStattick}
 use Rattle.sched_laws.specs.Ticked.{context}
-use Rattle.balance_laws.specs.Balance.{Leaves, balance-law}
+use Rattle.sched_laws.specs.Picks.{Settled, no-one}
+use Rattle.sched_laws.specs.Scheduled.{Leaves}
+use Rattle.sched_laws.specs.Commands.{settled-same}
+use Rattle.balance_laws.specs.Rebalance.{Balances, shows-maybe-rebalance, shows-stattick}
+use Rattle.balance_laws.specs.Runs.{balance-runs}
+use Rattle.balance_laws.specs.Balance.{balance-shown}
 
 module _ (limits : Limits) (topology : Topology) (tick us : ℕ) (known : ℕ → Bool) (numbered : (x : ℕ) → known x ≡ true → x < limits .threads) (small : Small limits)
-    (early : tick ≤ 4611686018427387904) (H : ℕ → List PutOrTake) (us-in : us < limits .cpus) (active : ℕ → Bool) (nodes : List (List ℕ)) (tree : Tree limits nodes topology) where
-  -- ---- the time until the next balancing
+    (early : tick ≤ 4611686018427387904) (us-in : us < limits .cpus) (H : ℕ → List PutOrTake) (ns : List (List ℕ)) (tree : Tree limits ns topology) where
+  balances : Balances limits topology tick us known numbered small early us-in H ns
+  balances active ts cs w s safe st wakeups count few =
+      let m = balance-shown limits topology tick us known numbered small early H us-in active ns tree wakeups s safe count few in
+      record { ends = record { active = active; shows = m .shows; settled = settled-same w _ (balance-runs limits topology tick us w) st }; counted = m .counted }
 
-  module _ {ts : List Thread} {cs : List (List ℕ)} {w : World} (s : Shows limits topology known active ts cs w) (safe : Sound limits known H nobody-but w) where
-    abbrev p : Cpu
-    p = w .cpus us
+  module _ {active : ℕ → Bool} {ts : List Thread} {cs : List (List ℕ)} {w : World} (s : Shows limits topology known active ts cs w) (safe : Sound limits known H nobody-but w) (st : Settled no-one active w)
+      (wakeups : ℕ) (count : wakeups ≡ w .wakeups) (few : w .wakeups + 2 ≤ NONE) where
+    -- "`balance` makes at most 20 choices and moves at most two threads"
+    pub balance-law : Leaves limits topology known (balanceDef ts cs ns (context limits tick us) wakeups) (sched.balance limits topology tick us w)
+    balance-law = balances active ts cs w s safe st wakeups count few
 
-    -- drawn anew
-    shows-due : (state time : ℕ) → Shows limits topology known active ts (put-word (put-word cs us 79 state) us 80 time) (with-cpu w us (with-rebalance-time (with-draws p state) time))
-    unfolding with-cpu
-    shows-due state time =
-        let q : Cpu = with-draws p state in
-        let v : World = with-cpu w us q in
-        shows-alike (with-cpu v us (with-rebalance-time (v .cpus us) time)) (with-cpu w us (with-rebalance-time q time))
-        (λ c. both (eqb c us)
-        (λ e. rw (eqb-true c us e) (at-here (w .cpus) us (with-rebalance-time q time)
-        ∙ sym (at-here (v .cpus) us (with-rebalance-time (v .cpus us) time) ∙ ap (λ (r : Cpu). with-rebalance-time r time) (at-here (w .cpus) us q))))
-        (λ e. at-there (w .cpus) us (with-rebalance-time q time) c (eqb-false c us e)
-        ∙ sym (at-there (v .cpus) us (with-rebalance-time (v .cpus us) time) c (eqb-false c us e) ∙ at-there (w .cpus) us q c (eqb-false c us e))))
-        (λ x. refl)
-        (shows-rebalance-time (shows-draws s us us-in state) us us-in time)
+    -- "only on the boot CPU"
+    pub maybe-rebalance-law : (dt : ℕ) → Leaves limits topology known (maybeRebalance ts cs ns (context limits tick us) dt wakeups) (sched.maybe-rebalance limits topology tick us w dt)
+    maybe-rebalance-law dt = shows-maybe-rebalance limits topology tick us known numbered small early us-in H ns balances s safe st wakeups count few dt
 
-    safe-due : (state time : ℕ) → Sound limits known H nobody-but (with-cpu w us (with-rebalance-time (with-draws p state) time))
-    unfolding with-rebalance-time with-draws
-    safe-due state time = sound-same (same-cpu-changed limits w us (with-rebalance-time (with-draws p state) time) refl refl) safe
-
-    safe-passed : (time : ℕ) → Sound limits known H nobody-but (with-cpu w us (with-rebalance-time p time))
-    unfolding with-rebalance-time
-    safe-passed time = sound-same (same-cpu-changed limits w us (with-rebalance-time p time) refl refl) safe
-
-    passed-is : (dt : ℕ) → timePassed cs us dt
-        ≡ cond (ltb (p .rebalance-time) dt)
-        (record { mark = true; cpus = put-word (put-word cs us 79 (next-state us (p .draw-state))) us 80 (500000000 + draw (next-state us (p .draw-state)) % 1000000000) })
-        (record { mark = false; cpus = put-word cs us 80 (p .rebalance-time - dt) })
-    unfolding timePassed
-    passed-is dt =
-        ap (λ d. cond (ltb (word cs us 80) dt)
-        (record { mark = true; cpus = put-word (put-word cs us 79 (next-state us d)) us 80 (500000000 + draw (next-state us d) % 1000000000) })
-        (record { mark = false; cpus = put-word cs us 80 (word cs us 80 - dt) })) (s .words us us-in .draw-state)
-        ∙ ap (λ t. cond (ltb t dt)
-        (record { mark = true; cpus = put-word (put-word cs us 79 (next-state us (p .draw-state))) us 80 (500000000 + draw (next-state us (p .draw-state)) % 1000000000) })
-        (record { mark = false; cpus = put-word cs us 80 (t - dt) })) (s .words us us-in .rebalance-time)
-
-    -- what comes of the mark
-    abbrev ran : ℕ → Marked → code.World
-    ran n d = cond (d .mark) (balanceDef ts (d .cpus) nodes (context limits tick us) n) (record { threads = ts; cpus = d .cpus; wakeups = n })
-
-    module _ (dt n : ℕ) (e : n ≡ w .wakeups) (room : w .wakeups + 40 < NONE) where
-      due-law : Leaves limits topology known active H (ran n (timePassed cs us dt))
-          (cond (ltb (p .rebalance-time) dt)
-          (sched.balance limits topology tick us (with-cpu w us (with-rebalance-time (with-draws p (next-state us (p .draw-state))) (500000000 + draw (next-state us (p .draw-state)) % 1000000000))))
-          (with-cpu w us (with-rebalance-time p (p .rebalance-time - dt))))
-      unfolding with-cpu
-      due-law =
-          rw (passed-is dt)
-          (both (ltb (p .rebalance-time) dt)
-          (λ t. rw t (balance-law limits topology tick us known numbered small early H us-in active nodes tree n (shows-due _ _) (safe-due _ _) e room))
-          (λ t. rw t (record { shows = shows-rebalance-time s us us-in (p .rebalance-time - dt); safe = safe-passed (p .rebalance-time - dt); counted = e })))
-
-      -- ONLY ON THE BOOT CPU
-      pub maybe-rebalance-law : Leaves limits topology known active H (maybeRebalance ts cs nodes (context limits tick us) dt n) (sched.maybe-rebalance limits topology tick us w dt)
-      unfolding maybeRebalance rebalanceDue sched.maybe-rebalance sched.rebalance-period context
-      maybe-rebalance-law =
-          both (eqb us 0)
-          (λ t. rw t due-law)
-          (λ t. rw t (record { shows = s; safe = safe; counted = e }))
-
-  -- ---- `clock`
-
-  clock-reads : (p : Cpu) → clock-reading (reading-of p) ≡ reading-of (with-queue p (advance-insert-index (p .queue)) (p .advertised))
-  unfolding clock-reading reading-of with-queue
-  clock-reads p = refl
-
-  pub shows-clock : {ts : List Thread} {cs : List (List ℕ)} {w : World} → Shows limits topology known active ts cs w → Shows limits topology known active ts (clockDef cs us) (sched.clock limits topology tick us w)
-  unfolding clockDef sched.clock with-cpu with-queue
-  shows-clock {ts} {cs} {w} s =
-      let p : Cpu = w .cpus us in
-      let q : Cpu = with-queue p (advance-insert-index (p .queue)) (p .advertised) in
-      shows-stored s us ts (rqClock (queueAt cs us)) q (with-cpu w us q) refl refl
-      (subst (λ (r : Reading). Good (limits .threads) (limits .cpus) ts (clockDef cs us) (at (λ d. reading-of (w .cpus d)) us r)) (clock-reads p)
-      (clock-law (limits .threads) (limits .cpus) ts cs (λ d. reading-of (w .cpus d)) (s .queues) us us-in (fits small)))
-      (words-queue cs us p _ _ (s .words us us-in)) (s .threads) (s .queue-cpus)
-      (places-same w (with-cpu w us q)
-      (λ d x. both (eqb d us)
-      (λ e. rw (eqb-true d us e) (ap (λ (u : Cpu). has x (order (u .queue))) (at-here (w .cpus) us q) ∙ ap (has x) (advance-order (p .queue))))
-      (λ e. ap (λ (u : Cpu). has x (order (u .queue))) (at-there (w .cpus) us q d (eqb-false d us e)))) (s .places))
-
-  -- STAT TICK
-  pub stattick-law : {ts : List Thread} {cs : List (List ℕ)} {w : World} (dt n : ℕ) → Shows limits topology known active ts cs w → Sound limits known H nobody-but w → n ≡ w .wakeups → w .wakeups + 40 < NONE
-      → Leaves limits topology known active H (scheduleStattick ts cs nodes (context limits tick us) dt n) (sched.schedule-stattick limits topology tick us w dt)
-  unfolding scheduleStattick clocked sched.schedule-stattick context
-  stattick-law dt n s safe e room =
-      let m = maybe-rebalance-law s safe dt n e room in
-      record {
-        shows = shows-clock (m .shows);
-        safe = sound-clock limits topology tick us known numbered H nobody-but _ (m .safe);
-        counted = m .counted ∙ (unfold sched.clock with-cpu in refl);
-      }
+    -- 15: `schedule_stattick`
+    pub stattick-law : (dt : ℕ) → Leaves limits topology known (scheduleStattick ts cs ns (context limits tick us) dt wakeups) (sched.schedule-stattick limits topology tick us w dt)
+    stattick-law dt = shows-stattick limits topology tick us known numbered small early us-in H ns balances s safe st wakeups count few dt
