@@ -7,17 +7,8 @@ use native.Mathlib.Omega.{arith}
 use Rattle.rules.specs.Line.{both, Below}
 use Rattle.rules.specs.State.{those-below, Limits, Topology}
 use Rattle.rules.specs.Topology.{cpus-of}
+use Rattle.rules.specs.Steps.{those-in}
 use Rattle.rules.specs.Choice.{Best, none-yet, best, lower, Extremes, weigh, extremes, Pair, no-pair, pair, pair-of, choose-cpu-balance}
-
-below-append : (n : ℕ) (l m : List ℕ) → Below n l → Below n m → Below n (l ++ m)
-unfolding Below
-below-append n [] m b c = c
-below-append n (x ∷ l) m b c = (b .0, below-append n l m (b .1) c)
-
-those-in : (n k : ℕ) (test : ℕ → Bool) → k ≤ n → Below n (those-below k test)
-unfolding those-below Below
-those-in n zero test h = tt
-those-in n (suc k) test h = below-append n (those-below k test) _ (those-in n k test (omega arith)) (both (test k) (λ e. rw e (h, tt)) (λ e. rw e tt))
 
 unfoldable pub BestUnder : ℕ → Best → Type 0
 BestUnder n none-yet = Unit

@@ -151,7 +151,7 @@ places-kept {ts = ts} x t e p =
       waiting = λ c z k. same z ∙ p .waiting c z k;
       running = λ z k. same z ∙ p .running z k;
       blocked = λ z l k a f. same z ∙ p .blocked z l k a f;
-      undeclared = λ z l k. same z ∙ p .undeclared z l k;
+      undeclared = λ z k. same z ∙ p .undeclared z k;
     }
 
 -- ---- the frames

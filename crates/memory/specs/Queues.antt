@@ -212,9 +212,9 @@ module _ (limits : Limits) (topology : Topology) (tick us : ℕ) (known : ℕ �
           blocked = λ z l k a f. both (eqb z x)
               (λ e. absurd (true≢false (sym (waits-here x ∙ rw (eq-eqb x x refl)) ∙ rw (eqb-true z x e) at (f c))))
               (λ e. let m = eqb-false z x e in other z m ∙ s .places .blocked z l k (sym (active-other z m) ∙ a) (λ d. sym (waits-still d z m) ∙ f d));
-          undeclared = λ z l k. both (eqb z x)
+          undeclared = λ z k. both (eqb z x)
               (λ e. absurd (true≢false (sym (n .is-known) ∙ rw (eqb-true z x e) at k)))
-              (λ e. other z (eqb-false z x e) ∙ s .places .undeclared z l k);
+              (λ e. other z (eqb-false z x e) ∙ s .places .undeclared z k);
         }
 
     -- PUT
@@ -346,9 +346,9 @@ module _ (limits : Limits) (topology : Topology) (tick us : ℕ) (known : ℕ �
               blocked = λ z l k m f. both (eqb z x)
                   (λ e. absurd (true≢false (sym (at-here active x true) ∙ rw (eqb-true z x e) at m)))
                   (λ e. let o = eqb-false z x e in other z o ∙ s .places .blocked z l k (sym (active-other z o) ∙ m) (λ d. sym (left-waits d z o) ∙ f d));
-              undeclared = λ z l k. both (eqb z x)
+              undeclared = λ z k. both (eqb z x)
                   (λ e. absurd (true≢false (sym (kept-taken .handed-known x (unfold handed-out in refl)) ∙ rw (eqb-true z x e) at k)))
-                  (λ e. other z (eqb-false z x e) ∙ s .places .undeclared z l k);
+                  (λ e. other z (eqb-false z x e) ∙ s .places .undeclared z k);
             }
 
         some-shows : (p′ : Part) (b′ : ℕ)

@@ -61,7 +61,7 @@ pub record Places (limit : ℕ) (known active : ℕ → Bool) (ts : List Thread)
   pub waiting : (c x : ℕ) → waits w c x ≡ true → place-at ts x ≡ place.Waiting
   pub running : (x : ℕ) → active x ≡ true → place-at ts x ≡ place.Running
   pub blocked : (x : ℕ) → x < limit → known x ≡ true → active x ≡ false → Free w x → place-at ts x ≡ place.Blocked
-  pub undeclared : (x : ℕ) → x < limit → known x ≡ false → place-at ts x ≡ place.Undeclared
+  pub undeclared : (x : ℕ) → known x ≡ false → place-at ts x ≡ place.Undeclared
 
 -- ---- all of it
 

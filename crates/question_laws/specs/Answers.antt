@@ -212,9 +212,7 @@ module _ {H : ℕ → List PutOrTake} {ts : List Thread} {cs ns : List (List ℕ
 
   -- a thread that the rules know runs, waits, or is blocked, and its record says so
   pub unknown-place : (x : ℕ) → s .known x ≡ false → place-at ts x ≡ place.Undeclared
-  unknown-place x e =
-      both (ltb x (s .limits .threads)) (λ l. m .shows .places .undeclared x (ltb-true _ _ l) e)
-      (λ l. m .past x (ltb-false _ _ l))
+  unknown-place x e = m .shows .places .undeclared x e
 
   waiting-place : (x c : ℕ) → waits-on s c x ≡ true → place-at ts x ≡ place.Waiting
   unfolding waits-on world-of

@@ -23,7 +23,7 @@ use Rattle.rules.specs.Questions.{Question, question, first-no, refusal, concer
 use Rattle.rules.specs.Commands.{no-log, changed, world-of, with-cpu-declared, with-node, with-placed, obeys}
 use Rattle.rules.specs.Effect.{and-left, and-right}
 use Rattle.rules.specs.Sound.{Under, Free, waits, at-here, at-there}
-use Rattle.rules.specs.Reached.{Reached}
+use Rattle.rules.specs.Reached.{Reached, yes}
 use Rattle.thread.specs.declared.Thread.{Thread}
 use Rattle.thread.specs.declared.place.Place.the-variants as place
 use Rattle.thread.specs.Thread.{NONE, BLOCKED, with-donated, with-critical}
@@ -61,10 +61,6 @@ pin-of none = NONE
 pin-of (some c) = c
 
 -- ---- questions answered yes
-
-yes : (n : ℕ) (b : Bool) (l : List Question) → first-no (question (suc n) b ∷ l) ≡ 0 → (b ≡ true) × (first-no l ≡ 0)
-unfolding first-no question
-yes n b l e = both b (λ t. (t, rw t at e)) (λ t. let z : suc n ≡ 0 = rw t at e in absurd (omega arith))
 
 no-some : (o : Option ℕ) → is-some o ≡ false → o ≡ none
 unfolding is-some
@@ -212,9 +208,9 @@ module _ {limits : Limits} {topology : Topology} {known active : ℕ → Bool} {
           waiting = λ c z e. ap (λ (y : Thread). place-in (y .place)) (other c z e) ∙ s .places .waiting c z e;
           running = λ z e. at-place z ∙ rw (ne-eqb z x (λ k. true≢false (sym e ∙ rw k a))) (s .places .running z e);
           blocked = λ z l k e g. at-place z ∙ both (eqb z x) (λ n. rw n) (λ n. rw n (s .places .blocked z l (sym (at-there known x true z (eqb-false z x n)) ∙ k) e g));
-          undeclared = λ z l k. at-place z ∙ both (eqb z x)
+          undeclared = λ z k. at-place z ∙ both (eqb z x)
               (λ n. absurd (true≢false (sym (at-here known x true) ∙ rw (eqb-true z x n) at k)))
-              (λ n. rw n (s .places .undeclared z l (sym (at-there known x true z (eqb-false z x n)) ∙ k)));
+              (λ n. rw n (s .places .undeclared z (sym (at-there known x true z (eqb-false z x n)) ∙ k)));
         };
       }
 
@@ -225,10 +221,10 @@ module _ {H : ℕ → List PutOrTake} {ts : List Thread} {cs ns : List (List ℕ
   stands-changed : (ts′ : List Thread) (cs′ ns′ : List (List ℕ)) (b : State) (topology : Topology) (sealed : Bool) (tick : ℕ) (known : ℕ → Bool) (threads : ℕ → times.Thread)
       → Counted a b sealed tick (length (topology .nodes)) → Tree (s .limits) ns′ topology → s .limits .nodes ≤ length ns′
       → Shows (s .limits) topology known (runs s) ts′ cs′ (record { cpus = s .cpus; threads = threads; log = no-log; wakeups = 0 })
-      → ((x : ℕ) → s .limits .threads ≤ x → place-at ts′ x ≡ place.Undeclared) → length (topology .nodes) ≤ s .limits .nodes → tick ≤ 2 ^ 62
+      → length (topology .nodes) ≤ s .limits .nodes → tick ≤ 2 ^ 62
       → Stands ts′ cs′ ns′ b (changed s topology sealed tick known threads .state)
   unfolding changed world-of runs runs-on
-  stands-changed ts′ cs′ ns′ b topology sealed tick known threads n t r w p f k = record {
+  stands-changed ts′ cs′ ns′ b topology sealed tick known threads n t r w f k = record {
     limits = m .limits ∙ sym (n .limits-stay);
     sealed = n .sealed-is;
     tick = n .tick-is;
@@ -237,7 +233,6 @@ module _ {H : ℕ → List PutOrTake} {ts : List Thread} {cs ns : List (List ℕ
     tree = t;
     rows = r;
     shows = w;
-    past = p;
     small = m .small;
     few-nodes = m .few-nodes;
     nodes-fit = f;
@@ -256,7 +251,7 @@ module _ {H : ℕ → List PutOrTake} {ts : List Thread} {cs ns : List (List ℕ
       let new = yes 3 _ _ (yes 2 _ _ e .1) in
       let near : c < s .limits .cpus = ltb-true _ _ (and-left (ltb c (s .limits .cpus)) (not (s .topology .declared c)) (new .0)) in
       stands-changed ts (put-word cs c 72 1) ns b (with-cpu-declared (s .topology) c) (s .sealed) (s .tick) (s .known) (s .threads) n
-      (tree-declared (s .limits) ns (s .topology) c (m .tree)) (m .rows) (shows-declared shows-now c near) (m .past) (m .nodes-fit) (m .tick-fits)
+      (tree-declared (s .limits) ns (s .topology) c (m .tree)) (m .rows) (shows-declared shows-now c near) (m .nodes-fit) (m .tick-fits)
 
   -- 02
   pub stands-add-node : (p k used : ℕ) (b : State) → Counted a b (s .sealed) (s .tick) (length (s .topology .nodes) + 1) → refusal s (asks (add-node p k) used) ≡ 0
@@ -276,7 +271,7 @@ module _ {H : ℕ → List PutOrTake} {ts : List Thread} {cs ns : List (List ℕ
       (stands-changed ts cs (add-child ns (length (s .topology .nodes)) p k) b (with-node (s .topology) p k) (s .sealed) (s .tick) (s .known) (s .threads)
       (subst (Counted a b (s .sealed) (s .tick)) (sym one-more) n) tree (rw (length-child ns (length (s .topology .nodes)) p k) (m .rows))
       (shows-topology shows-now (with-node (s .topology) p k) (λ c h. words-topology (s .topology) (with-node (s .topology) p k) cs c (s .cpus c) refl refl (shows-now .words c h)))
-      (m .past) (omega (arith, one-more)) (m .tick-fits))
+      (omega (arith, one-more)) (m .tick-fits))
 
   -- 03
   pub stands-place-cpu : (n c used : ℕ) (b : State) → Counted a b (s .sealed) (s .tick) (length (s .topology .nodes)) → refusal s (asks (place-cpu n c) used) ≡ 0
@@ -292,12 +287,12 @@ module _ {H : ℕ → List PutOrTake} {ts : List Thread} {cs ns : List (List ℕ
       let unplaced : s .topology .placed c ≡ none =
       no-some (s .topology .placed c) (not-true _ (and-right (ltb c (s .limits .cpus) && s .topology .declared c) (not (is-some (s .topology .placed c))) (free .0))) in
       stands-changed ts (put-word cs c 73 n) (set-cpu ns n c) b (with-placed (s .topology) n c) (s .sealed) (s .tick) (s .known) (s .threads) k
-      (tree-placed (s .limits) ns (s .topology) (m .tree) n c there (childless .0) near unplaced) (rw (length-placed (length ns) ns n c) (m .rows)) (shows-placed shows-now c near n) (m .past) (m .nodes-fit) (m .tick-fits)
+      (tree-placed (s .limits) ns (s .topology) (m .tree) n c there (childless .0) near unplaced) (rw (length-placed (length ns) ns n c) (m .rows)) (shows-placed shows-now c near n) (m .nodes-fit) (m .tick-fits)
 
   -- 04
   pub stands-seal : (used : ℕ) (b : State) → Counted a b true (s .tick) (length (s .topology .nodes)) → refusal s (asks seal used) ≡ 0 → Stands ts cs ns b (obeys s seal .state)
   unfolding obeys
-  stands-seal used b n e = stands-changed ts cs ns b (s .topology) true (s .tick) (s .known) (s .threads) n (m .tree) (m .rows) shows-now (m .past) (m .nodes-fit) (m .tick-fits)
+  stands-seal used b n e = stands-changed ts cs ns b (s .topology) true (s .tick) (s .known) (s .threads) n (m .tree) (m .rows) shows-now (m .nodes-fit) (m .tick-fits)
 
   -- 11
   pub stands-set-tick : (t used : ℕ) (b : State) → Counted a b (s .sealed) t (length (s .topology .nodes)) → refusal s (asks (set-tick t) used) ≡ 0
@@ -306,14 +301,7 @@ module _ {H : ℕ → List PutOrTake} {ts : List Thread} {cs ns : List (List ℕ
   stands-set-tick t used b n e =
       let fits = yes 7 _ _ (yes 2 _ _ e .1) in
       let most : t ≤ 2 ^ 62 = leb-true _ _ (and-right (leb (s .tick) t) (leb t (2 ^ 62)) (fits .0)) in
-      stands-changed ts cs ns b (s .topology) (s .sealed) t (s .known) (s .threads) n (m .tree) (m .rows) shows-now (m .past) (m .nodes-fit) most
-
-  -- a record written whose place stays
-  past-kept : (x : ℕ) (t : Thread) → x < s .limits .threads → (z : ℕ) → s .limits .threads ≤ z → place-at (set ts x t) z ≡ place.Undeclared
-  past-kept x t h z l =
-      let read : recordAt (set ts x t) z ≡ cond (eqb z x) t (recordAt ts z) = read-set ts x t z (in-records (m .shows) x h) in
-      let other : eqb z x ≡ false = ne-eqb z x (λ e. omega arith) in
-      rw (read, other) (m .past z l)
+      stands-changed ts cs ns b (s .topology) (s .sealed) t (s .known) (s .threads) n (m .tree) (m .rows) shows-now (m .nodes-fit) most
 
   -- fields of a record that no queue asks for
   stands-fields : (x : ℕ) (t : Thread) (u : times.Thread) (b : State) → Counted a b (s .sealed) (s .tick) (length (s .topology .nodes)) → x < s .limits .threads → reads t ≡ u
@@ -322,7 +310,7 @@ module _ {H : ℕ → List PutOrTake} {ts : List Thread} {cs ns : List (List ℕ
   unfolding with-thread
   stands-fields x t u b n h r l p i v q =
       stands-changed (set ts x t) cs ns b (s .topology) (s .sealed) (s .tick) (s .known) (at (s .threads) x u) n (m .tree) (m .rows)
-      (shows-fields shows-now x t u h r l p i v (subst (Under (s .limits .cpus)) (sym q) (shows-now .queue-cpus x h))) (past-kept x t h) (m .nodes-fit) (m .tick-fits)
+      (shows-fields shows-now x t u h r l p i v (subst (Under (s .limits .cpus)) (sym q) (shows-now .queue-cpus x h))) (m .nodes-fit) (m .tick-fits)
 
   -- 1A
   pub stands-set-critical : (x k used : ℕ) (b : State) → Counted a b (s .sealed) (s .tick) (length (s .topology .nodes)) → refusal s (asks (set-critical x k) used) ≡ 0
@@ -379,4 +367,4 @@ module _ {H : ℕ → List PutOrTake} {ts : List Thread} {cs ns : List (List ℕ
       let u : times.Thread = new-thread (priority (class-at k) v) pin in
       let r : reads t ≡ u = reads-new (priority (class-at k) v) (pin-of pin) (omega arith) ∙ ap (new-thread (priority (class-at k) v)) (pinning .0) in
       stands-changed (set ts x t) cs ns b (s .topology) (s .sealed) (s .tick) (at (s .known) x true) (at (s .threads) x u) n (m .tree) (m .rows)
-      (shows-new shows-now x t u h (unknown-free x unknown) (unknown-runs x unknown) r refl refl) (past-kept x t h) (m .nodes-fit) (m .tick-fits)
+      (shows-new shows-now x t u h (unknown-free x unknown) (unknown-runs x unknown) r refl refl) (m .nodes-fit) (m .tick-fits)

@@ -31,7 +31,7 @@ unfoldable pub runs : rules.State → ℕ → Bool
 runs s x = any-below (s .limits .cpus) (λ c. runs-on s c x)
 
 -- The state says the limits, the seal, the tick, the commands accepted and how many nodes exist; the words of the nodes are the topology, with a row for
--- each node that there may be; records and words of the CPUs show CPUs and threads, those that run being active; a record past the limit is undeclared.
+-- each node that there may be; records and words of the CPUs show CPUs and threads, those that run being active.
 -- The limits and the tick are small enough that no number wraps.
 pub record Stands (ts : List Thread) (cs ns : List (List ℕ)) (a : State) (s : rules.State) : Type 0 where
   pub limits : s .limits ≡ limits-in a
@@ -42,7 +42,6 @@ pub record Stands (ts : List Thread) (cs ns : List (List ℕ)) (a : State) (s : 
   pub tree : Tree (s .limits) ns (s .topology)
   pub rows : s .limits .nodes ≤ length ns
   pub shows : Shows (s .limits) (s .topology) (s .known) (runs s) ts cs (world-of s)
-  pub past : (x : ℕ) → s .limits .threads ≤ x → place-at ts x ≡ place.Undeclared
   pub small : Small (s .limits)
   pub few-nodes : s .limits .nodes ≤ 2147483648
   pub nodes-fit : length (s .topology .nodes) ≤ s .limits .nodes

@@ -223,7 +223,7 @@ shows-start n cs limits t p m w = record {
     waiting = λ c x e. absurd (false≢true (sym (nobody-waits limits c x) ∙ e));
     running = λ x e. absurd (false≢true (sym (nobody-runs limits x) ∙ e));
     blocked = λ x l k. absurd (false≢true k);
-    undeclared = λ x l k. rw (blank-at n x) (unfold place-in in refl);
+    undeclared = λ x k. rw (blank-at n x) (unfold place-in in refl);
   };
 }
 
@@ -242,7 +242,6 @@ stands-start n cs ns a limits e sealed tick accepted count small fit few one t p
   tree = tree-start limits ns sized (omega arith) fit;
   rows = rw (root-rows ns) r;
   shows = shows-start n cs limits t p m w;
-  past = λ x h. rw (blank-at n x) (unfold place-in in refl);
   small = small;
   few-nodes = few;
   nodes-fit = omega arith;

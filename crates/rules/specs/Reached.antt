@@ -101,23 +101,23 @@ reached-changed {H} {s} t sealed tick known threads r n k p m =
 
 -- ---- questions answered yes
 
-yes : (n : ℕ) (b : Bool) (l : List Question) → first-no (question (suc n) b ∷ l) ≡ 0 → (b ≡ true) × (first-no l ≡ 0)
+pub yes : (n : ℕ) (b : Bool) (l : List Question) → first-no (question (suc n) b ∷ l) ≡ 0 → (b ≡ true) × (first-no l ≡ 0)
 unfolding first-no question
 yes n b l e = both b (λ t. (t, rw t at e)) (λ t. let z : suc n ≡ 0 = rw t at e in absurd (omega arith))
 
-declared-in : (s : State) (c : ℕ) → declared s c ≡ true → c < s .limits .cpus
+pub declared-in : (s : State) (c : ℕ) → declared s c ≡ true → c < s .limits .cpus
 unfolding declared
 declared-in s c e = ltb-true c (s .limits .cpus) (and-left (ltb c (s .limits .cpus)) (s .topology .declared c) e)
 
 -- the CPU that runs a command is below the limit
-runs-below : (s : State) (c : ℕ) (l : List Question) → first-no (sealed-now s ∷ cpu-declared s c ∷ l) ≡ 0 → (c < s .limits .cpus) × (first-no l ≡ 0)
+pub runs-below : (s : State) (c : ℕ) (l : List Question) → first-no (sealed-now s ∷ cpu-declared s c ∷ l) ≡ 0 → (c < s .limits .cpus) × (first-no l ≡ 0)
 unfolding sealed-now cpu-declared
 runs-below s c l e =
     let a = yes 2 (s .sealed) (question 4 (declared s c) ∷ l) e in
     let b = yes 3 (declared s c) l (a .1) in
     (declared-in s c (b .0), b .1)
 
-value-below : (k v : ℕ) (l : List Question) → first-no (priority-in-range k v ∷ l) ≡ 0 → v < nr-values
+pub value-below : (k v : ℕ) (l : List Question) → first-no (priority-in-range k v ∷ l) ≡ 0 → v < nr-values
 unfolding priority-in-range nr-values
 value-below k v l e =
     let a = yes 5 (leb k 3 && leb v 127) l e in
@@ -136,12 +136,12 @@ any-not (suc n) test e c h =
     (λ p. rw (eqb-true c n p) (rw t at e))
     (λ p. let q : ¬ (c ≡ n) = eqb-false c n p in any-not n test t c (omega arith)))
 
-number-is : (x : ℕ) (o : Option ℕ) → o ≡ some x → is-number x o ≡ true
+pub number-is : (x : ℕ) (o : Option ℕ) → o ≡ some x → is-number x o ≡ true
 unfolding is-number
 number-is x none e = cc
 number-is x (some y) e = let z : y ≡ x = cc in eq-eqb y x z
 
-blocked-new : {H : ℕ → List PutOrTake} {s : State} (c x : ℕ) → Reached H s → blocked s x ≡ true → s .known x ≡ true → c < s .limits .cpus
+pub blocked-new : {H : ℕ → List PutOrTake} {s : State} (c x : ℕ) → Reached H s → blocked s x ≡ true → s .known x ≡ true → c < s .limits .cpus
     → New (s .limits) (s .known) nobody-but (world-of s) c x
 unfolding blocked runs-on waits-on world-of
 blocked-new {H} {s} c x r b k h = record {
@@ -184,7 +184,7 @@ reached-declared {H} {s} x t r h n m = reached-changed (s .topology) (s .sealed)
     (λ y k. both (eqb y x) (λ e. absurd (true≢false (sym k ∙ rw (eqb-true y x e) n))) (λ e. rw e))
     (λ y. both (eqb y x) (λ e. rw e m) (λ e. rw e (r .sound .mild y)))
 
-pin-in : (s : State) (p : Option ℕ) (l : List Question) → first-no (pin-declared s p ∷ l) ≡ 0 → Under (s .limits .cpus) p × (first-no l ≡ 0)
+pub pin-in : (s : State) (p : Option ℕ) (l : List Question) → first-no (pin-declared s p ∷ l) ≡ 0 → Under (s .limits .cpus) p × (first-no l ≡ 0)
 unfolding pin-declared cpu-declared Under
 pin-in s none l e = (tt, yes 3 true l e .1)
 pin-in s (some c) l e = let a = yes 3 (declared s c) l e in (declared-in s c (a .0), a .1)

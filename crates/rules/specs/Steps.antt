@@ -25,18 +25,18 @@ use Rattle.rules.specs.Sound.{same-cpu-changed, same-thread-changed, sam
 
 -- ---- the CPUs that a search can find
 
-below-append : (n : ℕ) (l m : List ℕ) → Below n l → Below n m → Below n (l ++ m)
+pub below-append : (n : ℕ) (l m : List ℕ) → Below n l → Below n m → Below n (l ++ m)
 unfolding Below
 below-append n [] m b c = c
 below-append n (x ∷ l) m b c = (b .0, below-append n l m (b .1) c)
 
-those-in : (n k : ℕ) (test : ℕ → Bool) → k ≤ n → Below n (those-below k test)
+pub those-in : (n k : ℕ) (test : ℕ → Bool) → k ≤ n → Below n (those-below k test)
 unfolding those-below Below
 those-in n zero test h = tt
 those-in n (suc k) test h =
     below-append n (those-below k test) _ (those-in n k test (omega arith)) (both (test k) (λ e. rw e (h, tt)) (λ e. rw e tt))
 
-join-in-all : (n : ℕ) (f : ℕ → List ℕ) (l : List ℕ) → ((x : ℕ) → Below n (f x)) → Below n (join-all f l)
+pub join-in-all : (n : ℕ) (f : ℕ → List ℕ) (l : List ℕ) → ((x : ℕ) → Below n (f x)) → Below n (join-all f l)
 unfolding join-all Below
 join-in-all n f [] h = tt
 join-in-all n f (x ∷ l) h = below-append n (f x) _ (h x) (join-in-all n f l h)
@@ -84,7 +84,7 @@ unfolding choose-cpu-balance BestUnder
 choose-in n us allowed load l d b = pair-in n _ _ (extremes-in n us allowed load l _ b tt)
 
 module _ (limits : Limits) (topology : Topology) where
-  cpus-in : (m : ℕ) → Below (limits .cpus) (cpus-of limits topology m)
+  pub cpus-in : (m : ℕ) → Below (limits .cpus) (cpus-of limits topology m)
   unfolding cpus-of
   cpus-in m = those-in (limits .cpus) (limits .cpus) _ (omega arith)
 
@@ -114,7 +114,7 @@ module _ (limits : Limits) (topology : Topology) (tick us : ℕ) (known : ℕ �
   abbrev Took : (ℕ → Bool) → World → Got → Type 0
   Took but w g = Taken limits topology tick us known numbered H but w g
 
-  new-same : {but : ℕ → Bool} {w v : World} {c x : ℕ} → Same limits w v → New limits known but w c x → New limits known but v c x
+  pub new-same : {but : ℕ → Bool} {w v : World} {c x : ℕ} → Same limits w v → New limits known but w c x → New limits known but v c x
   new-same {x = x} s n = record {
     nowhere = same-free x s (n .nowhere);
     is-known = n .is-known;
@@ -128,7 +128,7 @@ module _ (limits : Limits) (topology : Topology) (tick us : ℕ) (known : ℕ �
   unfolding sched.reset-thread-time
   same-reset w c x = same-thread-changed limits w x _ (alike-reset limits (w .threads x) _)
 
-  ok-put : (but : ℕ → Bool) (w : World) (c x : ℕ) → OK but w → New limits known but w c x → OK but (sched.schedule-thread-on-cpu limits topology tick us w c x)
+  pub ok-put : (but : ℕ → Bool) (w : World) (c x : ℕ) → OK but w → New limits known but w c x → OK but (sched.schedule-thread-on-cpu limits topology tick us w c x)
   unfolding sched.schedule-thread-on-cpu
   ok-put but w c x d n =
       let v : World = with-thread w x (moving-to-queue (w .threads x) c) in
@@ -295,7 +295,7 @@ module _ (limits : Limits) (topology : Topology) (tick us : ℕ) (known : ℕ �
   abbrev Fine : World → Option ℕ → Type 0
   Fine w x = (y : ℕ) → x ≡ some y → Free w y × (known y ≡ true) × ((d : ℕ) → d ≢ us → w .cpus d .running ≢ some y)
 
-  weaker : (w : World) → OK nobody-but w → OK only-us w
+  pub weaker : (w : World) → OK nobody-but w → OK only-us w
   unfolding nobody-but
   weaker w d = record {
     kept = d .kept;
@@ -420,7 +420,7 @@ module _ (limits : Limits) (topology : Topology) (tick us : ℕ) (known : ℕ �
   ok-cond but false v w d e = e
 
   -- the thread running here may go into a queue
-  running-new : (w : World) (c x : ℕ) → OK nobody-but w → w .cpus us .running ≡ some x → c < limits .cpus → New limits known only-us w c x
+  pub running-new : (w : World) (c x : ℕ) → OK nobody-but w → w .cpus us .running ≡ some x → c < limits .cpus → New limits known only-us w c x
   unfolding nobody-but
   running-new w c x d r h = record {
     nowhere = d .free us x refl r;

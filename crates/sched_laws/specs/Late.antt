@@ -20,7 +20,7 @@ use Rattle.rules.specs.Sound.{at-keeps}
 use Rattle.rules.specs.Requests.{Request, declare-cpu, add-node, place-cpu, seal, declare-thread, set-tick, schedule-thread, schedule, hardtick, stattick, resched, maybe-preempt, donate, remove-donation, set-critical, Reading, unknown, cut-short, asks, read, flags-of}
 use Rattle.rules.specs.Questions.{Question, sealed-now, tick-fits, concerning, first-no, room, refusal}
 use Rattle.rules.specs.Commands.{Answer, world-of, refuses, changed, ran, ran-on, schedules, scheduled-on, obeys, answered, step, after-calls}
-use Rattle.sched_laws.specs.Sealed.{yes}
+use Rattle.rules.specs.Reached.{yes}
 
 module _ (limits : Limits) (topology : Topology) (tick us : ℕ) where
   -- the same last ticks

@@ -10,7 +10,8 @@ use native.Mathlib.Omega.{arith}
 use Rattle.rules.specs.Line.{both, Below}
 use Rattle.rules.specs.Times as times
 use Rattle.rules.specs.Puts.{PutOrTake}
-use Rattle.rules.specs.State.{at, those-below, join-all, Limits, Topology}
+use Rattle.rules.specs.State.{at, Limits, Topology}
+use Rattle.rules.specs.Steps.{join-in-all, cpus-in}
 use Rattle.rules.specs.Topology.{cpus-of, nearest, nearest-from}
 use Rattle.rules.specs.Choice.{first-that}
 use Rattle.rules.specs.Schedule as sched
@@ -35,26 +36,6 @@ use Rattle.sched_laws.specs.Steps.{shows-moving-to-queue, shows-put, put
 use Rattle.sched_laws.specs.Ticked.{context}
 
 -- ---- the CPUs near a CPU are below the limit
-
-below-append : (n : ℕ) (l m : List ℕ) → Below n l → Below n m → Below n (l ++ m)
-unfolding Below
-below-append n [] m b c = c
-below-append n (x ∷ l) m b c = (b .0, below-append n l m (b .1) c)
-
-those-in : (n k : ℕ) (test : ℕ → Bool) → k ≤ n → Below n (those-below k test)
-unfolding those-below Below
-those-in n zero test h = tt
-those-in n (suc k) test h =
-    below-append n (those-below k test) _ (those-in n k test (omega arith)) (both (test k) (λ e. rw e (h, tt)) (λ e. rw e tt))
-
-join-in-all : (n : ℕ) (f : ℕ → List ℕ) (l : List ℕ) → ((x : ℕ) → Below n (f x)) → Below n (join-all f l)
-unfolding join-all Below
-join-in-all n f [] h = tt
-join-in-all n f (x ∷ l) h = below-append n (f x) _ (h x) (join-in-all n f l h)
-
-cpus-in : (limits : Limits) (topology : Topology) (m : ℕ) → Below (limits .cpus) (cpus-of limits topology m)
-unfolding cpus-of
-cpus-in limits topology m = those-in (limits .cpus) (limits .cpus) _ (omega arith)
 
 near-in : (limits : Limits) (topology : Topology) (o : Option ℕ) → Below (limits .cpus) (nearest-from limits topology o)
 unfolding nearest-from Below

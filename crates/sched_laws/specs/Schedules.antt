@@ -19,6 +19,7 @@ use Rattle.rules.specs.Choice.{Best, none-yet, best, lower, Searched, find-cpu}
 use Rattle.rules.specs.Schedule as sched
 use Rattle.rules.specs.Schedule.{World, Got, with-cpu, with-thread, wakeup}
 use Rattle.rules.specs.Sound.{at-here, at-there, at-keeps, Under, alike-queue, alike-reset, Free, Same, same-then, same-free, same-thread-changed, same-wakeup, sound-same, New, Sound, sound-insert}
+use Rattle.rules.specs.Steps as rules-steps
 use Rattle.rules.specs.Steps.{nobody-but}
 use Rattle.thread.specs.declared.Thread.{Thread}
 use Rattle.thread.specs.declared.place.Place.the-variants as place
@@ -135,42 +136,16 @@ module _ (limits : Limits) (topology : Topology) (tick us : ℕ) (known : ℕ �
   -- ---- what is kept, as in the rules' Steps.antt
 
   pub weaker : (w : World) → OK nobody-but w → OK (λ c. eqb c us) w
-  unfolding nobody-but
-  weaker w d = record {
-    kept = d .kept;
-    pins = d .pins;
-    mild = d .mild;
-    alone = d .alone;
-    placed = d .placed;
-    free = λ c x b r. d .free c x refl r;
-    one = d .one;
-    runs = d .runs;
-  }
+  weaker = rules-steps.weaker limits topology tick us known numbered H us-in
 
   pub running-new : (w : World) (c x : ℕ) → OK nobody-but w → w .cpus us .running ≡ some x → c < limits .cpus → New limits known (λ c. eqb c us) w c x
-  unfolding nobody-but
-  running-new w c x d r h = record {
-    nowhere = d .free us x refl r;
-    is-known = d .runs us x r .1;
-    near = h;
-    runs-not = λ e b s. eqb-false e us b (d .one e us x s r);
-  }
+  running-new = rules-steps.running-new limits topology tick us known numbered H us-in
 
   pub new-same : {but : ℕ → Bool} {w v : World} {c x : ℕ} → Same limits w v → New limits known but w c x → New limits known but v c x
-  new-same {x = x} s n = record {
-    nowhere = same-free x s (n .nowhere);
-    is-known = n .is-known;
-    near = n .near;
-    runs-not = λ d b r. n .runs-not d b (sym (s .running d) ∙ r);
-  }
+  new-same s n = rules-steps.new-same limits topology tick us known numbered H us-in s n
 
   pub ok-put : (but : ℕ → Bool) (w : World) (c x : ℕ) → OK but w → New limits known but w c x → OK but (sched.schedule-thread-on-cpu limits topology tick us w c x)
-  unfolding sched.schedule-thread-on-cpu sched.reset-thread-time
-  ok-put but w c x d n =
-      let v : World = with-thread w x (times.moving-to-queue (w .threads x) c) in
-      let s : Same limits w (sched.reset-thread-time limits topology tick us v c x) =
-      same-then (same-thread-changed limits w x _ (alike-queue limits (w .threads x) c)) (same-thread-changed limits v x _ (alike-reset limits (v .threads x) _)) in
-      sound-same (same-wakeup limits _ _) (sound-insert limits topology tick us known numbered H but _ c x false (sound-same s d) (new-same s n))
+  ok-put = rules-steps.ok-put limits topology tick us known numbered H us-in
 
   -- a put changes no thread running
   pub put-running : (w : World) (c x d : ℕ) → sched.schedule-thread-on-cpu limits topology tick us w c x .cpus d .running ≡ w .cpus d .running
@@ -201,9 +176,9 @@ module _ (limits : Limits) (topology : Topology) (tick us : ℕ) (known : ℕ �
           blocked = λ z l m a f. both (eqb z x)
               (λ e. blocked-at z ∙ rw e)
               (λ e. let o = eqb-false z x e in other z o ∙ s .places .blocked z l m (sym (active-other z o) ∙ a) f);
-          undeclared = λ z l m. both (eqb z x)
+          undeclared = λ z m. both (eqb z x)
               (λ e. absurd (true≢false (sym is-known ∙ rw (eqb-true z x e) at m)))
-              (λ e. other z (eqb-false z x e) ∙ s .places .undeclared z l m);
+              (λ e. other z (eqb-false z x e) ∙ s .places .undeclared z m);
         }
 
     pub shows-blocked : Shows limits topology known (at active x false) (blockDef ts x) cs w

@@ -13,6 +13,7 @@ use Rattle.rules.specs.State.{Limits, all-below, State, start}
 use Rattle.rules.specs.Schedule.{World}
 use Rattle.rules.specs.Requests.{Request, declare-cpu, add-node, place-cpu, seal, declare-thread, set-tick, schedule-thread, schedule, hardtick, stattick, resched, maybe-preempt, donate, remove-donation, set-critical, Reading, unknown, cut-short, asks, read}
 use Rattle.rules.specs.Questions.{Question, question, open-yet, all-placed, placed-if-declared, declared, concerning, first-no, room, refusal}
+use Rattle.rules.specs.Reached.{yes}
 use Rattle.rules.specs.Commands.{refuses, changed, ran, ran-on, schedules, scheduled-on, obeys, answered, step, after-calls}
 
 -- what is asked of a sealed topology
@@ -22,10 +23,6 @@ pub record Sealed (s : State) : Type 0 where
 pub sealed-start : (limits : Limits) → Sealed (start limits)
 unfolding start
 sealed-start limits = record { on-node = λ e c h d. absurd (false≢true e) }
-
-pub yes : (n : ℕ) (b : Bool) (l : List Question) → first-no (question (suc n) b ∷ l) ≡ 0 → (b ≡ true) × (first-no l ≡ 0)
-unfolding first-no question
-yes n b l e = both b (λ t. (t, rw t at e)) (λ t. let z : suc n ≡ 0 = rw t at e in absurd (omega arith))
 
 not-yes : (b : Bool) → not b ≡ true → b ≡ false
 not-yes true e = absurd (false≢true e)
