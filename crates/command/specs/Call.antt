@@ -21,7 +21,6 @@ use Rattle.lines.specs.declared.Refusal.{Refusal}
 use Rattle.lines.specs.declared.Refusal.the-variants as refusal
 use Rattle.lines.specs.Lines.{refusal-number}
 use Rattle.questions.specs.declared.state.State.{State}
-use Rattle.questions.specs.Questions.{in-force}
 use Rattle.sched.specs.declared.context.Context.{Context}
 use Rattle.sched.specs.declared.context.SchedFlags.{SchedFlags}
 use Rattle.command.specs.declared.call.Call.{Call}
@@ -68,9 +67,9 @@ refusal-back n =
     (cond (eqb n 9) refusal.NotPlaced
     (cond (eqb n 10) refusal.TooMany refusal.SmallBuffer))))))))))
 
--- what the bytes from `at` to below n ask, of the commands that run
+-- what the bytes from `at` to below n ask
 abbrev pub askedDef : List ℕ → ℕ → ℕ → Bool → Reading
-askedDef bytes n at wide = reading-back (in-force (rules.read (limits-of wide) (drop at (take n bytes))))
+askedDef bytes n at wide = reading-back (rules.read (limits-of wide) (drop at (take n bytes)))
 
 -- ---- the numbers of a command
 

@@ -10,7 +10,6 @@ use lines::Refusal;
 use lines::refusal_number;
 use questions::refusal::refusal_of;
 use questions::state::State;
-use questions::state::in_force;
 use request::Pin;
 use request::Reading;
 use request::Request;
@@ -36,16 +35,14 @@ pub struct Call {
     pub used: usize,
 }
 
-// What the bytes from `at` to below n ask, of the commands that run.
+// What the bytes from `at` to below n ask.
 pub fn asked(bytes: &[u8], n: usize, at: usize, wide: bool) -> Reading
     ensures { λ r. ⌜ r ≡ askedDef (now (bytes .entry)) n at wide ⌝ }
 {
     if n <= bytes.len() {
-        let reading = read(&bytes[..n], at, wide);
-        return in_force(reading);
+        return read(&bytes[..n], at, wide);
     }
-    let reading = read(bytes, at, wide);
-    in_force(reading)
+    read(bytes, at, wide)
 }
 
 // The refusal of what was read; t is the record of the thread that it names.

@@ -112,27 +112,3 @@ unfoldable pub refusal-in : List (List ℕ) → List (List ℕ) → State → Th
 refusal-in cs ns s t unknown = 1
 refusal-in cs ns s t cut-short = 2
 refusal-in cs ns s t (asks r used) = asked-of cs ns s t r
-
--- ---- the commands that run: hex 19 is not among them
-
-unfoldable pub runs-now : Request → ℕ → Reading
-runs-now (declare-cpu c) used = asks (declare-cpu c) used
-runs-now (add-node p k) used = asks (add-node p k) used
-runs-now (place-cpu n c) used = asks (place-cpu n c) used
-runs-now seal used = asks seal used
-runs-now (declare-thread x k v pin) used = asks (declare-thread x k v pin) used
-runs-now (set-tick n) used = asks (set-tick n) used
-runs-now (schedule-thread c x) used = asks (schedule-thread c x) used
-runs-now (schedule c flags) used = asks (schedule c flags) used
-runs-now (hardtick c) used = asks (hardtick c) used
-runs-now (stattick c nanoseconds) used = asks (stattick c nanoseconds) used
-runs-now (resched c) used = asks (resched c) used
-runs-now (maybe-preempt c) used = asks (maybe-preempt c) used
-runs-now (donate c x k v) used = asks (donate c x k v) used
-runs-now (remove-donation x) used = unknown
-runs-now (set-critical x mark) used = asks (set-critical x mark) used
-
-unfoldable pub in-force : Reading → Reading
-in-force unknown = unknown
-in-force cut-short = cut-short
-in-force (asks r used) = runs-now r used

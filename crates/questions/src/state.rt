@@ -1,9 +1,6 @@
 // The state between calls, and the questions that it answers.
 ghost use mathlib.Core.Path.{_≡_};
-ghost use Rattle.request.specs.Request.{request-of, reading-of};
-ghost use Rattle.questions.specs.Questions.{node-exists, node-fits, tick-fits, room, in-force, runs-now};
-use request::Reading;
-use request::Request;
+ghost use Rattle.questions.specs.Questions.{node-exists, node-fits, tick-fits, room};
 
 // The limits: how many CPUs and nodes there may be, the shortest User timeslice, and whether an operand that names a CPU or a node has two bytes. Then
 // the tick, whether the topology is sealed, the commands accepted, and the nodes that exist.
@@ -50,38 +47,5 @@ impl State {
         ensures { λ r. ⌜ r ≡ room self .answer ⌝ }
     {
         self.accepted < MOST_ACCEPTED
-    }
-}
-
-// The commands that run: hex 19 is not among them.
-pub fn in_force(reading: Reading) -> Reading
-    ensures { λ r. ⌜ reading-of r ≡ in-force (reading-of reading) ⌝ }
-{
-    match reading {
-        Reading::Unknown => Reading::Unknown,
-        Reading::CutShort => Reading::CutShort,
-        Reading::Asks { request, used } => runs(request, used),
-    }
-}
-
-fn runs(request: Request, used: usize) -> Reading
-    ensures { λ r. ⌜ reading-of r ≡ runs-now (request-of request) used ⌝ }
-{
-    match request {
-        Request::DeclareCpu { .. } => Reading::Asks { request, used },
-        Request::AddNode { .. } => Reading::Asks { request, used },
-        Request::PlaceCpu { .. } => Reading::Asks { request, used },
-        Request::Seal => Reading::Asks { request, used },
-        Request::DeclareThread { .. } => Reading::Asks { request, used },
-        Request::SetTick { .. } => Reading::Asks { request, used },
-        Request::ScheduleThread { .. } => Reading::Asks { request, used },
-        Request::Schedule { .. } => Reading::Asks { request, used },
-        Request::Hardtick { .. } => Reading::Asks { request, used },
-        Request::Stattick { .. } => Reading::Asks { request, used },
-        Request::Resched { .. } => Reading::Asks { request, used },
-        Request::MaybePreempt { .. } => Reading::Asks { request, used },
-        Request::Donate { .. } => Reading::Asks { request, used },
-        Request::RemoveDonation { .. } => Reading::Unknown,
-        Request::SetCritical { .. } => Reading::Asks { request, used },
     }
 }
