@@ -1,3 +1,5 @@
 pub mod Law
+pub mod Numbers
 pub mod Asked
+pub mod Plain
 pub mod Ran

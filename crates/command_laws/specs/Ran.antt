@@ -6,7 +6,6 @@ use mathlib.Core.Bool.{Bool, true, false, not, _&&_, false≢true}
 use mathlib.Core.Option.{Option, none, some}
 use mathlib.Core.List.{List}
 use native.Mathlib.Omega.{arith}
-use native.Mathlib.Nat.{mod-eq-of-lt}
 use borrow.Author.Tests.{ne-eqb}
 use Rattle.rules.specs.declared.Priority.{Priority}
 use Rattle.rules.specs.Line.{both}
@@ -19,7 +18,7 @@ use Rattle.rules.specs.State.{Limits, runs-on, blocked}
 use Rattle.rules.specs.Schedule as sched
 use Rattle.rules.specs.Schedule.{World, Got, with-cpu, with-thread, wakeup}
 use Rattle.rules.specs.Requests.{schedule-thread, schedule, hardtick, stattick, resched, maybe-preempt, donate, asks, flags-of}
-use Rattle.rules.specs.Questions.{refusal, concerning, thread-declared, thread-blocked, most-accepted}
+use Rattle.rules.specs.Questions.{refusal, concerning, thread-declared, thread-blocked}
 use Rattle.rules.specs.Commands as rule
 use Rattle.rules.specs.Commands.{Answer, world-of, running-of, obeys, schedules, scheduled-on}
 use Rattle.rules.specs.Sound.{Under, Sound, New}
@@ -51,7 +50,9 @@ use Rattle.sched_laws.specs.Donates.{shows-donated, counts-donated}
 use Rattle.balance_laws.specs.Stattick.{stattick-law}
 use Rattle.question_laws.specs.Stands.{limits-in, runs, Stands}
 use Rattle.command_laws.specs.Law.{Reachable, As-ruled}
-use Rattle.command_laws.specs.Asked.{room-left, On, on-node}
+use Rattle.command_laws.specs.Numbers.{few-accepted}
+use Rattle.command_laws.specs.Asked.{On, on-node}
+use Rattle.command_laws.specs.Plain.{one-more}
 
 -- ---- the line: what a CPU runs
 
@@ -137,14 +138,14 @@ module _ {H : ℕ → List PutOrTake} {ts : List Thread} {cs ns : List (List ℕ
   unfolding rule.ran runs runs-on runs-somewhere world-of
   shows-left v x d e = shows-alike v _ (λ c. refl) (λ z. refl) (ends-runs (λ c y q. d .runs c y q .0) e)
 
-  stands-ran : {ts′ : List Thread} {cs′ : List (List ℕ)} (v : World) (x : Answer) → s .accepted < most-accepted → Soundly v → Ends (s .limits) (s .topology) (s .known) ts′ cs′ v
+  stands-ran : {ts′ : List Thread} {cs′ : List (List ℕ)} (v : World) (x : Answer) → s .accepted < 4294967295 → Soundly v → Ends (s .limits) (s .topology) (s .known) ts′ cs′ v
       → Stands ts′ cs′ ns (accepted a) (rule.ran s v x .state)
-  unfolding rule.ran accepted limits-in most-accepted
+  unfolding rule.ran accepted limits-in
   stands-ran v x room d e = record {
     limits = m .limits;
     sealed = m .sealed;
     tick = m .tick;
-    accepted = ap (λ (n : ℕ). (n + 1) % 2 ^ 64) (m .accepted) ∙ mod-eq-of-lt (omega arith);
+    accepted = ap (λ (n : ℕ). (n + 1) % 2 ^ 64) (m .accepted) ∙ one-more (s .accepted) room;
     node-count = m .node-count;
     tree = m .tree;
     rows = m .rows;
@@ -168,7 +169,7 @@ module _ {H : ℕ → List PutOrTake} {ts : List Thread} {cs ns : List (List ℕ
       λ i. record { refused = 0; cpu = some c; running = p i; load = some (l i); wakeups = some (k i) }
 
   -- ---- a command that a CPU ran, and whose line shows CPU c
-  ran-law : (d : lent.World) (v : World) (c used : ℕ) → s .accepted < most-accepted → c < s .limits .cpus → Soundly v → Leave d v
+  ran-law : (d : lent.World) (v : World) (c used : ℕ) → s .accepted < 4294967295 → c < s .limits .cpus → Soundly v → Leave d v
       → As-ruled (record { outcome = ran (d .cpus) a c (d .wakeups) used; threads = d .threads; cpus = d .cpus; nodes = ns }) (rule.ran s v (rule.shown v c))
   unfolding ran
   ran-law d v c used room near ok e = record {
@@ -177,7 +178,7 @@ module _ {H : ℕ → List PutOrTake} {ts : List Thread} {cs ns : List (List ℕ
   }
 
   -- a blocked thread goes into the queue of the CPU selected for it
-  module _ (c x used : ℕ) (on : On s c) (room : s .accepted < most-accepted) (known : s .known x ≡ true) (idle : blocked s x ≡ true) where
+  module _ (c x used : ℕ) (on : On s c) (room : s .accepted < 4294967295) (known : s .known x ≡ true) (idle : blocked s x ≡ true) where
     abbrev chosen : Got
     chosen = sched.select-cpu (s .limits) (s .topology) (s .tick) c w x none
 
@@ -205,7 +206,7 @@ module _ {H : ℕ → List PutOrTake} {ts : List Thread} {cs ns : List (List ℕ
       let known = yes 4 (s .known x) _ (there .1) in
       let idle = yes 6 (blocked s x) _ (known .1) in
       let new : (b : ℕ) → b < s .limits .cpus → New (s .limits) (s .known) nobody-but w b x = λ b h. blocked-new b x (r .reached) (idle .0) (known .0) h in
-      on-chosen c x used on (room-left s (schedule-thread c x) used e) (known .0) (idle .0) _ refl
+      on-chosen c x used on (few-accepted s (schedule-thread c x) used e) (known .0) (idle .0) _ refl
       (woken-on (s .limits) (s .topology) (s .tick) c (s .known) (r .reached .numbered) (m .small) early (on .near) H ns (m .tree) (on .node) (on .put-on) (m .shows) safe settled 0 no-wakeups few x (known .0) new)
       (select-cpu-selected (s .limits) (s .topology) (s .tick) c (s .known) (r .reached .numbered) H (on .near) w x none (safe .mild x) .under)
 
@@ -215,7 +216,7 @@ module _ {H : ℕ → List PutOrTake} {ts : List Thread} {cs ns : List (List ℕ
   ran-schedule c f used e =
       let on : On s c = on-node s c _ (r .sealed) e .0 in
       let v : World = sched.schedule (s .limits) (s .topology) (s .tick) c w (flags-of f) in
-      ran-law _ v c used (room-left s (schedule c f) used e) (on .near)
+      ran-law _ v c used (few-accepted s (schedule c f) used e) (on .near)
       (ok-schedule (s .limits) (s .topology) (s .tick) c (s .known) (r .reached .numbered) H (on .near) w (flags-of f) safe)
       (subst (λ (k : Context). Leave (scheduleDef ts cs ns k (flags-in (call-of (schedule c f) used)) 0) v) (told c)
       (shows-schedule (s .limits) (s .topology) (s .tick) c (s .known) (r .reached .numbered) (m .small) early (on .near) H ns (m .tree) (on .node) (on .put-on) (m .shows) safe settled 0 no-wakeups few
@@ -228,7 +229,7 @@ module _ {H : ℕ → List PutOrTake} {ts : List Thread} {cs ns : List (List ℕ
       let on : On s c = on-node s c _ (r .sealed) e .0 in
       let v : World = sched.schedule-hardtick (s .limits) (s .topology) (s .tick) c w in
       let late : w .cpus c .last-tick ≤ s .tick = unfold world-of in r .late .last c in
-      ran-law _ v c used (room-left s (hardtick c) used e) (on .near)
+      ran-law _ v c used (few-accepted s (hardtick c) used e) (on .near)
       (ok-hardtick (s .limits) (s .topology) (s .tick) c (s .known) (r .reached .numbered) H (on .near) w safe)
       (subst (λ (k : Context). Leave (silent (scheduleHardtick ts cs k)) v) (told c)
       (record {
@@ -242,7 +243,7 @@ module _ {H : ℕ → List PutOrTake} {ts : List Thread} {cs ns : List (List ℕ
   ran-stattick c n used e =
       let on : On s c = on-node s c _ (r .sealed) e .0 in
       let v : World = sched.schedule-stattick (s .limits) (s .topology) (s .tick) c w n in
-      ran-law _ v c used (room-left s (stattick c n) used e) (on .near)
+      ran-law _ v c used (few-accepted s (stattick c n) used e) (on .near)
       (ok-stattick (s .limits) (s .topology) (s .tick) c (s .known) (r .reached .numbered) H (on .near) w n safe)
       (subst (λ (k : Context). Leave (scheduleStattick ts cs ns k n 0) v) (told c)
       (stattick-law (s .limits) (s .topology) (s .tick) c (s .known) (r .reached .numbered) (m .small) early (on .near) H ns (m .tree) (m .shows) safe settled 0 no-wakeups few-still n))
@@ -253,7 +254,7 @@ module _ {H : ℕ → List PutOrTake} {ts : List Thread} {cs ns : List (List ℕ
   ran-resched c used e =
       let on : On s c = on-node s c _ (r .sealed) e .0 in
       let v : World = sched.schedule-resched (s .limits) (s .topology) (s .tick) c w in
-      ran-law (record { threads = ts; cpus = scheduleResched ts cs c; wakeups = 0 }) v c used (room-left s (resched c) used e) (on .near)
+      ran-law (record { threads = ts; cpus = scheduleResched ts cs c; wakeups = 0 }) v c used (few-accepted s (resched c) used e) (on .near)
       (ok-resched (s .limits) (s .topology) (s .tick) c (s .known) (r .reached .numbered) H (on .near) w safe)
       (record {
         ends = ends-resched (s .limits) (s .topology) (s .tick) c (s .known) (r .reached .numbered) (m .small) early (on .near) H ns (m .tree) (on .node) (on .put-on) (m .shows) safe settled 0 no-wakeups few;
@@ -266,7 +267,7 @@ module _ {H : ℕ → List PutOrTake} {ts : List Thread} {cs ns : List (List ℕ
   ran-maybe-preempt c used e =
       let on : On s c = on-node s c _ (r .sealed) e .0 in
       let v : World = sched.schedule-maybe-preempt (s .limits) (s .topology) (s .tick) c w in
-      ran-law _ v c used (room-left s (maybe-preempt c) used e) (on .near)
+      ran-law _ v c used (few-accepted s (maybe-preempt c) used e) (on .near)
       (ok-maybe-preempt (s .limits) (s .topology) (s .tick) c (s .known) (r .reached .numbered) H (on .near) w safe)
       (subst (λ (k : Context). Leave (scheduleMaybePreempt ts cs ns k 0) v) (told c)
       (shows-maybe-preempt (s .limits) (s .topology) (s .tick) c (s .known) (r .reached .numbered) (m .small) early (on .near) H ns (m .tree) (on .node) (on .put-on) (m .shows) safe settled 0 no-wakeups few))
@@ -283,7 +284,7 @@ module _ {H : ℕ → List PutOrTake} {ts : List Thread} {cs ns : List (List ℕ
       let u : World = sched.donate-priority (s .limits) (s .topology) (s .tick) c w x p in
       let d : Donated = donatePriority ts cs c x p 0 in
       let below : x < s .limits .threads = r .reached .numbered x (known .0) in
-      ran-law (record { threads = d .threads; cpus = cs; wakeups = d .wakeups }) u c used (room-left s (donate c x k v) used e) (on .near)
+      ran-law (record { threads = d .threads; cpus = cs; wakeups = d .wakeups }) u c used (few-accepted s (donate c x k v) used e) (on .near)
       (ok-donate (s .limits) (s .topology) (s .tick) c (s .known) (r .reached .numbered) H (on .near) w x p low safe)
       (record {
         ends = record {
