@@ -3,3 +3,6 @@ pub mod Numbers
 pub mod Asked
 pub mod Plain
 pub mod Ran
+pub mod Obeyed
+pub mod Called
+pub mod Command
