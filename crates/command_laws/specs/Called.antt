@@ -85,45 +85,25 @@ number-there n l =
 
 -- ---- the numbers of a call
 
-call-used : (r : Reading) → call-read r .used ≡ used r
-unfolding call-read call-of used
-call-used unknown = refl
-call-used cut-short = refl
-call-used (asks (declare-cpu c) n) = refl
-call-used (asks (add-node p k) n) = refl
-call-used (asks (place-cpu i c) n) = refl
-call-used (asks seal n) = refl
-call-used (asks (declare-thread x k v p) n) = refl
-call-used (asks (set-tick t) n) = refl
-call-used (asks (schedule-thread c x) n) = refl
-call-used (asks (schedule c f) n) = refl
-call-used (asks (hardtick c) n) = refl
-call-used (asks (stattick c i) n) = refl
-call-used (asks (resched c) n) = refl
-call-used (asks (maybe-preempt c) n) = refl
-call-used (asks (donate c x k v) n) = refl
-call-used (asks (remove-donation x) n) = refl
-call-used (asks (set-critical x k) n) = refl
-
-call-thread : (r : Reading) → thread-in r ≡ call-read r .thread
-unfolding call-read call-of thread-in thread-named
-call-thread unknown = refl
-call-thread cut-short = refl
-call-thread (asks (declare-cpu c) n) = refl
-call-thread (asks (add-node p k) n) = refl
-call-thread (asks (place-cpu i c) n) = refl
-call-thread (asks seal n) = refl
-call-thread (asks (declare-thread x k v p) n) = refl
-call-thread (asks (set-tick t) n) = refl
-call-thread (asks (schedule-thread c x) n) = refl
-call-thread (asks (schedule c f) n) = refl
-call-thread (asks (hardtick c) n) = refl
-call-thread (asks (stattick c i) n) = refl
-call-thread (asks (resched c) n) = refl
-call-thread (asks (maybe-preempt c) n) = refl
-call-thread (asks (donate c x k v) n) = refl
-call-thread (asks (remove-donation x) n) = refl
-call-thread (asks (set-critical x k) n) = refl
+call-numbers : (r : Reading) → (call-read r .used ≡ used r) × (thread-in r ≡ call-read r .thread)
+unfolding call-read call-of used thread-in thread-named
+call-numbers unknown = (refl, refl)
+call-numbers cut-short = (refl, refl)
+call-numbers (asks (declare-cpu c) n) = (refl, refl)
+call-numbers (asks (add-node p k) n) = (refl, refl)
+call-numbers (asks (place-cpu i c) n) = (refl, refl)
+call-numbers (asks seal n) = (refl, refl)
+call-numbers (asks (declare-thread x k v p) n) = (refl, refl)
+call-numbers (asks (set-tick t) n) = (refl, refl)
+call-numbers (asks (schedule-thread c x) n) = (refl, refl)
+call-numbers (asks (schedule c f) n) = (refl, refl)
+call-numbers (asks (hardtick c) n) = (refl, refl)
+call-numbers (asks (stattick c i) n) = (refl, refl)
+call-numbers (asks (resched c) n) = (refl, refl)
+call-numbers (asks (maybe-preempt c) n) = (refl, refl)
+call-numbers (asks (donate c x k v) n) = (refl, refl)
+call-numbers (asks (remove-donation x) n) = (refl, refl)
+call-numbers (asks (set-critical x k) n) = (refl, refl)
 
 -- ---- a call by the rules' reading of its bytes, and by the number of its refusal
 
@@ -145,7 +125,7 @@ module _ (ts : List Thread) (cs ns : List (List ℕ)) (a : State) where
 
   pub read-used : (r : Reading) → read-call r .outcome .used ≡ used r
   unfolding read-call
-  read-used r = numbered-used (call-read r) _ ∙ call-used r
+  read-used r = numbered-used (call-read r) _ ∙ call-numbers r .0
 
   numbered-refused : (k : Call) (n : ℕ) → refusal-number (numbered-call k n .outcome .answer .refusal) ≢ 0
       → (numbered-call k n .threads ≡ ts) × (numbered-call k n .cpus ≡ cs) × (numbered-call k n .nodes ≡ ns) × (numbered-call k n .outcome .state ≡ a)
@@ -186,5 +166,5 @@ module _ {H : ℕ → List PutOrTake} {ts : List Thread} {cs ns : List (List ℕ
   unfolding read-call
   read-law r =
       let e : refusal-in cs ns a (getD ts (call-read r .thread) blank) r ≡ rules-ask.refusal s r =
-      ap (λ (x : ℕ). refusal-in cs ns a (getD ts x blank) r) (sym (call-thread r)) ∙ refusal-same m (h .reached) r in
+      ap (λ (x : ℕ). refusal-in cs ns a (getD ts x blank) r) (sym (call-numbers r .1)) ∙ refusal-same m (h .reached) r in
       subst (λ (n : ℕ). As-ruled (numbered-call ts cs ns a (call-read r) n) (answered s r)) (sym e) (numbered-law r)
