@@ -22,7 +22,7 @@ use Rattle.lines.specs.declared.Answer.{Answer}
 use Rattle.questions.specs.declared.state.State.{State}
 use Rattle.command.specs.Command.{After, commandDef}
 use Rattle.feed.specs.declared.start.Started.the-variants as started
-use Rattle.feed.specs.Start.{Start, startDef}
+use Rattle.feed.specs.Start.{startDef}
 
 -- ---- the memory
 

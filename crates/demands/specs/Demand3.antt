@@ -17,14 +17,11 @@ use Rattle.rules.specs.Demand3 as rules
 use Rattle.rules.specs.Demand3.{AsDemanded}
 use Rattle.demands.specs.Calls.{Held, Ready, after, queue-in}
 use Rattle.demands.specs.Kept.{follows-start, follows-after, queue-is}
-use Rattle.demands.specs.Kept.{Law}
 
-module _ (law : Law) where
-
-  -- THE THEOREM: h is what `start` left when it answered Ready; for every list of calls, of any length, each on any bytes, and every CPU.
-  pub demand-3 : (h : Held) → Ready h → (calls : List (List ℕ)) (c : ℕ) → c < 64 → AsDemanded 8192 (queue-in (after h calls) c) (history (start base-limits) calls c)
-  unfolding start
-  demand-3 h ready calls c near =
-      let f = follows-after law h (start base-limits) calls (follows-start law h ready) in
-      subst (λ (q : Queue). AsDemanded 8192 q (history (start base-limits) calls c))
-      (sym (queue-is (after h calls) (after-calls (start base-limits) calls) (limits-kept (start base-limits) calls) (f .stood) c near)) (rules.demand-3 calls c)
+-- THE THEOREM: h is what `start` left when it answered Ready; for every list of calls, of any length, each on any bytes, and every CPU.
+pub demand-3 : (h : Held) → Ready h → (calls : List (List ℕ)) (c : ℕ) → c < 64 → AsDemanded 8192 (queue-in (after h calls) c) (history (start base-limits) calls c)
+unfolding start
+demand-3 h ready calls c near =
+    let f = follows-after h (start base-limits) calls (follows-start h ready) in
+    subst (λ (q : Queue). AsDemanded 8192 q (history (start base-limits) calls c))
+    (sym (queue-is (after h calls) (after-calls (start base-limits) calls) (limits-kept (start base-limits) calls) (f .stood) c near)) (rules.demand-3 calls c)

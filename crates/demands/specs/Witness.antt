@@ -9,9 +9,8 @@ use Rattle.thread.specs.Thread.{blank}
 use Rattle.processor.specs.Words as cpu
 use Rattle.nodes.specs.Words as node
 use Rattle.tree.specs.Rows.{Sized}
-use Rattle.feed.specs.declared.start.Started.the-variants as started
 use Rattle.feed.specs.Start.{initial, noRoom, startDef}
-use Rattle.demands.specs.Calls.{Held, Typed, Ready}
+use Rattle.demands.specs.Calls.{Held, Ready}
 
 abbrev records : List Thread
 records = replicate 1024 blank
