@@ -1,0 +1,4 @@
+pub mod Reading
+pub mod Length
+pub mod Going
+pub mod Step
