@@ -10,7 +10,7 @@ use borrow.Author.Tests.{lt-ltb, le-ltb, ltb-true, ltb-false, leb-true, le-leb, 
 use native.Mathlib.Omega.{arith}
 use native.Mathlib.Nat.{zero-add}
 use Rattle.rules.specs.Line.{both}
-use Rattle.rules.specs.State.{State}
+use Rattle.rules.specs.State.{Limits, base-limits, State}
 use Rattle.rules.specs.Commands.{step}
 use Rattle.rules.specs.Requests as rules
 use Rattle.rules.specs.Requests.{read}
@@ -23,7 +23,7 @@ use Rattle.feed.specs.declared.fed.Fed.{Fed}
 use Rattle.feed.specs.Fed.{HEADER, COMMANDS, END, ENDED, not-cut, whole, more, written, withOutput, atStart, headed, openedFed, openedOut, due, endLineOf, ends-now, closedFed, closedOut}
 use Rattle.feed.specs.Feed.{World, worldOf, stepDef, runDef, openedWorld, closedWorld, feedDef}
 use Rattle.question_laws.specs.Answers.{read-same}
-use Rattle.feed_laws.specs.Reading.{is-whole, read-more, lines-none, some-bytes}
+use Rattle.feed_laws.specs.Reading.{is-whole, read-more, cut-most, lines-none, some-bytes}
 use Rattle.feed_laws.specs.Length.{end-fits, header-length}
 use Rattle.feed_laws.specs.Going.{left-at, left, left-header, left-commands, left-end, left-ended, Going, Within, line-in, done-after, taken-after, length-after}
 use Rattle.feed_laws.specs.Step.{Law, step-same, step-going, step-within, step-further, step-phase}
@@ -57,6 +57,19 @@ unfolding not-cut reading-back is-whole
 whole-back rules.unknown = refl
 whole-back rules.cut-short = refl
 whole-back (rules.asks r n) = refl
+
+-- no more, though there is room: the next command is cut short, or no bytes are left
+then-cut : (t l w : Bool) → cond t (cond l true w) false ≡ false → t ≡ true → l ≡ false → w ≡ false
+then-cut t l w e f g = rw (f, g) at e
+
+then-none : (t l w : Bool) → cond t (cond l true w) false ≡ false → l ≡ true → t ≡ false
+then-none true l w e f = absurd (true≢false (rw f at e))
+then-none false l w e f = refl
+
+-- after a call with a large buffer the end line is written, or commands are answered and fewer than 16 bytes are left over
+pub data Leaves (last : Bool) (f : Fed) (left-over : List ℕ) : Type 0 where
+  run-ended : f .phase ≡ ENDED → Leaves last f left-over
+  run-waits : f .phase ≡ COMMANDS → last ≡ false → length left-over < 16 → Leaves last f left-over
 
 module _ (law : Law) (bytes : List ℕ) (n : ℕ) (fits : n ≤ length bytes) (to-come : List ℕ) (last : Bool) (none-to-come : last ≡ true → to-come ≡ []) where
   abbrev block : List ℕ
@@ -143,6 +156,11 @@ module _ (law : Law) (bytes : List ℕ) (n : ℕ) (fits : n ≤ length bytes) (t
   over : (out : List ℕ) (f : Fed) → n ≤ f .at → more bytes out n last f ≡ false
   unfolding more
   over out f h = both (eqb (f .phase) COMMANDS) (λ p. rw (p, le-ltb (f .at) n h)) (λ p. rw p)
+
+  more-rest : (out : List ℕ) (f : Fed) → f .phase ≡ COMMANDS → room out (f .done) ≡ true
+      → more bytes out n last f ≡ cond (ltb (f .at) n) (cond last true (whole bytes n (f .at) (f .state .wide))) false
+  unfolding more
+  more-rest out f e r = rw (eq-eqb (f .phase) COMMANDS e, r)
 
   abbrev Over : World → Type 0
   Over w = more bytes (w .output) n last (w .fed) ≡ false
@@ -270,8 +288,8 @@ module _ (law : Law) (bytes : List ℕ) (n : ℕ) (fits : n ≤ length bytes) (t
     abbrev g : Fed
     g = w .fed
 
-    abbrev ended : World
-    ended = worldOf (w .threads) (w .cpus) (w .nodes) (buffer-with (w .output) (g .done) (endLineOf g))
+    abbrev with-end : World
+    with-end = worldOf (w .threads) (w .cpus) (w .nodes) (buffer-with (w .output) (g .done) (endLineOf g))
         (withOutput g ((g .done + written (rendered (w .output) (g .done) (endLineOf g))) % 2 ^ 64) ENDED)
 
     due-left : due n last g ≡ true → left s g (drop (g .at) block ++ to-come) ≡ endLineOf g
@@ -300,11 +318,11 @@ module _ (law : Law) (bytes : List ℕ) (n : ℕ) (fits : n ≤ length bytes) (t
       end-short : length (endLineOf g) ≤ 48
       end-short = end-fits (g .number) (g .refused) (omega (arith, k .0 .number-fits)) (omega (arith, k .0 .number-fits, k .0 .refused-fits))
 
-      end-done : ended .fed .done ≡ g .done + length (endLineOf g)
+      end-done : with-end .fed .done ≡ g .done + length (endLineOf g)
       unfolding withOutput
       end-done = done-after (w .output) (g .done) (endLineOf g) end-room end-short (k .1 .small)
 
-      closed-ended : Called (all w s) ended
+      closed-ended : Called (all w s) with-end
       unfolding withOutput
       closed-ended = record {
         state = s;
@@ -321,7 +339,7 @@ module _ (law : Law) (bytes : List ℕ) (n : ℕ) (fits : n ≤ length bytes) (t
         taken = k .1 .taken;
         same =
             ap (λ (l : List ℕ). l ++ left-at s ENDED (g .number) (g .refused) (drop (g .at) block ++ to-come))
-            (ap (λ (d : ℕ). take d (ended .output)) end-done ∙ taken-after (w .output) (g .done) (endLineOf g) end-room end-short)
+            (ap (λ (d : ℕ). take d (with-end .output)) end-done ∙ taken-after (w .output) (g .done) (endLineOf g) end-room end-short)
             ∙ ap (λ (l : List ℕ). (take (g .done) (w .output) ++ endLineOf g) ++ l) (left-ended s (g .number) (g .refused) _)
             ∙ append-nil (take (g .done) (w .output) ++ endLineOf g)
             ∙ ap (λ (l : List ℕ). take (g .done) (w .output) ++ l) (sym (due-left is-due));
@@ -352,3 +370,76 @@ module _ (law : Law) (bytes : List ℕ) (n : ℕ) (fits : n ≤ length bytes) (t
     pub called : Called (left s (w .fed) (block ++ to-come)) (feedDef bytes n last w)
     unfolding feedDef
     called = record { state = closed .state; going = closed .going; taken = closed .taken; same = closed .same ∙ ran .same ∙ first .same }
+
+    module _ (large : 48 * (n + 2) ≤ length (w .output)) where
+      room-first : room (w .output) 0 ≡ true
+      unfolding room
+      room-first = le-leb (0 + 48) (length (w .output)) (omega arith)
+
+      room-then : room (then .output) (then .fed .done) ≡ true
+      unfolding room
+      room-then = le-leb (then .fed .done + 48) (length (then .output)) (omega (arith, ran .size, first .size, ran .within .short, ran .within .taken))
+
+      phase-then : 1 ≤ then .fed .phase
+      phase-then = ran .begun (first .begun room-first)
+
+      stopped : more bytes (then .output) n last (then .fed) ≡ false
+      stopped = run-over n (openedWorld w) s (first .ok) (omega arith)
+
+      closed-due : due n last (then .fed) ≡ true → closedFed (then .output) n last (then .fed) .phase ≡ ENDED
+      unfolding closedFed withOutput
+      closed-due e = rw (e, room-then)
+
+      closed-not : due n last (then .fed) ≡ false → closedFed (then .output) n last (then .fed) ≡ then .fed
+      unfolding closedFed
+      closed-not e = rw e
+
+      due-end : then .fed .phase ≡ END → due n last (then .fed) ≡ true
+      unfolding due
+      due-end e = rw (eq-eqb (then .fed .phase) END e)
+
+      due-ended : then .fed .phase ≡ ENDED → due n last (then .fed) ≡ false
+      unfolding due
+      due-ended e = rw e
+
+      due-commands : then .fed .phase ≡ COMMANDS → due n last (then .fed) ≡ cond last (leb n (then .fed .at)) false
+      unfolding due
+      due-commands e = rw e
+
+      more-commands : then .fed .phase ≡ COMMANDS → cond (ltb (then .fed .at) n) (cond last true (whole bytes n (then .fed .at) (then .fed .state .wide))) false ≡ false
+      more-commands e = sym (more-rest (then .output) (then .fed) e room-then) ∙ stopped
+
+      short-left : then .fed .phase ≡ COMMANDS → last ≡ false → length (drop (then .fed .at) block) < 16
+      unfolding base-limits
+      short-left e l =
+          both (ltb (then .fed .at) n)
+          (λ q. let cut : whole bytes n (then .fed .at) (then .fed .state .wide) ≡ false = then-cut (ltb (then .fed .at) n) last _ (more-commands e) q l in
+          let most : length (drop (then .fed .at) block) ≤ 8 =
+              cut-most (ran .state .limits) (drop (then .fed .at) block)
+              (rw (ap (λ (m : Limits). m .cpu-bytes) (ran .going .base)) (omega arith)) (rw (ap (λ (m : Limits). m .node-bytes) (ran .going .base)) (omega arith))
+              (sym (whole-is then (ran .state) ran-ok (then .fed .at)) ∙ cut) in
+          omega arith)
+          (λ q. omega (arith, length-drop (then .fed .at) block, long, ltb-false (then .fed .at) n q))
+
+      phase-three : (eqb (then .fed .phase) COMMANDS ≡ false) → (eqb (then .fed .phase) END ≡ false) → then .fed .phase ≡ ENDED
+      phase-three p q =
+          let a : then .fed .phase ≡ 1 → ⊥ = eqb-false (then .fed .phase) COMMANDS p in
+          let b : then .fed .phase ≡ 2 → ⊥ = eqb-false (then .fed .phase) END q in
+          omega (arith, phase-then, ran .going .phase-fits)
+
+      leaves-then : Leaves last (closedFed (then .output) n last (then .fed)) (drop (closedFed (then .output) n last (then .fed) .at) block)
+      leaves-then =
+          both (eqb (then .fed .phase) COMMANDS)
+          (λ p. let c : then .fed .phase ≡ COMMANDS = eqb-true (then .fed .phase) COMMANDS p in
+          both last
+          (λ l. let q : ltb (then .fed .at) n ≡ false = then-none (ltb (then .fed .at) n) last _ (more-commands c) l in
+          run-ended (closed-due (due-commands c ∙ ap (λ (b : Bool). cond b (leb n (then .fed .at)) false) l ∙ le-leb n (then .fed .at) (ltb-false (then .fed .at) n q))))
+          (λ l. subst (λ (f : Fed). Leaves last f (drop (f .at) block))
+          (sym (closed-not (due-commands c ∙ ap (λ (b : Bool). cond b (leb n (then .fed .at)) false) l))) (run-waits c l (short-left c l))))
+          (λ p. both (eqb (then .fed .phase) END)
+          (λ q. run-ended (closed-due (due-end (eqb-true (then .fed .phase) END q))))
+          (λ q. let c : then .fed .phase ≡ ENDED = phase-three p q in run-ended (ap (λ (f : Fed). f .phase) (closed-not (due-ended c)) ∙ c)))
+
+      pub leaves : Leaves last (feedDef bytes n last w .fed) (drop (feedDef bytes n last w .fed .at) block)
+      unfolding feedDef
+      leaves = leaves-then

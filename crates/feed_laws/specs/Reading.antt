@@ -6,7 +6,8 @@ use mathlib.Core.Option.{Option, none, some}
 use mathlib.Core.List.{List, [], _∷_, _++_, append-nil}
 use lib.ListN.{length, take, drop, length-append, length-drop}
 use lib.Seq.{drop-append-le}
-use lib.Dec.{eqb}
+use lib.Dec.{eqb, ltb}
+use borrow.Author.Tests.{ltb-true, ltb-false}
 use native.Mathlib.Omega.{arith}
 use Rattle.rules.specs.Line.{both}
 use Rattle.rules.specs.State.{Limits, State}
@@ -148,3 +149,42 @@ turns (suc k) (suc m) s number refused bytes h i =
     let p : suc (length (past u bytes)) ≤ length bytes = omega (arith, past-length u bytes, used-one s bytes number e, bytes-some bytes f) in
     ap (λ (r : List ℕ). line number (step s bytes .answer) ++ r)
     (turns k m (step s bytes .state) (number + 1) (refused + refused-by (step s bytes .answer)) (past u bytes) (omega arith) (omega arith))))))
+
+-- ---- a command cut short has at most eight bytes
+
+unfoldable sum-of : Option (List ℕ) → ℕ
+sum-of none = 0
+sum-of (some ns) = sum ns
+
+widths-most : (l : Limits) (byte : ℕ) → l .cpu-bytes ≤ 2 → l .node-bytes ≤ 2 → sum-of (widths l byte) ≤ 8
+unfolding widths sum-of sum
+widths-most l byte h i =
+    both (eqb byte 0x01) (λ e0. rw e0 (omega arith))
+    (λ e0. both (eqb byte 0x02) (λ e1. rw (e0, e1) (omega arith))
+    (λ e1. both (eqb byte 0x03) (λ e2. rw (e0, e1, e2) (omega arith))
+    (λ e2. both (eqb byte 0x04) (λ e3. rw (e0, e1, e2, e3) (omega arith))
+    (λ e3. both (eqb byte 0x10) (λ e4. rw (e0, e1, e2, e3, e4) (omega arith))
+    (λ e4. both (eqb byte 0x11) (λ e5. rw (e0, e1, e2, e3, e4, e5) (omega arith))
+    (λ e5. both (eqb byte 0x12) (λ e6. rw (e0, e1, e2, e3, e4, e5, e6) (omega arith))
+    (λ e6. both (eqb byte 0x13) (λ e7. rw (e0, e1, e2, e3, e4, e5, e6, e7) (omega arith))
+    (λ e7. both (eqb byte 0x14) (λ e8. rw (e0, e1, e2, e3, e4, e5, e6, e7, e8) (omega arith))
+    (λ e8. both (eqb byte 0x15) (λ e9. rw (e0, e1, e2, e3, e4, e5, e6, e7, e8, e9) (omega arith))
+    (λ e9. both (eqb byte 0x16) (λ e10. rw (e0, e1, e2, e3, e4, e5, e6, e7, e8, e9, e10) (omega arith))
+    (λ e10. both (eqb byte 0x17) (λ e11. rw (e0, e1, e2, e3, e4, e5, e6, e7, e8, e9, e10, e11) (omega arith))
+    (λ e11. both (eqb byte 0x18) (λ e12. rw (e0, e1, e2, e3, e4, e5, e6, e7, e8, e9, e10, e11, e12) (omega arith))
+    (λ e12. both (eqb byte 0x19) (λ e13. rw (e0, e1, e2, e3, e4, e5, e6, e7, e8, e9, e10, e11, e12, e13) (omega arith))
+    (λ e13. both (eqb byte 0x1a) (λ e14. rw (e0, e1, e2, e3, e4, e5, e6, e7, e8, e9, e10, e11, e12, e13, e14) (omega arith))
+    (λ e14. rw (e0, e1, e2, e3, e4, e5, e6, e7, e8, e9, e10, e11, e12, e13, e14) (omega arith))))))))))))))))
+
+operands-cut : (l : Limits) (byte : ℕ) (bytes : List ℕ) (o : Option (List ℕ)) → is-whole (read-operands l byte bytes o) ≡ false → suc (length bytes) ≤ sum-of o
+unfolding read-operands is-whole sum-of
+operands-cut l byte bytes none e = absurd (true≢false e)
+operands-cut l byte bytes (some ns) e =
+    both (at-least (sum ns) bytes) (λ t. absurd (true≢false (rw t at e)))
+    (λ t. both (ltb (length bytes) (sum ns)) (λ f. ltb-true (length bytes) (sum ns) f)
+    (λ f. absurd (true≢false (sym (enough (sum ns) bytes (ltb-false (length bytes) (sum ns) f)) ∙ t))))
+
+pub cut-most : (l : Limits) (bytes : List ℕ) → l .cpu-bytes ≤ 2 → l .node-bytes ≤ 2 → is-whole (read l bytes) ≡ false → length bytes ≤ 8
+unfolding read is-whole
+cut-most l [] h i e = omega arith
+cut-most l (byte ∷ bytes) h i e = omega (arith, widths-most l byte h i, operands-cut l byte bytes (widths l byte) e)
