@@ -66,10 +66,10 @@ then-none : (t l w : Bool) → cond t (cond l true w) false ≡ false → l ≡ 
 then-none true l w e f = absurd (true≢false (rw f at e))
 then-none false l w e f = refl
 
--- after a call with a large buffer the end line is written, or commands are answered and fewer than 16 bytes are left over
+-- after a call with a large buffer the end line is written, or commands are answered and at most eight bytes are left over, of a command cut short
 pub data Leaves (last : Bool) (f : Fed) (left-over : List ℕ) : Type 0 where
   run-ended : f .phase ≡ ENDED → Leaves last f left-over
-  run-waits : f .phase ≡ COMMANDS → last ≡ false → length left-over < 16 → Leaves last f left-over
+  run-waits : f .phase ≡ COMMANDS → last ≡ false → length left-over ≤ 8 → Leaves last f left-over
 
 module _ (law : Law) (bytes : List ℕ) (n : ℕ) (fits : n ≤ length bytes) (to-come : List ℕ) (last : Bool) (none-to-come : last ≡ true → to-come ≡ []) where
   abbrev block : List ℕ
@@ -409,7 +409,7 @@ module _ (law : Law) (bytes : List ℕ) (n : ℕ) (fits : n ≤ length bytes) (t
       more-commands : then .fed .phase ≡ COMMANDS → cond (ltb (then .fed .at) n) (cond last true (whole bytes n (then .fed .at) (then .fed .state .wide))) false ≡ false
       more-commands e = sym (more-rest (then .output) (then .fed) e room-then) ∙ stopped
 
-      short-left : then .fed .phase ≡ COMMANDS → last ≡ false → length (drop (then .fed .at) block) < 16
+      short-left : then .fed .phase ≡ COMMANDS → last ≡ false → length (drop (then .fed .at) block) ≤ 8
       unfolding base-limits
       short-left e l =
           both (ltb (then .fed .at) n)
@@ -443,3 +443,30 @@ module _ (law : Law) (bytes : List ℕ) (n : ℕ) (fits : n ≤ length bytes) (t
       pub leaves : Leaves last (feedDef bytes n last w .fed) (drop (feedDef bytes n last w .fed .at) block)
       unfolding feedDef
       leaves = leaves-then
+
+-- ---- after the end line nothing changes
+
+module _ (bytes : List ℕ) (n : ℕ) (last : Bool) where
+  abbrev Ended : World → Type 0
+  Ended w = w .fed .phase ≡ ENDED
+
+  no-more : (w : World) → Ended w → more bytes (w .output) n last (w .fed) ≡ false
+  unfolding more
+  no-more w e = rw (ne-eqb (w .fed .phase) COMMANDS (omega (arith, e)))
+
+  ran-stays : (k : ℕ) (w : World) → Ended w → Ended (runDef k bytes n last w)
+  unfolding runDef
+  ran-stays zero w e = e
+  ran-stays (suc k) w e = rw (no-more w e) e
+
+  opened-stays : (w : World) → Ended w → Ended (openedWorld w)
+  unfolding openedFed atStart
+  opened-stays w e = rw (ne-eqb (w .fed .phase) HEADER (omega (arith, e))) e
+
+  closed-stays : (w : World) → Ended w → Ended (closedWorld n last w)
+  unfolding closedFed due
+  closed-stays w e = rw (ne-eqb (w .fed .phase) COMMANDS (omega (arith, e)), ne-eqb (w .fed .phase) END (omega (arith, e))) e
+
+  pub stays-ended : (w : World) → Ended w → Ended (feedDef bytes n last w)
+  unfolding feedDef
+  stays-ended w e = closed-stays (runDef n bytes n last (openedWorld w)) (ran-stays n (openedWorld w) (opened-stays w e))

@@ -3,3 +3,5 @@ pub mod Length
 pub mod Going
 pub mod Step
 pub mod Block
+pub mod Calls
+pub mod Fold

@@ -1,0 +1,138 @@
+-- Any list of calls: what they write and what is then left to write are the rules' output. Assumes nothing.
+use Prim.Native.Nat.{ℕ, zero, suc, _+_, _-_, _*_, _^_, _≤_, _<_}
+use mathlib.Core.Path.{_≡_, refl, sym, ap, subst, _∙_}
+use mathlib.Core.Bool.{Bool, true, false, true≢false, false≢true}
+use mathlib.Core.List.{List, [], _∷_, _++_, append-assoc, append-nil}
+use lib.ListN.{length, take, drop, length-append}
+use lib.Seq.{take-append-seam}
+use native.Mathlib.Omega.{arith}
+use Rattle.rules.specs.State.{base-limits, State, start}
+use Rattle.rules.specs.Lines.{output}
+use Rattle.thread.specs.declared.Thread.{Thread}
+use Rattle.feed.specs.Start.{initial}
+use Rattle.feed.specs.Fed.{HEADER, COMMANDS, END, ENDED, begin}
+use Rattle.feed.specs.Feed.{World, worldOf, feedDef}
+use Rattle.question_laws.specs.Started.{start-stands}
+use Rattle.command_laws.specs.Law.{reachable-start}
+use Rattle.feed_laws.specs.Going.{left-at, left, left-ended, Going}
+use Rattle.feed_laws.specs.Step.{Law}
+use Rattle.feed_laws.specs.Block.{Called, called, Leaves, run-ended, run-waits, leaves, stays-ended}
+use Rattle.feed_laws.specs.Calls.{Call, Run, in-hand, fed-by, after, output-of, after-all, outputs, stream, Proper, Roomy, says-last, Lent, begun}
+
+abbrev Goes : Run → State → Type 0
+Goes r s = Going (r .threads) (r .cpus) (r .nodes) (r .fed) s
+
+-- ---- one call
+
+record One (r : Run) (c : Call) (s : State) (to-come : List ℕ) : Type 0 where
+  state : State
+  going : Goes (after r c) state
+  same : output-of r c ++ left state (after r c .fed) (after r c .left-over ++ to-come) ≡ left s (r .fed) (in-hand r c ++ to-come)
+
+module _ (law : Law) (r : Run) (c : Call) (s : State) (g : Goes r s) (small : length (c .buffer) < 2 ^ 64) (to-come : List ℕ) (none-to-come : c .last ≡ true → to-come ≡ []) where
+  abbrev hand : List ℕ
+  hand = in-hand r c
+
+  abbrev world : World
+  world = worldOf (r .threads) (r .cpus) (r .nodes) (c .buffer) (r .fed)
+
+  fits : length hand ≤ length (hand ++ c .behind)
+  fits = rw length-append (omega arith)
+
+  front : take (length hand) (hand ++ c .behind) ≡ hand
+  front = take-append-seam hand (c .behind)
+
+  made : Called law (hand ++ c .behind) (length hand) fits to-come (c .last) none-to-come (left s (r .fed) (take (length hand) (hand ++ c .behind) ++ to-come)) (feedDef (hand ++ c .behind) (length hand) (c .last) world)
+  made = called law (hand ++ c .behind) (length hand) fits to-come (c .last) none-to-come world s g small
+
+  one : One r c s to-come
+  unfolding after output-of fed-by
+  one = record {
+    state = made .state;
+    going = made .going;
+    same =
+        let w : World = feedDef (hand ++ c .behind) (length hand) (c .last) world in
+        ap (λ (b : List ℕ). take (w .fed .done) (w .output) ++ left (made .state) (w .fed) (drop (w .fed .at) b ++ to-come)) (sym front)
+        ∙ made .same ∙ ap (λ (b : List ℕ). left s (r .fed) (b ++ to-come)) front;
+  }
+
+  one-leaves : 48 * (length hand + 2) ≤ length (c .buffer) → Leaves (c .last) (after r c .fed) (after r c .left-over)
+  unfolding after fed-by
+  one-leaves h =
+      let w : World = feedDef (hand ++ c .behind) (length hand) (c .last) world in
+      subst (λ (b : List ℕ). Leaves (c .last) (w .fed) (drop (w .fed .at) b)) front (leaves law (hand ++ c .behind) (length hand) fits to-come (c .last) none-to-come world s g small h)
+
+-- ---- a list of calls
+
+pub record All (r : Run) (calls : List Call) (to-come before : List ℕ) : Type 0 where
+  pub state : State
+  pub going : Goes (after-all r calls) state
+  pub same : outputs r calls ++ left state (after-all r calls .fed) (after-all r calls .left-over ++ to-come) ≡ before
+
+all-none : (r : Run) (s : State) (to-come : List ℕ) → Goes r s → All r [] to-come (left s (r .fed) (r .left-over ++ (stream [] ++ to-come)))
+unfolding after-all outputs stream
+all-none r s to-come g = record { state = s; going = g; same = refl }
+
+proper-last : (c : Call) (calls : List Call) (to-come : List ℕ) → Proper (c ∷ calls) to-come → c .last ≡ true → stream calls ++ to-come ≡ []
+unfolding Proper
+proper-last c calls to-come p = p .0
+
+proper-small : (c : Call) (calls : List Call) (to-come : List ℕ) → Proper (c ∷ calls) to-come → length (c .buffer) < 2 ^ 64
+unfolding Proper
+proper-small c calls to-come p = p .1 .0
+
+proper-rest : (c : Call) (calls : List Call) (to-come : List ℕ) → Proper (c ∷ calls) to-come → Proper calls to-come
+unfolding Proper
+proper-rest c calls to-come p = p .1 .1
+
+module _ (law : Law) (to-come : List ℕ) where
+  here : (r : Run) (c : Call) (calls : List Call) (s : State) → Goes r s → Proper (c ∷ calls) to-come → One r c s (stream calls ++ to-come)
+  here r c calls s g p = one law r c s g (proper-small c calls to-come p) (stream calls ++ to-come) (proper-last c calls to-come p)
+
+  all-then : (r : Run) (c : Call) (calls : List Call) (s : State) (o : One r c s (stream calls ++ to-come))
+      → All (after r c) calls to-come (left (o .state) (after r c .fed) (after r c .left-over ++ (stream calls ++ to-come)))
+      → All r (c ∷ calls) to-come (left s (r .fed) (r .left-over ++ (stream (c ∷ calls) ++ to-come)))
+  unfolding after-all outputs stream in-hand
+  all-then r c calls s o a = record {
+    state = a .state;
+    going = a .going;
+    same =
+        append-assoc (output-of r c) (outputs (after r c) calls) _ ∙ ap (λ (l : List ℕ). output-of r c ++ l) (a .same) ∙ o .same
+        ∙ ap (left s (r .fed)) (append-assoc (r .left-over) (c .block) (stream calls ++ to-come) ∙ ap (λ (l : List ℕ). r .left-over ++ l) (sym (append-assoc (c .block) (stream calls) to-come)));
+  }
+
+  all-calls : (calls : List Call) (r : Run) (s : State) → Goes r s → Proper calls to-come → All r calls to-come (left s (r .fed) (r .left-over ++ (stream calls ++ to-come)))
+  all-calls [] r s g p = all-none r s to-come g
+  all-calls (c ∷ calls) r s g p =
+      all-then r c calls s (here r c calls s g p) (all-calls calls (after r c) (here r c calls s g p .state) (here r c calls s g p .going) (proper-rest c calls to-come p))
+
+-- ---- from the start
+
+begun-goes : {ts : List Thread} {cs ns : List (List ℕ)} → Lent ts cs ns → Goes (begun ts cs ns) (start base-limits)
+unfolding begun begin start
+begun-goes {ts} {cs} {ns} l = record {
+  history = _;
+  stands = start-stands ts cs ns (l .enough) (l .records) (l .cpu-rows) (l .node-rows);
+  reachable = reachable-start base-limits;
+  base = refl;
+  number-fits = omega arith;
+  goes-on = λ h. omega arith;
+  refused-fits = omega arith;
+  phase-fits = omega arith;
+}
+
+begun-left : (ts : List Thread) (cs ns : List (List ℕ)) (bytes : List ℕ) → left (start base-limits) (begun ts cs ns .fed) (begun ts cs ns .left-over ++ bytes) ≡ output base-limits bytes
+unfolding begun begin left-at output
+begun-left ts cs ns bytes = refl
+
+module _ (law : Law) {ts : List Thread} {cs ns : List (List ℕ)} (l : Lent ts cs ns) (calls : List Call) (to-come : List ℕ) (p : Proper calls to-come) where
+  pub from-start : All (begun ts cs ns) calls to-come (output base-limits (stream calls ++ to-come))
+  from-start = subst (λ (o : List ℕ). All (begun ts cs ns) calls to-come o) (begun-left ts cs ns (stream calls ++ to-come)) (all-calls law to-come calls (begun ts cs ns) (start base-limits) (begun-goes l) p)
+
+  pub from-start-ended : after-all (begun ts cs ns) calls .fed .phase ≡ ENDED → outputs (begun ts cs ns) calls ≡ output base-limits (stream calls ++ to-come)
+  from-start-ended e =
+      let f = after-all (begun ts cs ns) calls .fed in
+      let b : List ℕ = after-all (begun ts cs ns) calls .left-over ++ to-come in
+      sym (append-nil (outputs (begun ts cs ns) calls))
+      ∙ ap (λ (r : List ℕ). outputs (begun ts cs ns) calls ++ r) (sym (ap (λ (q : ℕ). left-at (from-start .state) q (f .number) (f .refused) b) e ∙ left-ended (from-start .state) (f .number) (f .refused) b))
+      ∙ from-start .same
