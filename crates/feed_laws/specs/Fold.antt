@@ -136,3 +136,76 @@ module _ (law : Law) {ts : List Thread} {cs ns : List (List ℕ)} (l : Lent ts c
       sym (append-nil (outputs (begun ts cs ns) calls))
       ∙ ap (λ (r : List ℕ). outputs (begun ts cs ns) calls ++ r) (sym (ap (λ (q : ℕ). left-at (from-start .state) q (f .number) (f .refused) b) e ∙ left-ended (from-start .state) (f .number) (f .refused) b))
       ∙ from-start .same
+
+-- ---- with large buffers the run ends
+
+data Fine (r : Run) : Type 0 where
+  over : r .fed .phase ≡ ENDED → Fine r
+  few : length (r .left-over) ≤ 8 → Fine r
+
+fine-after : (r : Run) (c : Call) → Leaves (c .last) (after r c .fed) (after r c .left-over) → Fine (after r c)
+fine-after r c (run-ended e) = over e
+fine-after r c (run-waits e l h) = few h
+
+last-over : (r : Run) (c : Call) → c .last ≡ true → Leaves (c .last) (after r c .fed) (after r c .left-over) → after r c .fed .phase ≡ ENDED
+last-over r c l (run-ended e) = e
+last-over r c l (run-waits e f h) = absurd (true≢false (sym l ∙ f))
+
+ended-stays : (r : Run) (c : Call) → r .fed .phase ≡ ENDED → after r c .fed .phase ≡ ENDED
+unfolding after fed-by
+ended-stays r c e = stays-ended (in-hand r c ++ c .behind) (length (in-hand r c)) (c .last) (worldOf (r .threads) (r .cpus) (r .nodes) (c .buffer) (r .fed)) e
+
+roomy-first : (c : Call) (calls : List Call) → Roomy (c ∷ calls) → 48 * (length (c .block) + 10) ≤ length (c .buffer)
+unfolding Roomy
+roomy-first c calls h = h .0
+
+roomy-rest : (c : Call) (calls : List Call) → Roomy (c ∷ calls) → Roomy calls
+unfolding Roomy
+roomy-rest c calls h = h .1
+
+all-one : (r : Run) (c : Call) → after-all r (c ∷ []) ≡ after r c
+unfolding after-all
+all-one r c = refl
+
+all-more : (r : Run) (c : Call) (calls : List Call) → after-all r (c ∷ calls) ≡ after-all (after r c) calls
+unfolding after-all
+all-more r c calls = refl
+
+says-one : (c : Call) → says-last (c ∷ []) ≡ true → c .last ≡ true
+unfolding says-last
+says-one c e = e
+
+says-more : (c d : Call) (calls : List Call) → says-last (c ∷ d ∷ calls) ≡ true → says-last (d ∷ calls) ≡ true
+unfolding says-last
+says-more c d calls e = e
+
+says-none : says-last [] ≡ true → ⊥
+unfolding says-last
+says-none e = false≢true e
+
+module _ (law : Law) where
+  leaves-after : (r : Run) (c : Call) (calls : List Call) (s : State) → Goes r s → Proper (c ∷ calls) [] → Roomy (c ∷ calls) → Fine r
+      → Leaves (c .last) (after r c .fed) (after r c .left-over)
+  unfolding in-hand
+  leaves-after r c calls s g p m (over e) = run-ended (ended-stays r c e)
+  leaves-after r c calls s g p m (few h) =
+      one-leaves law r c s g (proper-small c calls [] p) (stream calls ++ []) (proper-last c calls [] p)
+      (omega (arith, roomy-first c calls m, length-append (r .left-over) (c .block)))
+
+  all-end : (calls : List Call) (r : Run) (s : State) → Goes r s → Proper calls [] → Roomy calls → Fine r → says-last calls ≡ true → after-all r calls .fed .phase ≡ ENDED
+  all-end [] r s g p m h e = absurd (says-none e)
+  all-end (c ∷ []) r s g p m h e = ap (λ (q : Run). q .fed .phase) (all-one r c) ∙ last-over r c (says-one c e) (leaves-after r c [] s g p m h)
+  all-end (c ∷ d ∷ calls) r s g p m h e =
+      let o : One r c s (stream (d ∷ calls) ++ []) = here law [] r c (d ∷ calls) s g p in
+      ap (λ (q : Run). q .fed .phase) (all-more r c (d ∷ calls))
+      ∙ all-end (d ∷ calls) (after r c) (o .state) (o .going) (proper-rest c (d ∷ calls) [] p) (roomy-rest c (d ∷ calls) m) (fine-after r c (leaves-after r c (d ∷ calls) s g p m h)) (says-more c d calls e)
+
+begun-fine : (ts : List Thread) (cs ns : List (List ℕ)) → Fine (begun ts cs ns)
+unfolding begun
+begun-fine ts cs ns = few (omega arith)
+
+pub from-start-whole : (law : Law) {ts : List Thread} {cs ns : List (List ℕ)} → Lent ts cs ns → (calls : List Call) → Proper calls [] → Roomy calls → says-last calls ≡ true
+    → outputs (begun ts cs ns) calls ≡ output base-limits (stream calls)
+from-start-whole law {ts} {cs} {ns} l calls p m e =
+    from-start-ended law l calls [] p (all-end law calls (begun ts cs ns) (start base-limits) (begun-goes l) p m (begun-fine ts cs ns) e)
+    ∙ ap (output base-limits) (append-nil (stream calls))

@@ -5,3 +5,4 @@ pub mod Step
 pub mod Block
 pub mod Calls
 pub mod Fold
+pub mod Output
