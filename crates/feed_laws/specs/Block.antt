@@ -2,11 +2,11 @@
 use Prim.Native.Nat.{ℕ, zero, suc, _+_, _-_, _*_, _%_, _^_, _≤_, _<_}
 use mathlib.Core.Path.{_≡_, refl, sym, ap, subst, _∙_}
 use mathlib.Core.Bool.{Bool, true, false, cond, true≢false, false≢true}
-use mathlib.Core.List.{List, [], _∷_, _++_, append-assoc, append-nil}
-use lib.ListN.{length, take, drop, length-append, length-drop, drop-of-length-le}
+use mathlib.Core.List.{List, [], _++_, append-nil}
+use lib.ListN.{length, take, drop, length-drop, drop-of-length-le}
 use lib.Seq.{length-take-le}
 use lib.Dec.{eqb, ltb, leb}
-use borrow.Author.Tests.{lt-ltb, le-ltb, ltb-true, ltb-false, leb-true, le-leb, eqb-true, eqb-false, eq-eqb, ne-eqb}
+use borrow.Author.Tests.{le-ltb, ltb-true, ltb-false, leb-true, le-leb, eqb-true, eqb-false, eq-eqb, ne-eqb}
 use native.Mathlib.Omega.{arith}
 use native.Mathlib.Nat.{zero-add}
 use Rattle.rules.specs.Line.{both}
@@ -14,7 +14,7 @@ use Rattle.rules.specs.State.{Limits, base-limits, State}
 use Rattle.rules.specs.Commands.{step}
 use Rattle.rules.specs.Requests as rules
 use Rattle.rules.specs.Requests.{read}
-use Rattle.rules.specs.Lines.{header, end-line, no-bytes}
+use Rattle.rules.specs.Lines.{header}
 use Rattle.request.specs.Request.{limits-of}
 use Rattle.lines.specs.Lines.{room, rendered, buffer-with}
 use Rattle.lines.proofs.Laws.{rendered-whole}
@@ -26,7 +26,7 @@ use Rattle.question_laws.specs.Answers.{read-same}
 use Rattle.feed_laws.specs.Reading.{is-whole, read-more, cut-most, lines-none, some-bytes}
 use Rattle.feed_laws.specs.Length.{end-fits, header-length}
 use Rattle.feed_laws.specs.Going.{left-at, left, left-header, left-commands, left-end, left-ended, Going, Within, line-in, done-after, taken-after, length-after}
-use Rattle.feed_laws.specs.Step.{Law, step-same, step-going, step-within, step-further, step-phase}
+use Rattle.feed_laws.specs.Step.{step-same, step-going, step-within, step-further, step-phase}
 
 -- ---- what `more` says
 
@@ -71,7 +71,7 @@ pub data Leaves (last : Bool) (f : Fed) (left-over : List ℕ) : Type 0 where
   run-ended : f .phase ≡ ENDED → Leaves last f left-over
   run-waits : f .phase ≡ COMMANDS → last ≡ false → length left-over ≤ 8 → Leaves last f left-over
 
-module _ (law : Law) (bytes : List ℕ) (n : ℕ) (fits : n ≤ length bytes) (to-come : List ℕ) (last : Bool) (none-to-come : last ≡ true → to-come ≡ []) where
+module _ (bytes : List ℕ) (n : ℕ) (fits : n ≤ length bytes) (to-come : List ℕ) (last : Bool) (none-to-come : last ≡ true → to-come ≡ []) where
   abbrev block : List ℕ
   block = take n bytes
 
@@ -119,20 +119,22 @@ module _ (law : Law) (bytes : List ℕ) (n : ℕ) (fits : n ≤ length bytes) (t
     t = step s (drop (w .fed .at) block) .state
 
     stepped : OK v t
-    stepped = (step-going law bytes n fits to-come w s (k .0) (k .1) (m .commands) (m .there) (m .roomy) (alike w s k m),
-        step-within law bytes n fits to-come w s (k .0) (k .1) (m .commands) (m .there) (m .roomy) (alike w s k m))
+    stepped = (
+      step-going bytes n fits to-come w s (k .0) (k .1) (m .commands) (m .there) (m .roomy) (alike w s k m),
+      step-within bytes n fits to-come w s (k .0) (k .1) (m .commands) (m .there) (m .roomy) (alike w s k m),
+    )
 
     further : w .fed .at < v .fed .at
-    further = step-further law bytes n fits to-come w s (k .0) (k .1) (m .commands) (m .there) (m .roomy) (alike w s k m)
+    further = step-further bytes n fits to-come w s (k .0) (k .1) (m .commands) (m .there) (m .roomy) (alike w s k m)
 
     kept-then : (u : World) → Kept v u t → Kept w u s
     kept-then u r = record {
       state = r .state;
       going = r .going;
       within = r .within;
-      same = r .same ∙ step-same law bytes n fits to-come w s (k .0) (k .1) (m .commands) (m .there) (m .roomy) (alike w s k m);
+      same = r .same ∙ step-same bytes n fits to-come w s (k .0) (k .1) (m .commands) (m .there) (m .roomy) (alike w s k m);
       size = r .size ∙ length-after (w .output) (w .fed .done) _ (m .roomy);
-      begun = λ h. r .begun (step-phase law bytes n fits to-come w s (k .0) (k .1) (m .commands) (m .there) (m .roomy) (alike w s k m));
+      begun = λ h. r .begun (step-phase bytes n fits to-come w s (k .0) (k .1) (m .commands) (m .there) (m .roomy) (alike w s k m));
     }
 
   run-none : (w : World) (s : State) → OK w s → Kept w (runDef zero bytes n last w) s
@@ -207,16 +209,19 @@ module _ (law : Law) (bytes : List ℕ) (n : ℕ) (fits : n ≤ length bytes) (t
     opened-plain : headed out f ≡ false → Opened w s as-it-was
     unfolding atStart
     opened-plain e = record {
-      ok = (record {
-        history = g .history;
-        stands = g .stands;
-        reachable = g .reachable;
-        base = g .base;
-        number-fits = g .number-fits;
-        goes-on = g .goes-on;
-        refused-fits = g .refused-fits;
-        phase-fits = g .phase-fits;
-      }, record { taken = omega arith; done-fits = omega arith; small = small; short = omega arith });
+      ok = (
+        record {
+          history = g .history;
+          stands = g .stands;
+          reachable = g .reachable;
+          base = g .base;
+          number-fits = g .number-fits;
+          goes-on = g .goes-on;
+          refused-fits = g .refused-fits;
+          phase-fits = g .phase-fits;
+        },
+        record { taken = omega arith; done-fits = omega arith; small = small; short = omega arith },
+      );
       same = refl;
       size = refl;
       begun = λ r. both (eqb (f .phase) HEADER) (λ p. absurd (true≢false (rw (p, r) at e)))
@@ -249,21 +254,24 @@ module _ (law : Law) (bytes : List ℕ) (n : ℕ) (fits : n ≤ length bytes) (t
       opened-header : Opened w s with-header
       unfolding atStart withOutput
       opened-header = record {
-        ok = (record {
-          history = g .history;
-          stands = g .stands;
-          reachable = g .reachable;
-          base = g .base;
-          number-fits = g .number-fits;
-          goes-on = λ h. g .goes-on (rw is-header (omega arith));
-          refused-fits = g .refused-fits;
-          phase-fits = omega arith;
-        }, record {
-          taken = omega arith;
-          done-fits = rw (header-done, header-size) header-in;
-          small = rw header-size small;
-          short = rw (header-done, header-length) (omega arith);
-        });
+        ok = (
+          record {
+            history = g .history;
+            stands = g .stands;
+            reachable = g .reachable;
+            base = g .base;
+            number-fits = g .number-fits;
+            goes-on = λ h. g .goes-on (rw is-header (omega arith));
+            refused-fits = g .refused-fits;
+            phase-fits = omega arith;
+          },
+          record {
+            taken = omega arith;
+            done-fits = rw (header-done, header-size) header-in;
+            small = rw header-size small;
+            short = rw (header-done, header-length) (omega arith);
+          },
+        );
         same = ap (λ (l : List ℕ). l ++ left-at s COMMANDS (f .number) (f .refused) (block ++ to-come)) header-written
             ∙ sym (left-header s (f .number) (f .refused) (block ++ to-come))
             ∙ ap (λ (p : ℕ). left-at s p (f .number) (f .refused) (block ++ to-come)) (sym is-header);
@@ -415,9 +423,9 @@ module _ (law : Law) (bytes : List ℕ) (n : ℕ) (fits : n ≤ length bytes) (t
           both (ltb (then .fed .at) n)
           (λ q. let cut : whole bytes n (then .fed .at) (then .fed .state .wide) ≡ false = then-cut (ltb (then .fed .at) n) last _ (more-commands e) q l in
           let most : length (drop (then .fed .at) block) ≤ 8 =
-              cut-most (ran .state .limits) (drop (then .fed .at) block)
-              (rw (ap (λ (m : Limits). m .cpu-bytes) (ran .going .base)) (omega arith)) (rw (ap (λ (m : Limits). m .node-bytes) (ran .going .base)) (omega arith))
-              (sym (whole-is then (ran .state) ran-ok (then .fed .at)) ∙ cut) in
+          cut-most (ran .state .limits) (drop (then .fed .at) block)
+          (rw (ap (λ (m : Limits). m .cpu-bytes) (ran .going .base)) (omega arith)) (rw (ap (λ (m : Limits). m .node-bytes) (ran .going .base)) (omega arith))
+          (sym (whole-is then (ran .state) ran-ok (then .fed .at)) ∙ cut) in
           omega arith)
           (λ q. omega (arith, length-drop (then .fed .at) block, long, ltb-false (then .fed .at) n q))
 

@@ -3,15 +3,12 @@ use Prim.Native.Nat.{ℕ, _+_, _*_, _^_, _≤_, _<_}
 use mathlib.Core.Path.{_≡_}
 use mathlib.Core.Bool.{Bool, true, false}
 use mathlib.Core.List.{List, [], _∷_, _++_}
-use lib.ListN.{length, getD, take, drop}
+use lib.ListN.{length, take, drop}
 use Rattle.thread.specs.declared.Thread.{Thread}
-use Rattle.thread.specs.Thread.{NONE}
-use Rattle.processor.specs.Words.{width}
-use Rattle.tree.specs.Rows.{Sized}
 use Rattle.feed.specs.declared.fed.Fed.{Fed}
-use Rattle.feed.specs.Start.{noRoom, initial, startDef}
 use Rattle.feed.specs.Fed.{begin}
 use Rattle.feed.specs.Feed.{World, worldOf, feedDef}
+use Rattle.demands.specs.Calls.{Held}
 
 -- One call: a block of new bytes, what else stands in the input behind them, the buffer for the output, and whether it says that no byte is to come.
 pub record Call : Type 0 where
@@ -79,14 +76,6 @@ says-last (c ∷ d ∷ calls) = says-last (d ∷ calls)
 
 -- ---- the start
 
--- Memory on which `start` answers Ready: records, rows of CPUs and rows of nodes enough, each row as wide as its type says, no record numbered as none.
-pub record Lent (ts : List Thread) (cs ns : List (List ℕ)) : Type 0 where
-  pub enough : noRoom (length ts) (length cs) (length ns) ≡ false
-  pub records : length ts ≤ NONE
-  pub cpu-rows : (c : ℕ) → c < length cs → length (getD cs c []) ≡ width
-  pub node-rows : Sized ns
-
--- a run that begins on memory that `start` has made ready
-unfoldable pub begun : List Thread → List (List ℕ) → List (List ℕ) → Run
-begun ts cs ns =
-    record { threads = startDef ts cs ns .threads; cpus = startDef ts cs ns .cpus; nodes = startDef ts cs ns .nodes; fed = begin initial; left-over = [] }
+-- a run that begins on what `start` left when it answered Ready (demands' Calls says what that is)
+unfoldable pub begun : Held → Run
+begun h = record { threads = h .threads; cpus = h .cpus; nodes = h .nodes; fed = begin (h .state); left-over = [] }

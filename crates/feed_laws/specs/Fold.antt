@@ -1,23 +1,22 @@
 -- Any list of calls: what they write and what is then left to write are the rules' output. Assumes nothing.
-use Prim.Native.Nat.{ℕ, zero, suc, _+_, _-_, _*_, _^_, _≤_, _<_}
+use Prim.Native.Nat.{ℕ, _+_, _-_, _*_, _^_, _≤_, _<_}
 use mathlib.Core.Path.{_≡_, refl, sym, ap, subst, _∙_}
-use mathlib.Core.Bool.{Bool, true, false, true≢false, false≢true}
+use mathlib.Core.Bool.{true, true≢false, false≢true}
 use mathlib.Core.List.{List, [], _∷_, _++_, append-assoc, append-nil}
 use lib.ListN.{length, take, drop, length-append}
 use lib.Seq.{take-append-seam}
 use native.Mathlib.Omega.{arith}
 use Rattle.rules.specs.State.{base-limits, State, start}
 use Rattle.rules.specs.Lines.{output}
-use Rattle.thread.specs.declared.Thread.{Thread}
-use Rattle.feed.specs.Start.{initial}
-use Rattle.feed.specs.Fed.{HEADER, COMMANDS, END, ENDED, begin}
+use Rattle.feed.specs.declared.fed.Fed.{Fed}
+use Rattle.feed.specs.Fed.{ENDED, begin}
 use Rattle.feed.specs.Feed.{World, worldOf, feedDef}
-use Rattle.question_laws.specs.Started.{start-stands}
 use Rattle.command_laws.specs.Law.{reachable-start}
+use Rattle.demands.specs.Calls.{Held, Ready}
+use Rattle.demands.specs.Kept.{ready-stands}
 use Rattle.feed_laws.specs.Going.{left-at, left, left-ended, Going}
-use Rattle.feed_laws.specs.Step.{Law}
 use Rattle.feed_laws.specs.Block.{Called, called, Leaves, run-ended, run-waits, leaves, stays-ended}
-use Rattle.feed_laws.specs.Calls.{Call, Run, in-hand, fed-by, after, output-of, after-all, outputs, stream, Proper, Roomy, says-last, Lent, begun}
+use Rattle.feed_laws.specs.Calls.{Call, Run, in-hand, fed-by, after, output-of, after-all, outputs, stream, Proper, Roomy, says-last, begun}
 
 abbrev Goes : Run → State → Type 0
 Goes r s = Going (r .threads) (r .cpus) (r .nodes) (r .fed) s
@@ -29,7 +28,7 @@ record One (r : Run) (c : Call) (s : State) (to-come : List ℕ) : Type 0 where
   going : Goes (after r c) state
   same : output-of r c ++ left state (after r c .fed) (after r c .left-over ++ to-come) ≡ left s (r .fed) (in-hand r c ++ to-come)
 
-module _ (law : Law) (r : Run) (c : Call) (s : State) (g : Goes r s) (small : length (c .buffer) < 2 ^ 64) (to-come : List ℕ) (none-to-come : c .last ≡ true → to-come ≡ []) where
+module _ (r : Run) (c : Call) (s : State) (g : Goes r s) (small : length (c .buffer) < 2 ^ 64) (to-come : List ℕ) (none-to-come : c .last ≡ true → to-come ≡ []) where
   abbrev hand : List ℕ
   hand = in-hand r c
 
@@ -42,8 +41,8 @@ module _ (law : Law) (r : Run) (c : Call) (s : State) (g : Goes r s) (small : le
   front : take (length hand) (hand ++ c .behind) ≡ hand
   front = take-append-seam hand (c .behind)
 
-  made : Called law (hand ++ c .behind) (length hand) fits to-come (c .last) none-to-come (left s (r .fed) (take (length hand) (hand ++ c .behind) ++ to-come)) (feedDef (hand ++ c .behind) (length hand) (c .last) world)
-  made = called law (hand ++ c .behind) (length hand) fits to-come (c .last) none-to-come world s g small
+  made : Called (hand ++ c .behind) (length hand) fits to-come (c .last) none-to-come (left s (r .fed) (take (length hand) (hand ++ c .behind) ++ to-come)) (feedDef (hand ++ c .behind) (length hand) (c .last) world)
+  made = called (hand ++ c .behind) (length hand) fits to-come (c .last) none-to-come world s g small
 
   one : One r c s to-come
   unfolding after output-of fed-by
@@ -60,7 +59,7 @@ module _ (law : Law) (r : Run) (c : Call) (s : State) (g : Goes r s) (small : le
   unfolding after fed-by
   one-leaves h =
       let w : World = feedDef (hand ++ c .behind) (length hand) (c .last) world in
-      subst (λ (b : List ℕ). Leaves (c .last) (w .fed) (drop (w .fed .at) b)) front (leaves law (hand ++ c .behind) (length hand) fits to-come (c .last) none-to-come world s g small h)
+      subst (λ (b : List ℕ). Leaves (c .last) (w .fed) (drop (w .fed .at) b)) front (leaves (hand ++ c .behind) (length hand) fits to-come (c .last) none-to-come world s g small h)
 
 -- ---- a list of calls
 
@@ -85,9 +84,9 @@ proper-rest : (c : Call) (calls : List Call) (to-come : List ℕ) → Proper (c 
 unfolding Proper
 proper-rest c calls to-come p = p .1 .1
 
-module _ (law : Law) (to-come : List ℕ) where
+module _ (to-come : List ℕ) where
   here : (r : Run) (c : Call) (calls : List Call) (s : State) → Goes r s → Proper (c ∷ calls) to-come → One r c s (stream calls ++ to-come)
-  here r c calls s g p = one law r c s g (proper-small c calls to-come p) (stream calls ++ to-come) (proper-last c calls to-come p)
+  here r c calls s g p = one r c s g (proper-small c calls to-come p) (stream calls ++ to-come) (proper-last c calls to-come p)
 
   all-then : (r : Run) (c : Call) (calls : List Call) (s : State) (o : One r c s (stream calls ++ to-come))
       → All (after r c) calls to-come (left (o .state) (after r c .fed) (after r c .left-over ++ (stream calls ++ to-come)))
@@ -108,33 +107,36 @@ module _ (law : Law) (to-come : List ℕ) where
 
 -- ---- from the start
 
-begun-goes : {ts : List Thread} {cs ns : List (List ℕ)} → Lent ts cs ns → Goes (begun ts cs ns) (start base-limits)
+begun-goes : (h : Held) → Ready h → Goes (begun h) (start base-limits)
 unfolding begun begin start
-begun-goes {ts} {cs} {ns} l = record {
+begun-goes h r = record {
   history = _;
-  stands = start-stands ts cs ns (l .enough) (l .records) (l .cpu-rows) (l .node-rows);
+  stands = ready-stands h r;
   reachable = reachable-start base-limits;
   base = refl;
   number-fits = omega arith;
-  goes-on = λ h. omega arith;
+  goes-on = λ i. omega arith;
   refused-fits = omega arith;
   phase-fits = omega arith;
 }
 
-begun-left : (ts : List Thread) (cs ns : List (List ℕ)) (bytes : List ℕ) → left (start base-limits) (begun ts cs ns .fed) (begun ts cs ns .left-over ++ bytes) ≡ output base-limits bytes
+begun-left : (h : Held) (bytes : List ℕ) → left (start base-limits) (begun h .fed) (begun h .left-over ++ bytes) ≡ output base-limits bytes
 unfolding begun begin left-at output
-begun-left ts cs ns bytes = refl
+begun-left h bytes = refl
 
-module _ (law : Law) {ts : List Thread} {cs ns : List (List ℕ)} (l : Lent ts cs ns) (calls : List Call) (to-come : List ℕ) (p : Proper calls to-come) where
-  pub from-start : All (begun ts cs ns) calls to-come (output base-limits (stream calls ++ to-come))
-  from-start = subst (λ (o : List ℕ). All (begun ts cs ns) calls to-come o) (begun-left ts cs ns (stream calls ++ to-come)) (all-calls law to-come calls (begun ts cs ns) (start base-limits) (begun-goes l) p)
+module _ (h : Held) (r : Ready h) (calls : List Call) (to-come : List ℕ) (p : Proper calls to-come) where
+  pub from-start : All (begun h) calls to-come (output base-limits (stream calls ++ to-come))
+  from-start =
+      subst (λ (o : List ℕ). All (begun h) calls to-come o) (begun-left h (stream calls ++ to-come))
+      (all-calls to-come calls (begun h) (start base-limits) (begun-goes h r) p)
 
-  pub from-start-ended : after-all (begun ts cs ns) calls .fed .phase ≡ ENDED → outputs (begun ts cs ns) calls ≡ output base-limits (stream calls ++ to-come)
+  pub from-start-ended : after-all (begun h) calls .fed .phase ≡ ENDED → outputs (begun h) calls ≡ output base-limits (stream calls ++ to-come)
   from-start-ended e =
-      let f = after-all (begun ts cs ns) calls .fed in
-      let b : List ℕ = after-all (begun ts cs ns) calls .left-over ++ to-come in
-      sym (append-nil (outputs (begun ts cs ns) calls))
-      ∙ ap (λ (r : List ℕ). outputs (begun ts cs ns) calls ++ r) (sym (ap (λ (q : ℕ). left-at (from-start .state) q (f .number) (f .refused) b) e ∙ left-ended (from-start .state) (f .number) (f .refused) b))
+      let f : Fed = after-all (begun h) calls .fed in
+      let b : List ℕ = after-all (begun h) calls .left-over ++ to-come in
+      sym (append-nil (outputs (begun h) calls))
+      ∙ ap (λ (l : List ℕ). outputs (begun h) calls ++ l)
+      (sym (ap (λ (q : ℕ). left-at (from-start .state) q (f .number) (f .refused) b) e ∙ left-ended (from-start .state) (f .number) (f .refused) b))
       ∙ from-start .same
 
 -- ---- with large buffers the run ends
@@ -183,29 +185,28 @@ says-none : says-last [] ≡ true → ⊥
 unfolding says-last
 says-none e = false≢true e
 
-module _ (law : Law) where
-  leaves-after : (r : Run) (c : Call) (calls : List Call) (s : State) → Goes r s → Proper (c ∷ calls) [] → Roomy (c ∷ calls) → Fine r
-      → Leaves (c .last) (after r c .fed) (after r c .left-over)
-  unfolding in-hand
-  leaves-after r c calls s g p m (over e) = run-ended (ended-stays r c e)
-  leaves-after r c calls s g p m (few h) =
-      one-leaves law r c s g (proper-small c calls [] p) (stream calls ++ []) (proper-last c calls [] p)
-      (omega (arith, roomy-first c calls m, length-append (r .left-over) (c .block)))
+leaves-after : (r : Run) (c : Call) (calls : List Call) (s : State) → Goes r s → Proper (c ∷ calls) [] → Roomy (c ∷ calls) → Fine r
+    → Leaves (c .last) (after r c .fed) (after r c .left-over)
+unfolding in-hand
+leaves-after r c calls s g p m (over e) = run-ended (ended-stays r c e)
+leaves-after r c calls s g p m (few h) =
+    one-leaves r c s g (proper-small c calls [] p) (stream calls ++ []) (proper-last c calls [] p)
+    (omega (arith, roomy-first c calls m, length-append (r .left-over) (c .block)))
 
-  all-end : (calls : List Call) (r : Run) (s : State) → Goes r s → Proper calls [] → Roomy calls → Fine r → says-last calls ≡ true → after-all r calls .fed .phase ≡ ENDED
-  all-end [] r s g p m h e = absurd (says-none e)
-  all-end (c ∷ []) r s g p m h e = ap (λ (q : Run). q .fed .phase) (all-one r c) ∙ last-over r c (says-one c e) (leaves-after r c [] s g p m h)
-  all-end (c ∷ d ∷ calls) r s g p m h e =
-      let o : One r c s (stream (d ∷ calls) ++ []) = here law [] r c (d ∷ calls) s g p in
-      ap (λ (q : Run). q .fed .phase) (all-more r c (d ∷ calls))
-      ∙ all-end (d ∷ calls) (after r c) (o .state) (o .going) (proper-rest c (d ∷ calls) [] p) (roomy-rest c (d ∷ calls) m) (fine-after r c (leaves-after r c (d ∷ calls) s g p m h)) (says-more c d calls e)
+all-end : (calls : List Call) (r : Run) (s : State) → Goes r s → Proper calls [] → Roomy calls → Fine r → says-last calls ≡ true → after-all r calls .fed .phase ≡ ENDED
+all-end [] r s g p m h e = absurd (says-none e)
+all-end (c ∷ []) r s g p m h e = ap (λ (q : Run). q .fed .phase) (all-one r c) ∙ last-over r c (says-one c e) (leaves-after r c [] s g p m h)
+all-end (c ∷ d ∷ calls) r s g p m h e =
+    let o : One r c s (stream (d ∷ calls) ++ []) = here [] r c (d ∷ calls) s g p in
+    ap (λ (q : Run). q .fed .phase) (all-more r c (d ∷ calls))
+    ∙ all-end (d ∷ calls) (after r c) (o .state) (o .going) (proper-rest c (d ∷ calls) [] p) (roomy-rest c (d ∷ calls) m) (fine-after r c (leaves-after r c (d ∷ calls) s g p m h)) (says-more c d calls e)
 
-begun-fine : (ts : List Thread) (cs ns : List (List ℕ)) → Fine (begun ts cs ns)
+begun-fine : (h : Held) → Fine (begun h)
 unfolding begun
-begun-fine ts cs ns = few (omega arith)
+begun-fine h = few (omega arith)
 
-pub from-start-whole : (law : Law) {ts : List Thread} {cs ns : List (List ℕ)} → Lent ts cs ns → (calls : List Call) → Proper calls [] → Roomy calls → says-last calls ≡ true
-    → outputs (begun ts cs ns) calls ≡ output base-limits (stream calls)
-from-start-whole law {ts} {cs} {ns} l calls p m e =
-    from-start-ended law l calls [] p (all-end law calls (begun ts cs ns) (start base-limits) (begun-goes l) p m (begun-fine ts cs ns) e)
+pub from-start-whole : (h : Held) → Ready h → (calls : List Call) → Proper calls [] → Roomy calls → says-last calls ≡ true
+    → outputs (begun h) calls ≡ output base-limits (stream calls)
+from-start-whole h r calls p m e =
+    from-start-ended h r calls [] p (all-end calls (begun h) (start base-limits) (begun-goes h r) p m (begun-fine h) e)
     ∙ ap (output base-limits) (append-nil (stream calls))

@@ -1,29 +1,24 @@
 -- What holds of a run between and within calls of `feed`, and what is left to write. Assumes nothing.
-use Prim.Native.Nat.{ℕ, zero, suc, _+_, _-_, _*_, _%_, _^_, _≤_, _<_, min}
-use mathlib.Core.Path.{_≡_, refl, sym, ap, subst, _∙_}
-use mathlib.Core.Bool.{Bool, true, false, cond}
-use mathlib.Core.List.{List, [], _∷_, _++_, append-assoc}
+use Prim.Native.Nat.{ℕ, suc, _+_, _-_, _*_, _%_, _^_, _≤_, _<_}
+use mathlib.Core.Path.{_≡_, refl, ap, _∙_}
+use mathlib.Core.Bool.{true, cond}
+use mathlib.Core.List.{List, [], _++_}
 use lib.ListN.{length, take, drop, length-append}
-use lib.Seq.{sets, length-sets, take-at, length-take-le}
-use lib.Dec.{eqb, ltb, leb}
+use lib.Seq.{length-sets, take-at, length-take-le}
+use lib.Dec.{eqb}
 use borrow.Author.Tests.{leb-true}
 use native.Mathlib.Omega.{arith}
 use native.Mathlib.Nat.{mod-eq-of-lt}
 use Rattle.rules.specs.Puts.{PutOrTake}
 use Rattle.rules.specs.State.{base-limits, State}
-use Rattle.rules.specs.Commands.{step}
-use Rattle.rules.specs.Requests.{read}
-use Rattle.rules.specs.Lines.{header, end-line, lines-from, used}
+use Rattle.rules.specs.Lines.{header, end-line, lines-from}
 use Rattle.thread.specs.declared.Thread.{Thread}
-use Rattle.lines.specs.declared.Rendered.the-variants as render
 use Rattle.lines.specs.Lines.{room, rendered, buffer-with}
 use Rattle.lines.proofs.Laws.{rendered-whole, buffer-whole}
-use Rattle.questions.specs.declared.state.State as questions
-use Rattle.command.specs.Command.{commandDef}
 use Rattle.feed.specs.declared.fed.Fed.{Fed}
 use Rattle.feed.specs.Fed.{HEADER, COMMANDS, END, ENDED, written}
 use Rattle.question_laws.specs.Stands.{Stands}
-use Rattle.command_laws.specs.Law.{Reachable, As-ruled}
+use Rattle.command_laws.specs.Law.{Reachable}
 
 -- ---- what is left to write, in state s and phase p, for the bytes that are not taken yet
 

@@ -1,7 +1,6 @@
 -- No line is longer than 48 bytes, the least buffer that is written to: neither the line of any command nor the end line. Assumes nothing.
-use Prim.Native.Nat.{ℕ, zero, suc, _+_, _/_, _%_, _^_, _≤_, _<_}
-use mathlib.Core.Path.{_≡_, refl, sym, ap, subst, _∙_}
-use mathlib.Core.Bool.{Bool, true, false, cond}
+use Prim.Native.Nat.{ℕ, zero, suc, _+_, _/_, _^_, _≤_, _<_}
+use mathlib.Core.Path.{_≡_, refl, ap}
 use mathlib.Core.Option.{Option, none, some}
 use mathlib.Core.List.{List, [], _∷_, _++_}
 use lib.ListN.{length, length-append}
@@ -12,11 +11,10 @@ use Rattle.rules.specs.Line.{both, distinct-length}
 use Rattle.rules.specs.Puts.{PutOrTake}
 use Rattle.rules.specs.Queue.{order, load}
 use Rattle.rules.specs.State.{Limits, base-limits, State}
-use Rattle.rules.specs.Schedule as sched
-use Rattle.rules.specs.Schedule.{World, Got}
+use Rattle.rules.specs.Schedule.{World}
 use Rattle.rules.specs.Requests.{Request, declare-cpu, add-node, place-cpu, seal, declare-thread, set-tick, schedule-thread, schedule, hardtick, stattick, resched, maybe-preempt, donate, remove-donation, set-critical, Reading, unknown, cut-short, asks, read}
 use Rattle.rules.specs.Questions.{concerning, first-no, room, refusal}
-use Rattle.rules.specs.Commands.{Running, thread, idle, Answer, Step, nothing-shown, running-of, shown, refuses, changed, world-of, ran, ran-on, scheduled-on, schedules, obeys, answered, step}
+use Rattle.rules.specs.Commands.{Running, thread, idle, Answer, nothing-shown, running-of, shown, refuses, changed, world-of, ran, ran-on, scheduled-on, schedules, obeys, answered, step}
 use Rattle.rules.specs.Sound.{Under}
 use Rattle.rules.specs.Steps.{select-cpu-selected}
 use Rattle.rules.specs.Reached.{Reached, reached-step, runs-below}
@@ -29,12 +27,12 @@ use Rattle.lines.proofs.Laws.{Below, Runs-below}
 
 -- ---- what a command shows is within the limits
 
-record Within (l : Limits) (a : Answer) : Type 0 where
+record Shown-within (l : Limits) (a : Answer) : Type 0 where
   cpu : Below (l .cpus) (a .cpu)
   running : Runs-below (l .threads) (a .running)
   load : Below (suc (l .threads)) (a .load)
 
-within-nothing : (l : Limits) (n : ℕ) → Within l (nothing-shown n)
+within-nothing : (l : Limits) (n : ℕ) → Shown-within l (nothing-shown n)
 unfolding nothing-shown Below Runs-below
 within-nothing l n = record { cpu = tt; running = tt; load = tt }
 
@@ -44,7 +42,7 @@ running-within limit none h = tt
 running-within limit (some x) h = h x refl
 
 module _ {H : ℕ → List PutOrTake} (s : State) where
-  ran-within : (w : World) (c : ℕ) → Reached H (ran s w (shown w c) .state) → c < s .limits .cpus → Within (s .limits) (ran s w (shown w c) .answer)
+  ran-within : (w : World) (c : ℕ) → Reached H (ran s w (shown w c) .state) → c < s .limits .cpus → Shown-within (s .limits) (ran s w (shown w c) .answer)
   unfolding ran shown Below load world-of
   ran-within w c r h = record {
     cpu = h;
@@ -56,13 +54,13 @@ module _ {H : ℕ → List PutOrTake} (s : State) where
   }
 
   scheduled-within : (us x : ℕ) (w : World) (o : Option ℕ) → us < s .limits .cpus → Under (s .limits .cpus) o → Reached H (scheduled-on s us x w o .state)
-      → Within (s .limits) (scheduled-on s us x w o .answer)
+      → Shown-within (s .limits) (scheduled-on s us x w o .answer)
   unfolding scheduled-on Under
   scheduled-within us x w none h u r = ran-within w us r h
   scheduled-within us x w (some c) h u r = ran-within _ c r u
 
   obeyed-within : {G : ℕ → List PutOrTake} (q : Request) → Reached G s → first-no (concerning s q ++ (room s ∷ [])) ≡ 0 → Reached H (obeys s q .state)
-      → Within (s .limits) (obeys s q .answer)
+      → Shown-within (s .limits) (obeys s q .answer)
   unfolding obeys changed concerning ran-on schedules
   obeyed-within (declare-cpu c) g e r = within-nothing (s .limits) 0
   obeyed-within (add-node p k) g e r = within-nothing (s .limits) 0
@@ -83,7 +81,7 @@ module _ {H : ℕ → List PutOrTake} (s : State) where
   obeyed-within (remove-donation x) g e r = within-nothing (s .limits) 0
   obeyed-within (set-critical x m) g e r = within-nothing (s .limits) 0
 
-  answered-within : {G : ℕ → List PutOrTake} (q : Reading) → Reached G s → Reached H (answered s q .state) → Within (s .limits) (answered s q .answer)
+  answered-within : {G : ℕ → List PutOrTake} (q : Reading) → Reached G s → Reached H (answered s q .state) → Shown-within (s .limits) (answered s q .answer)
   unfolding answered refuses refusal
   answered-within unknown g r = within-nothing (s .limits) 1
   answered-within cut-short g r = within-nothing (s .limits) 2
@@ -92,7 +90,7 @@ module _ {H : ℕ → List PutOrTake} (s : State) where
       (λ e. rw e (obeyed-within q g (eqb-true _ 0 e) (rw e at r)))
       (λ e. rw e (within-nothing (s .limits) _))
 
-step-within : {H : ℕ → List PutOrTake} (s : State) (bytes : List ℕ) → Reached H s → Within (s .limits) (step s bytes .answer)
+step-within : {H : ℕ → List PutOrTake} (s : State) (bytes : List ℕ) → Reached H s → Shown-within (s .limits) (step s bytes .answer)
 unfolding step
 step-within s bytes r = answered-within s (read (s .limits) bytes) r (reached-step bytes r)
 
@@ -142,7 +140,7 @@ refusal-most refusal.NotPlaced = omega arith
 refusal-most refusal.TooMany = omega arith
 refusal-most refusal.SmallBuffer = omega arith
 
-line-most : (l : Limits) (number : ℕ) (a : Answer) → l .cpus ≤ 100 → l .threads < 10000 → number < 2 ^ 32 → a .refused ≤ 11 → Within l a → length (line number a) ≤ 48
+line-most : (l : Limits) (number : ℕ) (a : Answer) → l .cpus ≤ 100 → l .threads < 10000 → number < 2 ^ 32 → a .refused ≤ 11 → Shown-within l a → length (line number a) ≤ 48
 unfolding line space line-feed
 line-most l number a cpus threads h r w =
     simp length-append

@@ -5,4 +5,6 @@ pub mod Step
 pub mod Block
 pub mod Calls
 pub mod Fold
+pub mod EndLine
 pub mod Output
+pub mod Witness

@@ -1,10 +1,10 @@
 -- A command that stands whole at the front of some bytes reads the same whatever comes behind them; and how much it takes. Assumes nothing.
-use Prim.Native.Nat.{ℕ, zero, suc, _+_, _-_, _≤_, _<_}
-use mathlib.Core.Path.{_≡_, refl, sym, ap, subst, _∙_}
-use mathlib.Core.Bool.{Bool, true, false, cond, _||_, true≢false, false≢true}
+use Prim.Native.Nat.{ℕ, zero, suc, _+_, _-_, _≤_}
+use mathlib.Core.Path.{_≡_, refl, sym, ap, _∙_}
+use mathlib.Core.Bool.{Bool, true, false, cond, true≢false, false≢true}
 use mathlib.Core.Option.{Option, none, some}
-use mathlib.Core.List.{List, [], _∷_, _++_, append-nil}
-use lib.ListN.{length, take, drop, length-append, length-drop}
+use mathlib.Core.List.{List, [], _∷_, _++_}
+use lib.ListN.{length, length-append, length-drop}
 use lib.Seq.{drop-append-le}
 use lib.Dec.{eqb, ltb}
 use borrow.Author.Tests.{ltb-true, ltb-false}
@@ -13,10 +13,10 @@ use Rattle.rules.specs.Line.{both}
 use Rattle.rules.specs.State.{Limits, State}
 use Rattle.rules.specs.Requests.{operand, past, at-least, sum, operands, widths, request, Reading, unknown, cut-short, asks, read-operands, read}
 use Rattle.rules.specs.Questions.{refusal}
-use Rattle.rules.specs.Commands.{Answer, Step, step, answered}
+use Rattle.rules.specs.Commands.{step}
 use Rattle.rules.specs.Refused.{refused-number}
 use Rattle.rules.specs.Lines.{line, end-line, used, ends, refused-by, no-bytes, lines-from}
-use Rattle.request.proofs.Bytes.{past-drop, enough, too-few}
+use Rattle.request.proofs.Bytes.{past-drop, enough}
 
 -- not cut short
 unfoldable pub is-whole : Reading → Bool

@@ -1,43 +1,31 @@
 -- One command of a block. Assumes nothing.
-use Prim.Native.Nat.{ℕ, zero, suc, _+_, _-_, _*_, _%_, _^_, _≤_, _<_, min}
-use mathlib.Core.Path.{_≡_, refl, sym, ap, subst, _∙_}
-use mathlib.Core.Bool.{Bool, true, false, cond, _||_, true≢false}
+use Prim.Native.Nat.{ℕ, suc, _+_, _-_, _≤_, _<_}
+use mathlib.Core.Path.{_≡_, refl, sym, ap, _∙_}
+use mathlib.Core.Bool.{Bool, true, false, cond, true≢false}
 use mathlib.Core.List.{List, [], _∷_, _++_, append-assoc}
 use lib.ListN.{length, take, drop, length-append, length-drop}
-use lib.Seq.{drop-drop, drop-append-le, length-take-le}
-use lib.Dec.{eqb, ltb, leb}
-use borrow.Author.Tests.{lt-ltb, le-ltb, ltb-true, ltb-false, eqb-false, eqb-true}
+use lib.Seq.{drop-drop, length-take-le}
+use lib.Dec.{eqb, ltb}
+use borrow.Author.Tests.{ltb-true, ltb-false, eqb-false, eqb-true}
 use native.Mathlib.Omega.{arith}
 use native.Mathlib.Nat.{mod-eq-of-lt}
 use Rattle.rules.specs.Line.{both}
-use Rattle.rules.specs.Puts.{PutOrTake}
-use Rattle.rules.specs.State.{Limits, base-limits, State}
+use Rattle.rules.specs.State.{State}
 use Rattle.rules.specs.Reached.{limits-kept}
-use Rattle.rules.specs.Commands.{Answer, Step, step, answered, after-calls}
+use Rattle.rules.specs.Commands.{Answer, Step, step, after-calls}
 use Rattle.rules.specs.Requests.{read, past}
-use Rattle.rules.specs.Lines.{header, line, end-line, lines-from, used, ends, refused-by, no-bytes, last-number}
-use Rattle.thread.specs.declared.Thread.{Thread}
+use Rattle.rules.specs.Lines.{line, end-line, lines-from, used, ends, refused-by, last-number}
 use Rattle.request.proofs.Bytes.{past-drop}
-use Rattle.lines.specs.Lines.{refusal-number, answer-of, room, rendered, buffer-with}
-use Rattle.lines.specs.declared.Answer as declared
-use Rattle.questions.specs.declared.state.State as questions
-use Rattle.command.specs.declared.answer.Answered.{Answered}
-use Rattle.command.specs.Command.{After, commandDef}
+use Rattle.lines.specs.Lines.{refusal-number, answer-of, room}
+use Rattle.command.specs.Command.{After}
 use Rattle.feed.specs.declared.fed.Fed.{Fed}
-use Rattle.feed.specs.Fed.{HEADER, COMMANDS, END, ENDED, written, endsBy, phaseAfter, atLeastOne, nextAt, oneIf, counted, lineOf, answeredFed}
-use Rattle.feed.specs.Feed.{World, worldOf, nextDef, stepDef}
-use Rattle.question_laws.specs.Stands.{Stands}
-use Rattle.command_laws.specs.Law.{Reachable, As-ruled, reachable-step}
-use Rattle.feed_laws.specs.Reading.{is-whole, read-more, past-more, past-length, used-most, used-one, lines-step, turns, some-bytes}
+use Rattle.feed.specs.Fed.{COMMANDS, END, ENDED, endsBy, phaseAfter, atLeastOne, nextAt, oneIf, counted, lineOf, answeredFed}
+use Rattle.feed.specs.Feed.{World, nextDef, stepDef}
+use Rattle.command_laws.specs.Law.{As-ruled, reachable-step}
+use Rattle.command_laws.specs.Command.{command-law, command-used}
+use Rattle.feed_laws.specs.Reading.{past-more, past-length, used-most, used-one, lines-step, turns, some-bytes}
 use Rattle.feed_laws.specs.Length.{line-fits}
 use Rattle.feed_laws.specs.Going.{left-at, left, left-commands, left-end, Going, Within, line-in, done-after, taken-after, length-after}
-
--- the law of one call
-pub record Law : Type 0 where
-  pub command-law : {H : ℕ → List PutOrTake} {ts : List Thread} {cs ns : List (List ℕ)} {a : questions.State} {s : State} → Stands ts cs ns a s → Reachable H s
-      → (bytes : List ℕ) (n at : ℕ) → As-ruled (commandDef ts cs ns bytes n at a) (step s (drop at (take n bytes)))
-  pub command-used : {H : ℕ → List PutOrTake} {ts : List Thread} {cs ns : List (List ℕ)} {a : questions.State} {s : State} → Stands ts cs ns a s → Reachable H s
-      → (bytes : List ℕ) (n at : ℕ) → commandDef ts cs ns bytes n at a .outcome .used ≡ used (read (s .limits) (drop at (take n bytes)))
 
 -- ---- the rules' lines, where the command stands whole in the block b, with more behind it
 
@@ -100,9 +88,9 @@ module _ (s : State) (block more : List ℕ) (at : ℕ) (there : at < length blo
       let one : 1 ≤ c = used-one s b number f in
       let most : c ≤ length b = used-most (s .limits) b in
       let past-it : drop (nextAt n at u false) block ++ more ≡ past c (b ++ more) =
-          ap (λ (v : ℕ). drop (nextAt n at v false) block ++ more) i
-          ∙ ap (λ (v : ℕ). drop v block ++ more) (next-on n at c (omega arith) one (omega (arith, length-drop at block)))
-          ∙ next-bytes block more at c most in
+      ap (λ (v : ℕ). drop (nextAt n at v false) block ++ more) i
+      ∙ ap (λ (v : ℕ). drop v block ++ more) (next-on n at c (omega arith) one (omega (arith, length-drop at block)))
+      ∙ next-bytes block more at c most in
       ap (λ (p : ℕ). left-at (step s b .state) p number′ refused′ (drop (nextAt n at u false) block ++ more)) commands-after
       ∙ rw (k, l, past-it)
       (left-commands (step s b .state) (number + 1) (refused + refused-by (step s b .answer)) (past c (b ++ more))
@@ -154,7 +142,7 @@ next-further n at u false h =
     (λ e. let z : u ≡ 0 → ⊥ = eqb-false u 0 e in
     both (ltb u (n - at)) (λ f. rw (e, f) (omega arith, omega (arith, ltb-true u (n - at) f))) (λ f. rw (e, f) (omega arith, omega arith)))
 
-module _ (law : Law) (bytes : List ℕ) (n : ℕ) (fits : n ≤ length bytes) (to-come : List ℕ) (w : World) (s : State)
+module _ (bytes : List ℕ) (n : ℕ) (fits : n ≤ length bytes) (to-come : List ℕ) (w : World) (s : State)
     (g : Going (w .threads) (w .cpus) (w .nodes) (w .fed) s) (i : Within n (w .output) (w .fed))
     (p : w .fed .phase ≡ COMMANDS) (h : w .fed .at < n) (there : room (w .output) (w .fed .done) ≡ true)
     (alike : read (s .limits) (drop (w .fed .at) (take n bytes) ++ to-come) ≡ read (s .limits) (drop (w .fed .at) (take n bytes))) where
@@ -180,7 +168,7 @@ module _ (law : Law) (bytes : List ℕ) (n : ℕ) (fits : n ≤ length bytes) (t
   in-it = rw long h
 
   ruled : As-ruled next st
-  ruled = law .command-law (g .stands) (g .reachable) bytes n (f .at)
+  ruled = command-law (g .stands) (g .reachable) bytes n (f .at)
 
   refused-is : refusal-number (next .outcome .answer .refusal) ≡ st .answer .refused
   unfolding answer-of
@@ -223,7 +211,7 @@ module _ (law : Law) (bytes : List ℕ) (n : ℕ) (fits : n ≤ length bytes) (t
   unfolding answeredFed counted
   left-is =
       after-same s block to-come (f .at) in-it alike (f .number) (f .refused) ended (next .outcome .used) n (v .fed .number) (v .fed .refused)
-      ended-is (law .command-used (g .stands) (g .reachable) bytes n (f .at)) (sym long) number-is refused-now
+      ended-is (command-used (g .stands) (g .reachable) bytes n (f .at)) (sym long) number-is refused-now
 
   pub step-same : take (v .fed .done) (v .output) ++ left (st .state) (v .fed) (drop (v .fed .at) block ++ to-come)
       ≡ take (f .done) (w .output) ++ left s f (drop (f .at) block ++ to-come)
