@@ -21,6 +21,7 @@ use Rattle.rules.specs.Schedule as sched
 use Rattle.rules.specs.Schedule.{World, Got, Balancing, with-cpu, with-thread, with-draws, set-rebalance, pinned-in}
 use Rattle.rules.specs.Sound.{at-here, at-there, waits, Sound, Same, New, Taken, not-true-is, alike-queue, alike-reset, same-free, same-then, same-cpu-changed, same-thread-changed, same-wakeup, sound-same, sound-insert, take-taken}
 use Rattle.rules.specs.Steps.{nobody-but}
+use Rattle.rules.specs.Held.{has-head}
 use Rattle.thread.specs.declared.Thread.{Thread}
 use Rattle.thread.specs.Thread.{NONE}
 use Rattle.thread.specs.Time.{moving-to-queue}
@@ -32,7 +33,6 @@ use Rattle.runqueue.specs.RunQueue.{rqFront}
 use Rattle.processor.specs.Words.{word, put-word}
 use Rattle.processor.specs.Queue.{queueAt}
 use Rattle.processor.specs.Cpu as cpu
-use Rattle.represent.specs.Linked.{has-first}
 use Rattle.lent.specs.declared.rq.Taken as lent
 use Rattle.lent.specs.declared.rq.Taken.the-variants as taken
 use Rattle.lent.specs.Rq.{recordAt, Took, tookFrom, takeDef}
@@ -145,7 +145,7 @@ module _ (limits : Limits) (topology : Topology) (tick us : ℕ) (known : ℕ �
   handed-waited w c s x d (next-in p j y) a e =
       let z : y ≡ x = cc in
       ap (has x) (asked-head (pinned-in w) (w .cpus c .queue) s p j y (d .kept c .fits .shape) a .first)
-      ∙ ap (λ v. has x (v ∷ order (leave p (w .cpus c .queue) j))) z ∙ has-first x (order (leave p (w .cpus c .queue) j))
+      ∙ ap (λ v. has x (v ∷ order (leave p (w .cpus c .queue) j))) z ∙ has-head x (order (leave p (w .cpus c .queue) j))
 
   handed-counts : (w : World) (c : ℕ) (s : Bool) (n : Next) → sched.handed-out limits topology tick us w c s n .world .wakeups ≡ w .wakeups
   unfolding sched.handed-out sched.noted sched.with-cpu
