@@ -49,7 +49,7 @@ first-in n test (c ∷ l) b = both (test c) (λ e. rw e (b .0)) (λ e. rw e (fir
 
 -- ---- what a take answers
 
-nobody-moved : (d : ℕ) (D : Took) → D .answer ≡ taken.Nobody → movedFor d D ≡ D
+pub nobody-moved : (d : ℕ) (D : Took) → D .answer ≡ taken.Nobody → movedFor d D ≡ D
 unfolding movedFor isNobody
 nobody-moved d D e = ap (λ (a : lent.Taken). cond (isNobody a) D (record {
   answer = D .answer;
