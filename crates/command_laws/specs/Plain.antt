@@ -24,14 +24,9 @@ use Rattle.command.specs.Answer.{accepted, nothing-shown, changed}
 use Rattle.command.specs.Call.{pin-number, call-of, priority-in, ticked, sealed-now, one-node-more}
 use Rattle.command.specs.Command.{prepares, declareThread, removeDonation, criticalDef, obeyDef}
 use Rattle.question_laws.specs.Stands.{limits-in, Stands}
-use Rattle.question_laws.specs.Changes.{Counted, pin-of, stands-declare-cpu, stands-add-node, stands-place-cpu, stands-seal, stands-declare-thread, stands-set-tick, stands-remove-donation, stands-set-critical}
+use Rattle.question_laws.specs.Changes.{Counted, stands-declare-cpu, stands-add-node, stands-place-cpu, stands-seal, stands-declare-thread, stands-set-tick, stands-remove-donation, stands-set-critical}
 use Rattle.command_laws.specs.Law.{Reachable, As-ruled}
 use Rattle.command_laws.specs.Numbers.{few-accepted}
-
-pin-same : (pin : Option ℕ) → pin-of pin ≡ pin-number pin
-unfolding pin-of pin-number
-pin-same none = refl
-pin-same (some c) = refl
 
 -- one command more does not wrap
 pub one-more : (n : ℕ) → n < 4294967295 → (n + 1) % 2 ^ 64 ≡ n + 1
@@ -103,8 +98,7 @@ module _ {H : ℕ → List PutOrTake} {ts : List Thread} {cs ns : List (List ℕ
       → As-ruled (obeyDef ts cs ns a (call-of (declare-thread x k v pin) used)) (obeys s (declare-thread x k v pin))
   unfolding obeyDef declareThread call-of priority-in changed nothing-shown answer-of refusal-number shown-option running-option obeys ruled.changed ruled.nothing-shown
   plain-declare-thread x k v pin used e = record {
-    stands = subst (λ (n : ℕ). Stands (set ts x (new (priority (class-at k) v) n)) cs ns (accepted a) (obeys s (declare-thread x k v pin) .state)) (pin-same pin)
-        (stands-declare-thread m (reachable .reached) x k v used pin (accepted a) (counted (few-accepted s (declare-thread x k v pin) used e)) e);
+    stands = stands-declare-thread m (reachable .reached) x k v used pin (accepted a) (counted (few-accepted s (declare-thread x k v pin) used e)) e;
     answer = refl;
   }
 
