@@ -1,15 +1,13 @@
 -- ONE CHOICE OF `balance`, and the move that it comes to: memory that meets the rules' balancing meets it again after the rules' step. Assumes nothing.
 use Prim.Native.Nat.{ℕ, _+_, _*_, _≤_, _<_}
 use mathlib.Core.Path.{_≡_, refl, sym, ap, subst, _∙_}
-use mathlib.Core.Bool.{Bool, true, false, cond, not, true≢false, false≢true}
+use mathlib.Core.Bool.{Bool, true, false, cond, not, true≢false}
 use mathlib.Core.Option.{Option, none, some}
 use mathlib.Core.List.{List, _∷_}
-use lib.ListN.{set}
 use lib.Dec.{eqb, ltb}
 use borrow.Author.Tests.{eqb-true, eqb-false}
 use native.Mathlib.Omega.{arith}
 use Rattle.rules.specs.Line.{has, both}
-use Rattle.rules.specs.Times as times
 use Rattle.rules.specs.Times.{is-some}
 use Rattle.rules.specs.Queue.{order, load, Next, nobody, next-in, asked, leave}
 use Rattle.rules.specs.Puts.{PutOrTake}
@@ -19,12 +17,11 @@ use Rattle.rules.specs.Topology.{cpus-of}
 use Rattle.rules.specs.Choice.{Pair, no-pair, pair, Chosen, choose-cpu-balance}
 use Rattle.rules.specs.Schedule as sched
 use Rattle.rules.specs.Schedule.{World, Got, Balancing, with-cpu, with-thread, with-draws, set-rebalance, pinned-in}
-use Rattle.rules.specs.Sound.{at-here, at-there, waits, Sound, Same, New, Taken, not-true-is, alike-queue, alike-reset, same-free, same-then, same-cpu-changed, same-thread-changed, same-wakeup, sound-same, sound-insert, take-taken}
+use Rattle.rules.specs.Sound.{at-here, at-there, waits, Sound, New, Taken, not-true-is, same-cpu-changed, sound-same}
 use Rattle.rules.specs.Steps.{nobody-but, ok-put}
 use Rattle.rules.specs.Held.{has-head}
 use Rattle.thread.specs.declared.Thread.{Thread}
 use Rattle.thread.specs.Thread.{NONE}
-use Rattle.thread.specs.Time.{moving-to-queue}
 use Rattle.queue.specs.Num.{sum, sum-exact}
 use Rattle.runqueue.specs.declared.rq.RunQueue.{RunQueue}
 use Rattle.runqueue.specs.declared.rq.Front.{Front}
@@ -35,10 +32,10 @@ use Rattle.processor.specs.Queue.{queueAt}
 use Rattle.processor.specs.Cpu as cpu
 use Rattle.lent.specs.declared.rq.Taken as lent
 use Rattle.lent.specs.declared.rq.Taken.the-variants as taken
-use Rattle.lent.specs.Rq.{recordAt, Took, tookFrom, takeDef}
+use Rattle.lent.specs.Rq.{Took, tookFrom, takeDef}
 use Rattle.memory.specs.Shows.{Small, Shows}
 use Rattle.memory.specs.Frames.{beside-put, in-rows, shows-must-rebalance, shows-draws}
-use Rattle.memory.specs.Queues.{active-with, as-taken, Take-shows, shows-take}
+use Rattle.memory.specs.Queues.{active-with, as-taken, Take-shows}
 use Rattle.memory.specs.Numbers.{word-load, load-shown, current-load-shown}
 use Rattle.topology.specs.CpuSet as cpus
 use Rattle.topology.specs.CpuSet.{Sixteen, sixteen-remove, remove-same, remove-other}
@@ -48,7 +45,7 @@ use Rattle.step.specs.declared.balance.Balancing as step
 use Rattle.step.specs.Balance.{Balanced, passed, stopped, without, moving, isSomebody, handsOut, outcome, pairStep, pairOf, chosenAt, balanceStep}
 use Rattle.sched.specs.declared.context.Context.{Context}
 use Rattle.sched.specs.World as code
-use Rattle.sched.specs.Queues.{isNobody, threadOf, movedIn, scheduleThreadOnCpu, movedFor, takeFrom}
+use Rattle.sched.specs.Queues.{isNobody, threadOf, scheduleThreadOnCpu, movedFor, takeFrom}
 use Rattle.sched.specs.Balance.{received, moveOne}
 use Rattle.sched_laws.specs.Spared.{from-wakeups}
 use Rattle.sched_laws.specs.Ticked.{context}

@@ -1,5 +1,5 @@
 -- On lent memory that shows a world of the rules: what a choice reads of it, and what it leaves. Assumes nothing.
-use Prim.Native.Nat.{ℕ, _%_, _<_}
+use Prim.Native.Nat.{ℕ, _<_}
 use mathlib.Core.Path.{_≡_, refl, ap, _∙_}
 use mathlib.Core.Bool.{Bool}
 use mathlib.Core.Option.{Option, some}
@@ -11,11 +11,11 @@ use Rattle.rules.specs.State.{Limits, Topology}
 use Rattle.rules.specs.Topology.{cpus-of}
 use Rattle.rules.specs.Choice.{may-steal-from, first-that, choose-cpu-balance}
 use Rattle.rules.specs.Schedule as sched
-use Rattle.rules.specs.Schedule.{World, with-draws}
+use Rattle.rules.specs.Schedule.{World}
 use Rattle.thread.specs.declared.Thread.{Thread}
-use Rattle.processor.specs.Words.{word, put-word, word-put-same, word-put-other}
-use Rattle.memory.specs.Shows.{reading-of, number-or-none, Words-show, Small, Shows}
-use Rattle.memory.specs.Frames.{beside-put, in-rows, shows-beside, shows-draws}
+use Rattle.processor.specs.Words.{word, put-word}
+use Rattle.memory.specs.Shows.{number-or-none, Small, Shows}
+use Rattle.memory.specs.Frames.{shows-draws}
 use Rattle.memory.specs.Numbers.{word-load, word-movable, load-shown, movable-shown, current-load-shown, current-load-most, priority-shown}
 use Rattle.nodes.specs.Walk.{cpus-at, nearest-at}
 use Rattle.choice.specs.Reads.{load-at, weight-at, queue-load-at, movable-at, draw-word}

@@ -2,26 +2,24 @@
 use Prim.Native.Nat.{ℕ, _+_, _%_, _^_, _<_}
 use mathlib.Core.Path.{_≡_, refl, sym, ap, subst, _∙_}
 use mathlib.Core.Bool.{true}
-use mathlib.Core.Option.{Option, none, some}
+use mathlib.Core.Option.{Option}
 use mathlib.Core.List.{List}
 use native.Mathlib.Omega.{arith}
-use lib.ListN.{length, set}
+use lib.ListN.{length}
 use borrow.Author.Tests.{ltb-true}
 use Rattle.rules.specs.Puts.{PutOrTake}
 use Rattle.rules.specs.State as rules
-use Rattle.rules.specs.Priority.{priority, class-at}
 use Rattle.rules.specs.Requests.{declare-cpu, add-node, place-cpu, seal, declare-thread, set-tick, remove-donation, set-critical, asks}
 use Rattle.rules.specs.Questions.{refusal, concerning, open-yet, at-most, node-exists, parent-without-cpus, node-fits}
 use Rattle.rules.specs.Commands as ruled
 use Rattle.rules.specs.Commands.{obeys}
 use Rattle.rules.specs.Reached.{yes}
 use Rattle.thread.specs.declared.Thread.{Thread}
-use Rattle.thread.specs.Place.{new}
 use Rattle.lines.specs.Lines.{refusal-number, shown-option, running-option, answer-of}
 use Rattle.questions.specs.declared.state.State.{State}
 use Rattle.sched.specs.Donate.{removeDonated, setCritical}
 use Rattle.command.specs.Answer.{accepted, nothing-shown, changed}
-use Rattle.command.specs.Call.{pin-number, call-of, priority-in, ticked, sealed-now, one-node-more}
+use Rattle.command.specs.Call.{call-of, priority-in, ticked, sealed-now, one-node-more}
 use Rattle.command.specs.Command.{prepares, declareThread, removeDonation, criticalDef, obeyDef}
 use Rattle.question_laws.specs.Stands.{limits-in, Stands}
 use Rattle.question_laws.specs.Changes.{Counted, stands-declare-cpu, stands-add-node, stands-place-cpu, stands-seal, stands-declare-thread, stands-set-tick, stands-remove-donation, stands-set-critical}

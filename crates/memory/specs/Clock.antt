@@ -16,7 +16,7 @@ use Rattle.processor.specs.Queue.{queueAt}
 use Rattle.represent.specs.Well.{Reading, clock-reading, hardtick-reading}
 use Rattle.represent.specs.System.{clock-law, hardtick-law, ticks-law}
 use Rattle.lent.specs.Rq.{clockDef, hardtickDef}
-use Rattle.memory.specs.Shows.{reading-of, Words-show, Small, Shows}
+use Rattle.memory.specs.Shows.{reading-of, Small, Shows}
 use Rattle.memory.specs.Frames.{places-same, words-alike}
 use Rattle.memory.specs.Queues.{fits, words-queue, shows-stored}
 

@@ -1,16 +1,15 @@
 -- WHAT IS READ: each number that the scheduler asks of the words is the rules'. Assumes nothing.
-use Prim.Native.Nat.{ℕ, _+_, _*_, _/_, _%_, _^_, _≤_, _<_}
+use Prim.Native.Nat.{ℕ, _+_, _*_, _%_, _^_, _≤_, _<_}
 use mathlib.Core.Path.{_≡_, refl, sym, ap, _∙_}
 use mathlib.Core.Bool.{Bool, cond, not}
 use mathlib.Core.Option.{Option, none, some}
 use mathlib.Core.List.{List, []}
 use lib.ListN.{getD}
-use lib.Dec.{eqb, ltb}
+use lib.Dec.{eqb}
 use native.Mathlib.Omega.{arith}
-use native.Mathlib.Nat.{mul-le-mul, mod-eq-of-lt, div-le-self}
+use native.Mathlib.Nat.{mul-le-mul}
 use Rattle.rules.specs.declared.PriorityClass.{PriorityClass}
-use Rattle.rules.specs.declared.PriorityClass.the-variants as class
-use Rattle.rules.specs.Line.{both, distinct-length}
+use Rattle.rules.specs.Line.{distinct-length}
 use Rattle.rules.specs.Priority.{from-raw}
 use Rattle.rules.specs.Times.{timeslice, deadline-distance, is-some, pinned}
 use Rattle.rules.specs.Queue.{Queue, order, load, timeshare-load, movable}

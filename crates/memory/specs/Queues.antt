@@ -5,10 +5,9 @@ use mathlib.Core.Logic.{_≢_}
 use mathlib.Core.Bool.{Bool, true, false, cond, _||_, true≢false, false≢true}
 use mathlib.Core.Option.{Option, none, some}
 use mathlib.Core.List.{List, [], _∷_}
-use lib.ListN.{length, getD, set, length-set}
-use lib.Seq.{getD-set-same, set-out}
-use lib.Dec.{eqb, ltb}
-use borrow.Author.Tests.{eqb-true, eqb-false, eq-eqb, ne-eqb, ltb-true, ltb-false}
+use lib.ListN.{length, set, length-set}
+use lib.Dec.{eqb}
+use borrow.Author.Tests.{eqb-true, eqb-false, eq-eqb, ne-eqb}
 use native.Mathlib.Omega.{arith}
 use Rattle.rules.specs.declared.Part.{Part}
 use Rattle.rules.specs.declared.Part.the-variants as part
@@ -17,7 +16,7 @@ use Rattle.rules.specs.Times as times
 use Rattle.rules.specs.Times.{pinned, effective-priority, steadied}
 use Rattle.rules.specs.declared.Priority.{Priority}
 use Rattle.rules.specs.Puts.{PutOrTake, a-take}
-use Rattle.rules.specs.Queue.{Queue, order, timeshare-line, movable, highest-value, said-timeshare, said-after-take, Next, nobody, next-in, asked, leave, insert, is-timeshare, part-of, part-for, said-after-put}
+use Rattle.rules.specs.Queue.{Queue, order, timeshare-line, highest-value, said-timeshare, said-after-take, Next, nobody, next-in, asked, leave, insert, is-timeshare, part-of, part-for, said-after-put}
 use Rattle.rules.specs.State.{at, Limits, Topology, Cpu}
 use Rattle.rules.specs.Schedule.{World, Got, with-cpu, with-thread, with-queue, noted, pinned-in, arrival, insert-thread, take-thread, handed-out}
 use Rattle.rules.specs.Sound.{at-here, at-there, Under, waits, New, Sound, take-taken}
@@ -35,9 +34,7 @@ use Rattle.runqueue.specs.declared.rq.Arrival.{Arrival}
 use Rattle.runqueue.specs.declared.rq.Front.{Front}
 use Rattle.runqueue.specs.declared.rq.Front.the-variants as front
 use Rattle.runqueue.specs.RunQueue.{rqFront, rqInsert, rqInsertInto, rqInsertRealtime, rqInsertTimeshare, rqInsertIdle}
-use Rattle.processor.specs.Words.{word}
-use Rattle.processor.specs.Window.{length-place}
-use Rattle.processor.specs.Queue.{queueAt, queueStored, queueInto, storedFrom, length-lists, queue-elsewhere, word-after-store, row-length-store}
+use Rattle.processor.specs.Queue.{queueAt, queueStored, word-after-store, row-length-store}
 use Rattle.represent.specs.Well.{Reading, Well, put-reading, as-arrival, take-reading}
 use Rattle.represent.specs.Linked.{has-later}
 use Rattle.represent.specs.Operations.{put-has, in-ts, movable-same}
@@ -47,7 +44,7 @@ use Rattle.lent.specs.Rq.{recordAt, arrivalOf, steadyIn, putIn, linkBehind, put
 use Rattle.represent.specs.Records.{marks, read-set, length-put}
 use Rattle.represent.specs.System.{Good, arriving, put-law, Taken-as, take-law}
 use Rattle.memory.specs.Shows.{reading-of, Words-show, place-at, Places, Small, Shows}
-use Rattle.memory.specs.Frames.{kept, words-same, at-map, places-same, in-records, shows-alike, words-alike}
+use Rattle.memory.specs.Frames.{kept, words-same, at-map, in-records, shows-alike, words-alike}
 
 pub fits : {limits : Limits} → Small limits → limits .threads ≤ NONE
 fits small = omega (arith, small .threads)

@@ -2,13 +2,13 @@
 -- is that of the rules. Assumes nothing.
 use Prim.Native.Nat.{ℕ, zero, suc, min, _<_}
 use mathlib.Core.Path.{_≡_, refl, sym, ap, _∙_}
-use mathlib.Core.Bool.{Bool, true, false, not, _&&_, _||_, true≢false, false≢true, Bool·not-not, or-true}
+use mathlib.Core.Bool.{Bool, true, false, not, _&&_, _||_, true≢false, Bool·not-not, or-true}
 use mathlib.Core.Option.{Option, none, some}
 use mathlib.Core.List.{List, [], _∷_, _++_}
 use native.Mathlib.Omega.{arith}
 use lib.ListN.{length}
 use lib.Dec.{eqb, ltb, leb}
-use borrow.Author.Tests.{ne-eqb, lt-ltb, lt-leb, ltb-true, ltb-false}
+use borrow.Author.Tests.{ne-eqb, lt-ltb, lt-leb, ltb-true}
 use Rattle.rules.specs.Line.{has, both}
 use Rattle.rules.specs.Times.{is-some}
 use Rattle.rules.specs.Queue.{order}
@@ -29,7 +29,7 @@ use Rattle.thread.specs.Thread.{NONE, BLOCKED, RUNNING, WAITING}
 use Rattle.thread.specs.Place.{place-in, is-declared}
 use Rattle.processor.specs.Words.{word}
 use Rattle.lent.specs.Rq.{recordAt}
-use Rattle.memory.specs.Shows.{number-or-none, mark-in, place-at}
+use Rattle.memory.specs.Shows.{mark-in, place-at}
 use Rattle.memory.specs.Numbers.{none-number}
 use Rattle.tree.specs.Lists.{any-true, any-none, any-at}
 use Rattle.tree.specs.Tree.{own-same}

@@ -8,38 +8,37 @@ use mathlib.Core.List.{List, [], _∷_, _++_}
 use native.Mathlib.Omega.{arith}
 use lib.ListN.{length, set, length-set, length-append}
 use lib.Dec.{eqb, ltb, leb}
-use borrow.Author.Tests.{eqb-true, eqb-false, eq-eqb, ne-eqb, leb-true, ltb-true, not-true}
+use borrow.Author.Tests.{eqb-true, eqb-false, ne-eqb, leb-true, ltb-true, not-true}
 use Rattle.rules.specs.Line.{both}
 use Rattle.rules.specs.Priority.{nr-values, priority, class-at}
 use Rattle.rules.specs.Times as times
 use Rattle.rules.specs.Times.{is-some, pinned, donated-to, critical-at}
 use Rattle.rules.specs.Puts.{PutOrTake}
 use Rattle.rules.specs.State as rules
-use Rattle.rules.specs.State.{at, Limits, Topology, Cpu, is-number, runs-on, new-thread}
+use Rattle.rules.specs.State.{at, Limits, Topology, is-number, runs-on, new-thread}
 use Rattle.rules.specs.Topology.{nr-nodes}
 use Rattle.rules.specs.Schedule.{World, with-thread}
 use Rattle.rules.specs.Requests.{declare-cpu, add-node, place-cpu, seal, declare-thread, set-tick, remove-donation, set-critical, asks}
-use Rattle.rules.specs.Questions.{Question, question, first-no, refusal, concerning, open-yet, sealed-now, declared, cpu-declared, cpu-new, cpu-unplaced, pin-declared, thread-declared, thread-new, priority-in-range, at-most, node-exists, parent-without-cpus, node-fits, node-childless, tick-fits}
+use Rattle.rules.specs.Questions.{Question, first-no, refusal, concerning, open-yet, sealed-now, declared, cpu-declared, cpu-new, cpu-unplaced, pin-declared, thread-declared, thread-new, priority-in-range, at-most, node-exists, parent-without-cpus, node-fits, node-childless, tick-fits}
 use Rattle.rules.specs.Commands.{no-log, changed, world-of, with-cpu-declared, with-node, with-placed, obeys}
 use Rattle.rules.specs.Effect.{and-left, and-right}
 use Rattle.rules.specs.Sound.{Under, Free, waits, at-here, at-there}
 use Rattle.rules.specs.Reached.{Reached, yes}
 use Rattle.thread.specs.declared.Thread.{Thread}
 use Rattle.thread.specs.declared.place.Place.the-variants as place
-use Rattle.thread.specs.Thread.{NONE, BLOCKED, with-donated, with-critical}
-use Rattle.thread.specs.Priority.{remove-donated-priority, reads-removed}
+use Rattle.thread.specs.Thread.{NONE, BLOCKED, with-critical}
+use Rattle.thread.specs.Priority.{remove-donated-priority}
 use Rattle.thread.specs.Time.{field-of, named-field, named-none}
 use Rattle.thread.specs.Reads.{reads, named, cpu-in}
-use Rattle.thread.specs.Place.{place-in, new, reads-new, reads-critical, critical-mark}
+use Rattle.thread.specs.Place.{place-in, new, reads-new, critical-mark}
 use Rattle.processor.specs.Words.{width, word, put-word, word-put-other}
 use Rattle.nodes.specs.Node.{put-node, linked, add-child, put-cpu, set-cpu-up, set-cpu, length-put-cpu}
 use Rattle.nodes.specs.Words.{length-put as length-node}
-use Rattle.thread.specs.Flags.{has-donated-priority}
 use Rattle.lent.specs.Rq.{recordAt}
 use Rattle.represent.specs.Records.{marks, read-set}
 use Rattle.represent.specs.System.{good-frame}
 use Rattle.memory.specs.Shows.{reading-of, number-or-none, mark-in, Words-show, place-at, Shows}
-use Rattle.memory.specs.Frames.{Beside, beside-put, word-here, in-records, in-rows, shows-fields, words-same, words-alike, written-none, shows-words, shows-removed, shows-critical}
+use Rattle.memory.specs.Frames.{beside-put, word-here, in-records, in-rows, words-same, words-alike, written-none, shows-words, shows-removed, shows-critical}
 use Rattle.tree.specs.Lists.{any-none}
 use Rattle.tree.specs.Tree.{Tree, number-is}
 use Rattle.tree.specs.Grown.{tree-child}

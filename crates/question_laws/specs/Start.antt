@@ -2,7 +2,7 @@
 use Prim.Native.Nat.{ℕ, zero, suc, _≤_, _<_}
 use mathlib.Core.Path.{_≡_, refl, sym, _∙_}
 use mathlib.Core.Logic.{_≢_}
-use mathlib.Core.Bool.{true, false, cond, false≢true}
+use mathlib.Core.Bool.{false, cond, false≢true}
 use mathlib.Core.List.{List, []}
 use native.Mathlib.Omega.{arith}
 use lib.ListN.{length, getD, length-set, replicate, length-replicate, getD-replicate, List·getD-eq-default}
@@ -17,13 +17,12 @@ use Rattle.rules.specs.Commands.{world-of}
 use Rattle.rules.specs.Effect.{start-order}
 use Rattle.rules.specs.Sound.{Under, waits}
 use Rattle.thread.specs.Thread.{NONE, blank}
-use Rattle.thread.specs.Reads.{reads}
 use Rattle.thread.specs.Place.{place-in, reads-blank}
 use Rattle.queue.specs.Lists.{noLists}
 use Rattle.queue.specs.PriorityQueue.{noPriority}
 use Rattle.queue.specs.Timeshare.{noTimeshare}
 use Rattle.runqueue.specs.RunQueue.{noRunQueue}
-use Rattle.processor.specs.Words.{width, word, put-word}
+use Rattle.processor.specs.Words.{width, word}
 use Rattle.processor.specs.Queue.{queueAt, queueStored, Eights, queue-after-store, queue-elsewhere, row-length-store, length-store}
 use Rattle.topology.specs.CpuSet.{max-cpu-id}
 use Rattle.nodes.specs.Node.{new-root, put-node}

@@ -4,7 +4,7 @@
 use Prim.Native.Nat.{ℕ, _-_, _^_, _≤_, _<_}
 use mathlib.Core.Path.{_≡_, refl, sym, subst, _∙_}
 use mathlib.Core.Logic.{inl, inr}
-use mathlib.Core.Bool.{Bool, true, false, false≢true}
+use mathlib.Core.Bool.{Bool, false, false≢true}
 use mathlib.Core.List.{List, []}
 use lib.ListN.{length, getD, set, length-set}
 use lib.Seq.{getD-set-same}

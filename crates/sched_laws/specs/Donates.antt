@@ -11,7 +11,7 @@ use Rattle.rules.specs.declared.Priority.{Priority}
 use Rattle.rules.specs.Line.{both}
 use Rattle.rules.specs.Priority.{nr-values, from-raw, less, donation-accepted}
 use Rattle.rules.specs.Times as times
-use Rattle.rules.specs.Times.{effective-priority, pinned, donated-to, critical-at}
+use Rattle.rules.specs.Times.{effective-priority, pinned, donated-to}
 use Rattle.rules.specs.State.{at, Limits, Topology}
 use Rattle.rules.specs.Schedule as sched
 use Rattle.rules.specs.Schedule.{World, with-thread, wakeup, is-empty}
@@ -19,11 +19,9 @@ use Rattle.rules.specs.Sound.{at-here, Under}
 use Rattle.thread.specs.declared.Thread.{Thread}
 use Rattle.thread.specs.declared.time.OptionCpu.{OptionCpu}
 use Rattle.thread.specs.declared.time.OptionCpu.the-variants as cpu
-use Rattle.thread.specs.Thread.{NONE, with-donated, with-critical}
-use Rattle.thread.specs.Flags.{has-donated-priority}
-use Rattle.thread.specs.Reads.{reads, held, donated-in, named, cpu-in, critical-in}
-use Rattle.thread.specs.Place.{reads-critical}
-use Rattle.thread.specs.Priority.{donate-priority, remove-donated-priority, reads-donated, reads-removed}
+use Rattle.thread.specs.Thread.{NONE, with-donated}
+use Rattle.thread.specs.Reads.{reads, held, donated-in, named, cpu-in}
+use Rattle.thread.specs.Priority.{donate-priority, reads-donated}
 use Rattle.processor.specs.Queue.{queueAt}
 use Rattle.lent.specs.Rq.{recordAt}
 use Rattle.memory.specs.Shows.{Small, Shows}
@@ -31,7 +29,7 @@ use Rattle.memory.specs.Frames.{shows-alike, shows-fields}
 use Rattle.memory.specs.Numbers.{advertised-shown, empty-shown}
 use Rattle.step.specs.Running.{runningAt}
 use Rattle.step.specs.Donate.{wakeupDue, wokenIn, maybeReschedule, donationSignals}
-use Rattle.sched.specs.Donate.{donatePriority, removeDonated, setCritical}
+use Rattle.sched.specs.Donate.{donatePriority}
 use Rattle.sched_laws.specs.Steps.{shows-wakeup, signal-counts, same-at-work}
 
 -- ---- what a donation leaves of a record as it was

@@ -1,28 +1,23 @@
 -- NO CPU'S LAST HARD TICK IS PAST THE TICK, whatever calls are made. Assumes nothing.
-use Prim.Native.Nat.{ℕ, zero, suc, _^_, _≤_}
+use Prim.Native.Nat.{ℕ, _^_, _≤_}
 use mathlib.Core.Path.{_≡_, refl, _∙_}
-use mathlib.Core.Bool.{Bool, true, false, cond, not, _&&_, _||_, false≢true}
+use mathlib.Core.Bool.{Bool, true, false, cond, _&&_, _||_}
 use mathlib.Core.Option.{Option, none, some}
 use mathlib.Core.List.{List, [], _∷_, _++_}
 use lib.Dec.{eqb, ltb, leb}
 use borrow.Author.Tests.{eqb-true, leb-true}
 use native.Mathlib.Omega.{arith}
-use Rattle.rules.specs.declared.Priority.{Priority}
 use Rattle.rules.specs.Line.{both}
-use Rattle.rules.specs.Priority.{less, donation-accepted}
-use Rattle.rules.specs.Times.{effective-priority}
-use Rattle.rules.specs.Queue.{Next, nobody, next-in, load}
 use Rattle.rules.specs.State.{at, Limits, Topology, Cpu, new-cpu, State, start}
-use Rattle.rules.specs.Choice.{Pair, no-pair, pair}
 use Rattle.rules.specs.Schedule as sched
-use Rattle.rules.specs.Schedule.{World, Balancing, Flags, with-cpu, with-thread, with-queue, with-running, with-draws, with-preempt, set-rebalance, with-rebalance-time, with-ticks, noted, wakeup}
+use Rattle.rules.specs.Schedule.{World, Flags, with-cpu, with-thread, with-queue, with-draws, with-preempt, with-rebalance-time, with-ticks}
 use Rattle.rules.specs.Sound.{at-keeps}
 use Rattle.rules.specs.Requests.{Request, declare-cpu, add-node, place-cpu, seal, declare-thread, set-tick, schedule-thread, schedule, hardtick, stattick, resched, maybe-preempt, donate, remove-donation, set-critical, Reading, unknown, cut-short, asks, read, flags-of}
 use Rattle.rules.specs.Questions.{Question, sealed-now, tick-fits, concerning, first-no, room, refusal}
 use Rattle.rules.specs.Commands.{Answer, world-of, refuses, changed, ran, ran-on, schedules, scheduled-on, obeys, answered, step, after-calls}
 use Rattle.rules.specs.Reached.{yes}
 use Rattle.rules.specs.Effect.{and-left}
-use Rattle.sched_laws.specs.Spared.{put-last, pick-last, select-last, balance-last}
+use Rattle.sched_laws.specs.Spared.{put-last, pick-last, select-last, balance-last, donate-last}
 
 module _ (limits : Limits) (topology : Topology) (tick us : ℕ) where
   -- the same last ticks
@@ -77,17 +72,6 @@ module _ (limits : Limits) (topology : Topology) (tick us : ℕ) where
   unfolding sched.schedule-stattick sched.clock sched.maybe-rebalance with-cpu with-queue with-rebalance-time with-draws
   stattick-same w n c = at-keeps tick-of _ us _ refl c ∙ if-same w _ w (eqb us 0) (λ d. if-same w _ _ (ltb (w .cpus us .rebalance-time) n) (λ e. balance-last limits topology tick us _ e ∙ at-keeps tick-of (w .cpus) us _ refl e) (at-keeps tick-of (w .cpus) us _ refl) d) (λ d. refl) c
 
-  wake-same : (w : World) (x : ℕ) (o : Option ℕ) → Same w (sched.maybe-wakeup limits topology tick us w x o)
-  unfolding sched.maybe-wakeup wakeup
-  wake-same w x none c = refl
-  wake-same w x (some d) c = refl
-
-  donate-same : (w : World) (x : ℕ) (p : Priority) → Same w (sched.donate-priority limits topology tick us w x p)
-  unfolding sched.donate-priority with-thread
-  donate-same w x p c =
-      if-same w _ w (donation-accepted (w .threads x .donated) p)
-      (λ d. if-same w _ _ (less (effective-priority (w .threads x)) p && not (sched.same-cpu x (w .cpus us .running))) (wake-same _ x _) (λ e. refl) d) (λ d. refl) c
-
   -- a hard tick sets it to the tick
   paid-late : (w : World) (o : Option ℕ) (n : ℕ) → ((c : ℕ) → w .cpus c .last-tick ≤ tick) → (c : ℕ) → sched.paid-by limits topology tick us w o n .cpus c .last-tick ≤ tick
   unfolding sched.paid-by with-cpu with-thread with-ticks at
@@ -139,7 +123,7 @@ module _ (s : State) (k : Late s) where
   goes (stattick us n) e = kept-late _ _ (λ c. stattick-same (s .limits) (s .topology) (s .tick) us (world-of s) n c)
   goes (resched us) e = kept-late _ _ (λ c. resched-same (s .limits) (s .topology) (s .tick) us (world-of s) c)
   goes (maybe-preempt us) e = kept-late _ _ (λ c. preempt-same (s .limits) (s .topology) (s .tick) us (world-of s) c)
-  goes (donate us x n v) e = kept-late _ _ (λ c. donate-same (s .limits) (s .topology) (s .tick) us (world-of s) x _ c)
+  goes (donate us x n v) e = kept-late _ _ (λ c. donate-last (s .limits) (s .topology) (s .tick) us (world-of s) x _ c)
   goes (remove-donation x) e = record { last = k .last }
   goes (set-critical x m) e = record { last = k .last }
 

@@ -4,18 +4,15 @@ use mathlib.Core.Path.{_≡_, refl, sym, ap, subst, _∙_}
 use mathlib.Core.Bool.{Bool, true, false, not, _||_, false≢true}
 use mathlib.Core.Option.{Option, none, some}
 use mathlib.Core.List.{List}
-use lib.ListN.{set}
 use lib.Dec.{eqb}
 use borrow.Author.Tests.{eqb-true}
 use native.Mathlib.Omega.{arith}
-use Rattle.rules.specs.declared.Priority.{Priority}
 use Rattle.rules.specs.Line.{both}
 use Rattle.rules.specs.Times.{effective-priority, is-some}
-use Rattle.rules.specs.Queue.{Next, nobody, next-in}
 use Rattle.rules.specs.Puts.{PutOrTake}
 use Rattle.rules.specs.State.{Limits, Topology}
 use Rattle.rules.specs.Schedule as sched
-use Rattle.rules.specs.Schedule.{World, Got, Flags, with-cpu, with-thread, wakeup, noted}
+use Rattle.rules.specs.Schedule.{World, Got, Flags, with-thread}
 use Rattle.rules.specs.Sound.{Under, Same, same-self, sound-same, New, Sound}
 use Rattle.rules.specs.Steps.{nobody-but, Selected, select-cpu-selected, weaker, running-new, new-same, ok-put}
 use Rattle.thread.specs.declared.Thread.{Thread}

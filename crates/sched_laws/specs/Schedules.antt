@@ -2,7 +2,7 @@
 use Prim.Native.Nat.{ℕ, _≤_, _<_}
 use mathlib.Core.Path.{_≡_, refl, sym, ap, subst, _∙_}
 use mathlib.Core.Logic.{_≢_}
-use mathlib.Core.Bool.{Bool, true, false, cond, not, true≢false, false≢true}
+use mathlib.Core.Bool.{Bool, true, false, cond, true≢false, false≢true}
 use mathlib.Core.Option.{Option, none, some}
 use mathlib.Core.List.{List, [], _∷_}
 use lib.ListN.{set}
@@ -13,12 +13,12 @@ use Rattle.rules.specs.Line.{both}
 use Rattle.rules.specs.Times as times
 use Rattle.rules.specs.Times.{effective-priority, is-some, either}
 use Rattle.rules.specs.Puts.{PutOrTake}
-use Rattle.rules.specs.State.{at, Limits, Topology, Cpu}
+use Rattle.rules.specs.State.{at, Limits, Topology}
 use Rattle.rules.specs.Topology.{visited}
 use Rattle.rules.specs.Choice.{Best, none-yet, best, lower, Searched, find-cpu}
 use Rattle.rules.specs.Schedule as sched
-use Rattle.rules.specs.Schedule.{World, Got, with-cpu, with-thread, wakeup}
-use Rattle.rules.specs.Sound.{at-here, at-there, at-keeps, Under, alike-queue, alike-reset, Free, Same, same-then, same-free, same-thread-changed, same-wakeup, sound-same, New, Sound, sound-insert}
+use Rattle.rules.specs.Schedule.{World, Got, with-thread}
+use Rattle.rules.specs.Sound.{at-here, at-there, Under, Free, Sound}
 use Rattle.rules.specs.Steps.{nobody-but}
 use Rattle.thread.specs.declared.Thread.{Thread}
 use Rattle.thread.specs.declared.place.Place.the-variants as place

@@ -1,7 +1,7 @@
 -- ONCE SEALED, EVERY DECLARED CPU IS ON A NODE, whatever calls are made. Assumes nothing.
 use Prim.Native.Nat.{ℕ, zero, suc, _<_}
-use mathlib.Core.Path.{_≡_, refl, sym, _∙_}
-use mathlib.Core.Bool.{Bool, true, false, not, _&&_, _||_, true≢false, false≢true}
+use mathlib.Core.Path.{_≡_, sym, _∙_}
+use mathlib.Core.Bool.{Bool, true, false, not, _||_, true≢false, false≢true}
 use mathlib.Core.Option.{Option, none, some}
 use mathlib.Core.List.{List, [], _∷_, _++_}
 use lib.Dec.{eqb}
@@ -12,7 +12,7 @@ use Rattle.rules.specs.Times.{is-some}
 use Rattle.rules.specs.State.{Limits, all-below, State, start}
 use Rattle.rules.specs.Schedule.{World}
 use Rattle.rules.specs.Requests.{Request, declare-cpu, add-node, place-cpu, seal, declare-thread, set-tick, schedule-thread, schedule, hardtick, stattick, resched, maybe-preempt, donate, remove-donation, set-critical, Reading, unknown, cut-short, asks, read}
-use Rattle.rules.specs.Questions.{Question, question, open-yet, all-placed, placed-if-declared, declared, concerning, first-no, room, refusal}
+use Rattle.rules.specs.Questions.{Question, open-yet, all-placed, placed-if-declared, declared, concerning, first-no, room, refusal}
 use Rattle.rules.specs.Reached.{yes}
 use Rattle.rules.specs.Commands.{refuses, changed, ran, ran-on, schedules, scheduled-on, obeys, answered, step, after-calls}
 use Rattle.rules.specs.Effect.{and-right}

@@ -1,12 +1,12 @@
--- WHAT STEPS OF THE RULES SPARE: a number or a thread read of a world that a put, a take, a choice, a switch or `balance` does not change. Assumes nothing.
+-- WHAT STEPS OF THE RULES SPARE: a number or a thread read of a world that a put, a take, a choice, a switch, a donation or `balance` does not change. Assumes nothing.
 use Prim.Native.Nat.{ℕ, zero, suc}
 use mathlib.Core.Path.{_≡_, refl, _∙_}
-use mathlib.Core.Bool.{Bool, _&&_, false}
+use mathlib.Core.Bool.{Bool, _&&_, false, not}
 use mathlib.Core.Option.{Option, none, some}
 use lib.Dec.{eqb, ltb}
 use Rattle.rules.specs.declared.Priority.{Priority}
 use Rattle.rules.specs.Line.{both}
-use Rattle.rules.specs.Times.{Thread}
+use Rattle.rules.specs.Times.{Thread, effective-priority}
 use Rattle.rules.specs.Puts.{PutOrTake}
 use Rattle.rules.specs.Queue.{Queue, load, Next, nobody, next-in}
 use Rattle.rules.specs.State.{Limits, Topology, Cpu}
@@ -14,6 +14,7 @@ use Rattle.rules.specs.Choice.{Pair, no-pair, pair}
 use Rattle.rules.specs.Schedule as sched
 use Rattle.rules.specs.Schedule.{World, Balancing, with-cpu, with-thread, with-queue, with-draws, with-running, set-rebalance, noted, wakeup}
 use Rattle.rules.specs.Sound.{at-keeps}
+use Rattle.rules.specs.Priority.{less, donation-accepted}
 
 -- f reads nothing of the records, the log, the queues, the draws and the marks to rebalance
 pub record Apart {A : Type 0} (f : World → A) : Type 0 where
@@ -89,6 +90,19 @@ module _ (limits : Limits) (topology : Topology) (tick us : ℕ) where
       put : (w : World) (c x : ℕ) → f (sched.schedule-thread-on-cpu limits topology tick us w c x) ≡ f w
       unfolding sched.schedule-thread-on-cpu sched.reset-thread-time sched.insert-thread
       put w c x = wakes _ _ ∙ a .log _ c _ ∙ a .thread _ x _ ∙ a .queue _ c _ _ ∙ a .thread _ x _ ∙ a .thread w x _
+
+      maybe-wakeup : (w : World) (x : ℕ) (o : Option ℕ) → f (sched.maybe-wakeup limits topology tick us w x o) ≡ f w
+      unfolding sched.maybe-wakeup
+      maybe-wakeup w x none = refl
+      maybe-wakeup w x (some c) = wakes w _
+
+      donate : (w : World) (x : ℕ) (p : Priority) → f (sched.donate-priority limits topology tick us w x p) ≡ f w
+      unfolding sched.donate-priority
+      donate w x p =
+          both (donation-accepted (w .threads x .donated) p)
+          (λ e. rw e (both (less (effective-priority (w .threads x)) p && not (sched.same-cpu x (w .cpus us .running)))
+          (λ h. rw h (maybe-wakeup _ x _ ∙ a .thread w x _)) (λ h. rw h (a .thread w x _))))
+          (λ e. rw e)
 
       received : (w : World) (allowed : ℕ → Bool) (n recipient : ℕ) (o : Option ℕ) → f (sched.received limits topology tick us w allowed n recipient o .world) ≡ f w
       unfolding sched.received
@@ -173,6 +187,9 @@ module _ (limits : Limits) (topology : Topology) (tick us : ℕ) where
   pub balance-running : (w : World) (c : ℕ) → sched.balance limits topology tick us w .cpus c .running ≡ w .cpus c .running
   balance-running w c = balance (running-on c) (runs-apart c) (wakes-kept (λ (p : Cpu). p .running) c) w
 
+  pub donate-running : (w : World) (x : ℕ) (p : Priority) (c : ℕ) → sched.donate-priority limits topology tick us w x p .cpus c .running ≡ w .cpus c .running
+  donate-running w x p c = donate (running-on c) (runs-apart c) (wakes-kept (λ (p : Cpu). p .running) c) w x p
+
   -- ---- its last hard tick
 
   abbrev tick-of : Cpu → ℕ
@@ -192,6 +209,9 @@ module _ (limits : Limits) (topology : Topology) (tick us : ℕ) where
 
   pub select-last : (w : World) (x : ℕ) (avoid : Option ℕ) (c : ℕ) → sched.select-cpu limits topology tick us w x avoid .world .cpus c .last-tick ≡ w .cpus c .last-tick
   select-last w x avoid c = select (tick-on c) (ticks-apart c) w x avoid
+
+  pub donate-last : (w : World) (x : ℕ) (p : Priority) (c : ℕ) → sched.donate-priority limits topology tick us w x p .cpus c .last-tick ≡ w .cpus c .last-tick
+  donate-last w x p c = donate (tick-on c) (ticks-apart c) (wakes-kept tick-of c) w x p
 
   pub balance-last : (w : World) (c : ℕ) → sched.balance limits topology tick us w .cpus c .last-tick ≡ w .cpus c .last-tick
   balance-last w c = balance (tick-on c) (ticks-apart c) (wakes-kept tick-of c) w

@@ -10,7 +10,7 @@ use lib.Dec.{eqb}
 use borrow.Author.Tests.{ne-eqb}
 use native.Mathlib.Omega.{arith}
 use Rattle.rules.specs.declared.Priority.{Priority}
-use Rattle.rules.specs.Line.{has, both}
+use Rattle.rules.specs.Line.{both}
 use Rattle.rules.specs.Priority.{from-raw, raw, class-at, cut, nr-values, less, at-most, effective}
 use Rattle.rules.specs.Times as times
 use Rattle.rules.specs.Times.{deadline-distance, effective-priority, is-some, pinned, reset-time}
@@ -35,7 +35,7 @@ use Rattle.step.specs.Time.{deadlineAt, resetTime, movedTo, shouldSignal}
 use Rattle.step.specs.Running.{runningAt, mustRebalance, ranBy, ranIdle}
 use Rattle.step.specs.Preempt.{higher, rqHasHigher, needsReschedule, marked, swapped}
 use Rattle.memory.specs.Shows.{reading-of, number-or-none, mark-in, Words-show, Small, Shows}
-use Rattle.memory.specs.Frames.{Written, written-none, written-put, places-same, in-records, in-rows, shows-beside, shows-fields, shows-preempt, shows-alike, shows-written}
+use Rattle.memory.specs.Frames.{Written, written-none, written-put, in-records, in-rows, shows-fields, shows-preempt, shows-alike, shows-written}
 use Rattle.memory.specs.Queues.{shows-insert}
 use Rattle.memory.specs.Numbers.{advertised-shown, empty-shown, deadline-shown, none-number}
 
