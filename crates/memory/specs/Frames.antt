@@ -6,9 +6,9 @@ use mathlib.Core.Bool.{Bool, cond, true, false, true≢false}
 use mathlib.Core.List.{List, []}
 use mathlib.Core.Option.{none}
 use lib.ListN.{length, getD, set, length-set}
-use lib.Seq.{getD-set-same, set-out}
-use lib.Dec.{eqb, ltb}
-use borrow.Author.Tests.{eqb-true, eqb-false, ltb-true, ltb-false, ne-eqb}
+use lib.Seq.{getD-set-same}
+use lib.Dec.{eqb}
+use borrow.Author.Tests.{eqb-true, eqb-false, ne-eqb}
 use native.Mathlib.Omega.{arith}
 use Rattle.rules.specs.Line.{has, both}
 use Rattle.rules.specs.Queue.{Queue, order}
@@ -154,6 +154,11 @@ reading-queue p q e = ap (λ (R : Reading). R .queue) e
 pub at-map {ℓ κ} : {A : Type ℓ} {B : Type κ} (g : A → B) (f : ℕ → A) (c : ℕ) (v : A) (d : ℕ) → at (λ y. g (f y)) c (g v) d ≡ g (at f c v d)
 unfolding at
 at-map g f c v d = both (eqb d c) (λ e. rw e) (λ e. rw e)
+
+-- written twice at one place
+pub at-again {ℓ} : {A : Type ℓ} (f : ℕ → A) (c : ℕ) (a b : A) (d : ℕ) → at (at f c a) c b d ≡ at f c b d
+unfolding at
+at-again f c a b d = both (eqb d c) (λ e. rw e) (λ e. rw e)
 
 -- ---- the places
 
@@ -332,3 +337,9 @@ pub shows-alike : {limits : Limits} {topology : Topology} {known active : ℕ �
     → ((c : ℕ) → v .cpus c ≡ w .cpus c) → ((x : ℕ) → v .threads x ≡ w .threads x) → Shows limits topology known active ts cs w → Shows limits topology known active ts cs v
 shows-alike {topology = topology} {cs = cs} w v e f s =
     shows-words s topology cs 0 v (written-none cs 0 .beside) (λ c. ap reading-of (e c)) f (λ c h. subst (Words-show topology cs c) (sym (e c)) (s .words c h))
+
+-- a thread that is what it was
+pub shows-same-thread : {limits : Limits} {topology : Topology} {known active : ℕ → Bool} {ts : List Thread} {cs : List (List ℕ)} (w : World) (x : ℕ)
+    → Shows limits topology known active ts cs (with-thread w x (w .threads x)) → Shows limits topology known active ts cs w
+unfolding with-thread
+shows-same-thread w x s = shows-alike (with-thread w x (w .threads x)) w (λ c. refl) (λ z. sym (at-keeps (λ (t : times.Thread). t) (w .threads) x (w .threads x) refl z)) s

@@ -28,20 +28,20 @@ use Rattle.thread.specs.declared.place.Place.the-variants as place
 use Rattle.thread.specs.Reads.{reads}
 use Rattle.thread.specs.Thread.{NONE, WAITING, RUNNING, with-place, with-next, with-stable}
 use Rattle.thread.specs.Place.{place-in, reads-place, reads-next}
-use Rattle.thread.specs.Priority.{stable-effective-priority, reads-stable, effective-below}
+use Rattle.thread.specs.Priority.{stable-effective-priority, effective-below}
 use Rattle.runqueue.specs.declared.rq.RunQueue.{RunQueue}
 use Rattle.runqueue.specs.declared.rq.Arrival.{Arrival}
 use Rattle.runqueue.specs.declared.rq.Front.{Front}
 use Rattle.runqueue.specs.declared.rq.Front.the-variants as front
 use Rattle.runqueue.specs.RunQueue.{rqFront, rqInsert, rqInsertInto, rqInsertRealtime, rqInsertTimeshare, rqInsertIdle}
 use Rattle.processor.specs.Queue.{queueAt, queueStored, word-after-store, row-length-store}
-use Rattle.represent.specs.Well.{Reading, Well, put-reading, as-arrival, take-reading}
+use Rattle.represent.specs.Well.{Reading, put-reading, as-arrival, take-reading}
 use Rattle.represent.specs.Linked.{has-later}
 use Rattle.represent.specs.Operations.{put-has, in-ts, movable-same}
 use Rattle.lent.specs.declared.rq.Taken.{Taken}
 use Rattle.lent.specs.declared.rq.Taken.the-variants as taken
-use Rattle.lent.specs.Rq.{recordAt, arrivalOf, steadyIn, putIn, linkBehind, putOf, insertDef, leftBy, Took, tookFrom, takeDef}
-use Rattle.represent.specs.Records.{marks, read-set, length-put, field-set, kept, put-reads, put-field}
+use Rattle.lent.specs.Rq.{recordAt, arrivalOf, steadyIn, putIn, putOf, insertDef, leftBy, Took, tookFrom, takeDef}
+use Rattle.represent.specs.Records.{marks, length-put, field-set, kept, put-reads, put-field}
 use Rattle.represent.specs.System.{Good, arriving, put-law, Taken-as, take-law}
 use Rattle.memory.specs.Shows.{reading-of, Words-show, place-at, Places, Small, Shows}
 use Rattle.memory.specs.Frames.{words-same, at-map, in-records, shows-alike, words-alike, places-moved}
@@ -220,9 +220,6 @@ module _ (limits : Limits) (topology : Topology) (tick us : ℕ) (known : ℕ �
   module _ {active but : ℕ → Bool} {ts : List Thread} {cs : List (List ℕ)} {w : World} (s : Shows limits topology known active ts cs w) (safe : Sound limits known H but w) (c : ℕ) (near : c < limits .cpus) where
     abbrev Q : Queue
     Q = w .cpus c .queue
-
-    well : Well (limits .threads) (marks ts) (queueAt cs c) (reading-of (w .cpus c))
-    well = s .queues .shows .each c near
 
     line-in : (z : ℕ) → has z (order Q) ≡ true → z < limits .threads
     line-in z h = numbered z (safe .placed c z h .1)

@@ -8,11 +8,11 @@ use mathlib.Core.List.{List, [], _∷_, _++_}
 use native.Mathlib.Omega.{arith}
 use lib.ListN.{length, set, length-set, length-append}
 use lib.Dec.{eqb, ltb, leb}
-use borrow.Author.Tests.{eqb-true, eqb-false, ne-eqb, leb-true, ltb-true, not-true}
+use borrow.Author.Tests.{eqb-true, eqb-false, leb-true, ltb-true, not-true}
 use Rattle.rules.specs.Line.{both}
 use Rattle.rules.specs.Priority.{nr-values, priority, class-at}
 use Rattle.rules.specs.Times as times
-use Rattle.rules.specs.Times.{is-some, pinned, donated-to, critical-at}
+use Rattle.rules.specs.Times.{is-some, donated-to, critical-at}
 use Rattle.rules.specs.Puts.{PutOrTake}
 use Rattle.rules.specs.State as rules
 use Rattle.rules.specs.State.{at, Limits, Topology, is-number, runs-on, new-thread}
@@ -35,9 +35,8 @@ use Rattle.processor.specs.Words.{width, word, put-word, word-put-other}
 use Rattle.nodes.specs.Node.{put-node, linked, add-child, put-cpu, set-cpu-up, set-cpu, length-put-cpu}
 use Rattle.nodes.specs.Words.{length-put as length-node}
 use Rattle.lent.specs.Rq.{recordAt}
-use Rattle.represent.specs.Records.{marks, read-set, field-set}
-use Rattle.represent.specs.System.{good-frame}
-use Rattle.memory.specs.Shows.{reading-of, number-or-none, mark-in, Words-show, place-at, Shows}
+use Rattle.represent.specs.Records.{field-set}
+use Rattle.memory.specs.Shows.{number-or-none, mark-in, Words-show, place-at, Shows}
 use Rattle.memory.specs.Frames.{beside-put, word-here, in-records, in-rows, words-same, words-alike, written-none, shows-words, shows-removed, shows-critical, shows-record, places-moved}
 use Rattle.tree.specs.Lists.{any-none}
 use Rattle.tree.specs.Tree.{Tree, number-is}

@@ -7,7 +7,7 @@ use mathlib.Core.Option.{Option, none, some}
 use mathlib.Core.List.{List, [], _∷_}
 use lib.ListN.{set}
 use lib.Dec.{eqb, ltb}
-use borrow.Author.Tests.{eqb-true, eqb-false, ne-eqb}
+use borrow.Author.Tests.{eqb-true, eqb-false}
 use native.Mathlib.Omega.{arith}
 use Rattle.rules.specs.Line.{both}
 use Rattle.rules.specs.Times as times
@@ -17,7 +17,7 @@ use Rattle.rules.specs.State.{at, Limits, Topology}
 use Rattle.rules.specs.Topology.{visited}
 use Rattle.rules.specs.Choice.{Best, none-yet, best, lower, Searched, find-cpu}
 use Rattle.rules.specs.Schedule as sched
-use Rattle.rules.specs.Schedule.{World, Got, with-thread}
+use Rattle.rules.specs.Schedule.{World, Got}
 use Rattle.rules.specs.Sound.{at-here, at-there, Under, Free, Sound}
 use Rattle.rules.specs.Steps.{nobody-but}
 use Rattle.thread.specs.declared.Thread.{Thread}
@@ -31,16 +31,14 @@ use Rattle.thread.specs.Place.{place-in, reads-place}
 use Rattle.thread.specs.Time.{preferred-cpu, chosen, reads-preferred-cpu}
 use Rattle.lent.specs.Rq.{recordAt}
 use Rattle.memory.specs.Shows.{place-at, Places, Small, Shows}
-use Rattle.memory.specs.Frames.{shows-alike, shows-record, in-records, places-moved}
-use Rattle.represent.specs.Records.{read-set, field-set}
+use Rattle.memory.specs.Frames.{shows-record, in-records, places-moved, shows-same-thread}
+use Rattle.represent.specs.Records.{field-set}
 use Rattle.tree.specs.Tree.{Tree}
 use Rattle.choice.specs.Reads.{as-cpu}
 use Rattle.choice.specs.Select as choice
 use Rattle.choice_laws.specs.Memory.{select-memory}
 use Rattle.step.specs.Choose.{preferredOf, selectFor, selectedFor}
-use Rattle.sched.specs.declared.context.Context.{Context}
 use Rattle.sched.specs.Queues.{blockDef}
-use Rattle.sched_laws.specs.Ticked.{context}
 use Rattle.sched_laws.specs.Picks.{Settled, no-one}
 
 -- ---- a choice finds a CPU where there is one
@@ -100,9 +98,6 @@ either-in n (some d) b u v c e = let z : d ≡ c = cc in rw (← z) u
 
 module _ (limits : Limits) (topology : Topology) (tick us : ℕ) (known : ℕ → Bool) (numbered : (x : ℕ) → known x ≡ true → x < limits .threads) (small : Small limits)
     (early : tick ≤ 4611686018427387904) (us-in : us < limits .cpus) (H : ℕ → List PutOrTake) (ns : List (List ℕ)) (tree : Tree limits ns topology) (node : ℕ) (put-on : topology .placed us ≡ some node) where
-  abbrev k : Context
-  k = context limits tick us
-
   abbrev OK : (ℕ → Bool) → World → Type 0
   OK but w = Sound limits known H but w
 
@@ -151,7 +146,7 @@ module _ (limits : Limits) (topology : Topology) (tick us : ℕ) (known : ℕ �
     unfolding blockDef with-place
     shows-blocked =
         let h = numbered x is-known in
-        shows-alike (with-thread w x (w .threads x)) w (λ c. unfold with-thread in refl) (λ z. unfold with-thread at in both (eqb z x) (λ e. rw (e, eqb-true z x e)) (λ e. rw e))
+        shows-same-thread w x
         (shows-record s x t (w .threads x) h (reads-place (recordAt ts x) BLOCKED ∙ s .threads x h) (λ d e. (refl, (refl, refl))) (s .queue-cpus x h) block-places)
 
   -- ---- where the thread running goes back into a queue
