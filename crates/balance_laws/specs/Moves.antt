@@ -17,7 +17,7 @@ use Rattle.rules.specs.Topology.{cpus-of}
 use Rattle.rules.specs.Choice.{Pair, no-pair, pair, Chosen, choose-cpu-balance}
 use Rattle.rules.specs.Schedule as sched
 use Rattle.rules.specs.Schedule.{World, Got, Balancing, with-cpu, with-thread, with-draws, set-rebalance, pinned-in}
-use Rattle.rules.specs.Sound.{at-here, at-there, waits, Sound, New, Taken, not-true-is, same-cpu-changed, sound-same}
+use Rattle.rules.specs.Sound.{at-here, at-there, waits, Sound, New, Taken, not-true-is, same-cpu-changed, sound-same, at-keeps}
 use Rattle.rules.specs.Steps.{nobody-but, ok-put}
 use Rattle.rules.specs.Held.{has-head}
 use Rattle.thread.specs.declared.Thread.{Thread}
@@ -34,7 +34,7 @@ use Rattle.lent.specs.declared.rq.Taken as lent
 use Rattle.lent.specs.declared.rq.Taken.the-variants as taken
 use Rattle.lent.specs.Rq.{Took, tookFrom, takeDef}
 use Rattle.memory.specs.Shows.{Small, Shows}
-use Rattle.memory.specs.Frames.{beside-put, in-rows, shows-must-rebalance, shows-draws}
+use Rattle.memory.specs.Frames.{beside-put, in-rows, shows-must-rebalance, shows-draws, at-again}
 use Rattle.memory.specs.Queues.{active-with, as-taken, Take-shows}
 use Rattle.memory.specs.Numbers.{word-load, load-shown, current-load-shown}
 use Rattle.topology.specs.CpuSet as cpus
@@ -151,9 +151,7 @@ module _ (limits : Limits) (topology : Topology) (tick us : ℕ) (known : ℕ �
   rules-none w allowed n donor recipient e = ap (sched.received limits topology tick us (taken-from w donor recipient .world) (at allowed recipient false) n recipient) e
 
   active-again : (x : ℕ) → active x ≡ false → at (at active x true) x false ≡ active
-  active-again x h = λ i z. (both (eqb z x)
-      (λ e. rw (eqb-true z x e) (at-here (at active x true) x false ∙ sym h))
-      (λ e. at-there (at active x true) x false z (eqb-false z x e) ∙ at-there active x true z (eqb-false z x e))) i
+  active-again x h = λ i z. (at-again active x true false z ∙ at-keeps (λ (b : Bool). b) active x false (sym h) z) i
 
   -- ---- a thread is taken for the recipient, and put there
 

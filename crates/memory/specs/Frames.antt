@@ -2,13 +2,13 @@
 use Prim.Native.Nat.{ℕ, _+_, _%_, _≤_, _<_}
 use mathlib.Core.Path.{_≡_, refl, sym, ap, subst, _∙_}
 use mathlib.Core.Logic.{_≢_}
-use mathlib.Core.Bool.{Bool, cond}
+use mathlib.Core.Bool.{Bool, cond, true, false, true≢false}
 use mathlib.Core.List.{List, []}
 use mathlib.Core.Option.{none}
 use lib.ListN.{length, getD, set, length-set}
-use lib.Seq.{getD-set-same, set-out}
-use lib.Dec.{eqb, ltb}
-use borrow.Author.Tests.{eqb-true, eqb-false, ltb-true, ltb-false, ne-eqb}
+use lib.Seq.{getD-set-same}
+use lib.Dec.{eqb}
+use borrow.Author.Tests.{eqb-true, eqb-false, ne-eqb}
 use native.Mathlib.Omega.{arith}
 use Rattle.rules.specs.Line.{has, both}
 use Rattle.rules.specs.Queue.{Queue, order}
@@ -16,18 +16,20 @@ use Rattle.rules.specs.Times as times
 use Rattle.rules.specs.Times.{pinned, is-some, donated-to, critical-at}
 use Rattle.rules.specs.State.{at, Limits, Topology, Cpu}
 use Rattle.rules.specs.Schedule.{World, with-cpu, with-thread, set-rebalance, with-preempt, with-draws, with-rebalance-time, with-ticks}
-use Rattle.rules.specs.Sound.{at-here, at-there, at-keeps, Under, waits}
+use Rattle.rules.specs.Sound.{at-here, at-there, at-keeps, Under, waits, Free}
 use Rattle.thread.specs.declared.Thread.{Thread}
 use Rattle.thread.specs.Reads.{reads, critical-in}
 use Rattle.thread.specs.Place.{place-in, reads-critical}
 use Rattle.thread.specs.Thread.{with-donated, with-critical}
 use Rattle.thread.specs.Flags.{has-donated-priority}
 use Rattle.thread.specs.Priority.{remove-donated-priority, reads-removed}
+use Rattle.thread.specs.declared.place.Place.{Place}
+use Rattle.thread.specs.declared.place.Place.the-variants as place
 use Rattle.processor.specs.Words.{width, word, put-word, word-put-same, word-put-other, row-put-other, length-put}
 use Rattle.processor.specs.Queue.{queueAt, queueIn, queue-same}
 use Rattle.represent.specs.Well.{Reading}
 use Rattle.lent.specs.Rq.{recordAt}
-use Rattle.represent.specs.Records.{marks, read-set}
+use Rattle.represent.specs.Records.{marks, read-set, kept, kept-there}
 use Rattle.represent.specs.System.{Good, good-frame}
 use Rattle.memory.specs.Shows.{reading-of, mark-in, Words-say, Words-show, place-at, Places, Shows, number-or-none}
 
@@ -134,13 +136,6 @@ words-alike p q d l r o m e a b i s = record {
 
 -- ---- the records
 
--- a write that keeps a field, wherever it goes
-pub kept {ℓ} : {A : Type ℓ} (f : Thread → A) (ts : List Thread) (x : ℕ) (t : Thread) (z : ℕ) → f t ≡ f (recordAt ts x) → f (recordAt (set ts x t) z) ≡ f (recordAt ts z)
-kept f ts x t z e =
-    both (ltb x (length ts))
-    (λ l. rw (read-set ts x t z (ltb-true _ _ l)) (both (eqb z x) (λ k. rw (k, eqb-true z x k) e) (λ k. rw k)))
-    (λ l. rw (set-out ts x t (ltb-false _ _ l)))
-
 removed-next : (t : Thread) → remove-donated-priority t .next ≡ t .next
 unfolding remove-donated-priority with-donated
 removed-next t = both (has-donated-priority (t .flags)) (λ e. rw e) (λ e. rw e)
@@ -159,6 +154,11 @@ reading-queue p q e = ap (λ (R : Reading). R .queue) e
 pub at-map {ℓ κ} : {A : Type ℓ} {B : Type κ} (g : A → B) (f : ℕ → A) (c : ℕ) (v : A) (d : ℕ) → at (λ y. g (f y)) c (g v) d ≡ g (at f c v d)
 unfolding at
 at-map g f c v d = both (eqb d c) (λ e. rw e) (λ e. rw e)
+
+-- written twice at one place
+pub at-again {ℓ} : {A : Type ℓ} (f : ℕ → A) (c : ℕ) (a b : A) (d : ℕ) → at (at f c a) c b d ≡ at f c b d
+unfolding at
+at-again f c a b d = both (eqb d c) (λ e. rw e) (λ e. rw e)
 
 -- ---- the places
 
@@ -182,6 +182,26 @@ places-kept {ts = ts} x t e p =
       blocked = λ z l k a f. same z ∙ p .blocked z l k a f;
       undeclared = λ z k. same z ∙ p .undeclared z k;
     }
+
+-- thread x goes to another place, and is known
+pub places-moved : {limit : ℕ} {known known′ active active′ : ℕ → Bool} {ts ts′ : List Thread} {w v : World} (x : ℕ) (p : Place)
+    → ((z : ℕ) → place-at ts′ z ≡ cond (eqb z x) p (place-at ts z)) → known′ x ≡ true → ((z : ℕ) → z ≢ x → known′ z ≡ known z) → ((z : ℕ) → z ≢ x → active′ z ≡ active z)
+    → ((d z : ℕ) → z ≢ x → waits v d z ≡ waits w d z) → ((d : ℕ) → waits v d x ≡ true → p ≡ place.Waiting) → (active′ x ≡ true → p ≡ place.Running)
+    → (active′ x ≡ false → Free v x → p ≡ place.Blocked) → Places limit known active ts w → Places limit known′ active′ ts′ v
+places-moved x p now is-known known-else active-else waits-else waiting running blocked was = record {
+  waiting = λ d z h. now z ∙ both (eqb z x)
+      (λ e. rw e (waiting d (rw (eqb-true z x e) at h)))
+      (λ e. rw e (was .waiting d z (sym (waits-else d z (eqb-false z x e)) ∙ h)));
+  running = λ z h. now z ∙ both (eqb z x)
+      (λ e. rw e (running (rw (eqb-true z x e) at h)))
+      (λ e. rw e (was .running z (sym (active-else z (eqb-false z x e)) ∙ h)));
+  blocked = λ z l k a f. now z ∙ both (eqb z x)
+      (λ e. rw e (blocked (rw (eqb-true z x e) at a) (λ d. rw (eqb-true z x e) at (f d))))
+      (λ e. let n = eqb-false z x e in rw e (was .blocked z l (sym (known-else z n) ∙ k) (sym (active-else z n) ∙ a) (λ d. sym (waits-else d z n) ∙ f d)));
+  undeclared = λ z k. now z ∙ both (eqb z x)
+      (λ e. absurd (true≢false (sym is-known ∙ rw (eqb-true z x e) at k)))
+      (λ e. rw e (was .undeclared z (sym (known-else z (eqb-false z x e)) ∙ k)));
+}
 
 -- ---- the frames
 
@@ -221,25 +241,23 @@ module _ {limits : Limits} {topology : Topology} {known active : ℕ → Bool} {
       → Shows limits topology known active ts cs′ (with-cpu w c p)
   shows-written {cs′} c p b r k = shows-beside cs′ c p (b .beside) r (words-same (λ u l m. b .words u m) k)
 
-  -- THE RECORD OF ONE THREAD
-  pub shows-record : {active′ : ℕ → Bool} (x : ℕ) (t : Thread) (u : times.Thread) → x < limits .threads → reads t ≡ u → t .next ≡ recordAt ts x .next
-      → pinned u ≡ pinned (w .threads x) → u .stable .value ≡ w .threads x .stable .value → Under (limits .cpus) (u .queue-cpu) → Places (limits .threads) known active′ (set ts x t) w
-      → Shows limits topology known active′ (set ts x t) cs (with-thread w x u)
-  unfolding with-thread marks
-  shows-record x t u h r n p v q l =
-      let k = in-records x h in
-      let pin : pinned (reads t) ≡ pinned (reads (recordAt ts x)) = ap pinned r ∙ p ∙ sym (ap pinned (s .threads x h)) in
-      let val : reads t .stable .value ≡ reads (recordAt ts x) .stable .value = ap (λ (z : times.Thread). z .stable .value) r ∙ v ∙ sym (ap (λ (z : times.Thread). z .stable .value) (s .threads x h)) in
+  -- THE RECORD OF ONE THREAD, with its link, pin and stable value as they were if it waits
+  pub shows-record : {known′ active′ : ℕ → Bool} (x : ℕ) (t : Thread) (u : times.Thread) → x < limits .threads → reads t ≡ u
+      → ((d : ℕ) → waits w d x ≡ true → (t .next ≡ recordAt ts x .next) × ((pinned u ≡ pinned (w .threads x)) × (u .stable .value ≡ w .threads x .stable .value)))
+      → Under (limits .cpus) (u .queue-cpu) → Places (limits .threads) known′ active′ (set ts x t) w → Shows limits topology known′ active′ (set ts x t) cs (with-thread w x u)
+  unfolding with-thread marks reading-of
+  shows-record x t u h r k q l =
       record {
         queues = good-frame (limits .threads) (limits .cpus) ts cs (λ d. reading-of (w .cpus d)) (s .queues) (set ts x t) cs (rw (length-set ts x t) (s .queues .records)) (s .queues .cpus) (s .queues .rows)
             (λ d m. record {
-              links = λ z a. kept (λ (y : Thread). y .next) ts x t z n;
-              pins = λ z a. kept (λ (y : Thread). pinned (reads y)) ts x t z pin;
-              values = λ z a. kept (λ (y : Thread). reads y .stable .value) ts x t z val;
+              links = λ z a. kept-there (λ (y : Thread). y .next) ts x t z (λ e. k d (rw e at a) .0);
+              pins = λ z a. kept-there (λ (y : Thread). pinned (reads y)) ts x t z (λ e. ap pinned r ∙ k d (rw e at a) .1 .0 ∙ sym (ap pinned (s .threads x h)));
+              values = λ z a. kept-there (λ (y : Thread). reads y .stable .value) ts x t z
+                  (λ e. ap (λ (y : times.Thread). y .stable .value) r ∙ k d (rw e at a) .1 .1 ∙ sym (ap (λ (y : times.Thread). y .stable .value) (s .threads x h)));
             }) (λ d m. refl);
         none-past = rw (length-set ts x t) (s .none-past);
         rows = s .rows;
-        threads = λ z m. rw (read-set ts x t z k) (unfold at in both (eqb z x) (λ e. rw e r) (λ e. rw e (s .threads z m)));
+        threads = λ z m. rw (read-set ts x t z (in-records x h)) (unfold at in both (eqb z x) (λ e. rw e r) (λ e. rw e (s .threads z m)));
         queue-cpus = λ z m. unfold at in both (eqb z x) (λ e. rw e q) (λ e. rw e (s .queue-cpus z m));
         words = s .words;
         places = places-same w (with-thread w x u) (λ d z. refl) l;
@@ -248,7 +266,7 @@ module _ {limits : Limits} {topology : Topology} {known active : ℕ → Bool} {
   -- FIELDS OF A RECORD THAT NO QUEUE ASKS FOR: neither its place nor its link, pin or stable value
   pub shows-fields : (x : ℕ) (t : Thread) (u : times.Thread) → x < limits .threads → reads t ≡ u → t .next ≡ recordAt ts x .next → t .place ≡ recordAt ts x .place
       → pinned u ≡ pinned (w .threads x) → u .stable .value ≡ w .threads x .stable .value → Under (limits .cpus) (u .queue-cpu) → Shows limits topology known active (set ts x t) cs (with-thread w x u)
-  shows-fields x t u h r n l p v q = shows-record x t u h r n p v q (places-kept x t l (s .places))
+  shows-fields x t u h r n l p v q = shows-record x t u h r (λ d e. (n, (p, v))) q (places-kept x t l (s .places))
 
   -- 19: `remove_donated_priority`
   pub shows-removed : (x : ℕ) → x < limits .threads → Shows limits topology known active (set ts x (remove-donated-priority (recordAt ts x))) cs (with-thread w x (donated-to (w .threads x) none))
@@ -319,3 +337,9 @@ pub shows-alike : {limits : Limits} {topology : Topology} {known active : ℕ �
     → ((c : ℕ) → v .cpus c ≡ w .cpus c) → ((x : ℕ) → v .threads x ≡ w .threads x) → Shows limits topology known active ts cs w → Shows limits topology known active ts cs v
 shows-alike {topology = topology} {cs = cs} w v e f s =
     shows-words s topology cs 0 v (written-none cs 0 .beside) (λ c. ap reading-of (e c)) f (λ c h. subst (Words-show topology cs c) (sym (e c)) (s .words c h))
+
+-- a thread that is what it was
+pub shows-same-thread : {limits : Limits} {topology : Topology} {known active : ℕ → Bool} {ts : List Thread} {cs : List (List ℕ)} (w : World) (x : ℕ)
+    → Shows limits topology known active ts cs (with-thread w x (w .threads x)) → Shows limits topology known active ts cs w
+unfolding with-thread
+shows-same-thread w x s = shows-alike (with-thread w x (w .threads x)) w (λ c. refl) (λ z. sym (at-keeps (λ (t : times.Thread). t) (w .threads) x (w .threads x) refl z)) s

@@ -28,23 +28,23 @@ use Rattle.thread.specs.declared.place.Place.the-variants as place
 use Rattle.thread.specs.Reads.{reads}
 use Rattle.thread.specs.Thread.{NONE, WAITING, RUNNING, with-place, with-next, with-stable}
 use Rattle.thread.specs.Place.{place-in, reads-place, reads-next}
-use Rattle.thread.specs.Priority.{stable-effective-priority, reads-stable, effective-below}
+use Rattle.thread.specs.Priority.{stable-effective-priority, effective-below}
 use Rattle.runqueue.specs.declared.rq.RunQueue.{RunQueue}
 use Rattle.runqueue.specs.declared.rq.Arrival.{Arrival}
 use Rattle.runqueue.specs.declared.rq.Front.{Front}
 use Rattle.runqueue.specs.declared.rq.Front.the-variants as front
 use Rattle.runqueue.specs.RunQueue.{rqFront, rqInsert, rqInsertInto, rqInsertRealtime, rqInsertTimeshare, rqInsertIdle}
 use Rattle.processor.specs.Queue.{queueAt, queueStored, word-after-store, row-length-store}
-use Rattle.represent.specs.Well.{Reading, Well, put-reading, as-arrival, take-reading}
+use Rattle.represent.specs.Well.{Reading, put-reading, as-arrival, take-reading}
 use Rattle.represent.specs.Linked.{has-later}
 use Rattle.represent.specs.Operations.{put-has, in-ts, movable-same}
 use Rattle.lent.specs.declared.rq.Taken.{Taken}
 use Rattle.lent.specs.declared.rq.Taken.the-variants as taken
-use Rattle.lent.specs.Rq.{recordAt, arrivalOf, steadyIn, putIn, linkBehind, putOf, insertDef, leftBy, Took, tookFrom, takeDef}
-use Rattle.represent.specs.Records.{marks, read-set, length-put}
+use Rattle.lent.specs.Rq.{recordAt, arrivalOf, steadyIn, putIn, putOf, insertDef, leftBy, Took, tookFrom, takeDef}
+use Rattle.represent.specs.Records.{marks, length-put, field-set, kept, put-reads, put-field}
 use Rattle.represent.specs.System.{Good, arriving, put-law, Taken-as, take-law}
 use Rattle.memory.specs.Shows.{reading-of, Words-show, place-at, Places, Small, Shows}
-use Rattle.memory.specs.Frames.{kept, words-same, at-map, in-records, shows-alike, words-alike}
+use Rattle.memory.specs.Frames.{words-same, at-map, in-records, shows-alike, words-alike, places-moved}
 
 pub fits : {limits : Limits} → Small limits → limits .threads ≤ NONE
 fits small = omega (arith, small .threads)
@@ -91,26 +91,11 @@ put-part q a = go (part-of (a .priority .class) (a .due))
     go part.Timeshare = unfold rqInsertInto rqInsertTimeshare in refl
     go part.Idle = unfold rqInsertInto rqInsertIdle in refl
 
-put-reads : (t : Thread) (p : Part) → reads (putIn t p) ≡ cond (is-timeshare p) (steadied (reads t)) (reads t)
-unfolding putIn steadyIn is-timeshare
-put-reads t part.Realtime = reads-next (with-place t WAITING) NONE ∙ reads-place t WAITING
-put-reads t part.Timeshare = reads-stable _ ∙ ap steadied (reads-next (with-place t WAITING) NONE ∙ reads-place t WAITING)
-put-reads t part.Idle = reads-next (with-place t WAITING) NONE ∙ reads-place t WAITING
-
 put-place : (t : Thread) (p : Part) → putIn t p .place ≡ WAITING
 unfolding putIn steadyIn with-next with-place stable-effective-priority with-stable
 put-place t part.Realtime = refl
 put-place t part.Timeshare = refl
 put-place t part.Idle = refl
-
-put-field {ℓ} : {A : Type ℓ} (f : Thread → A) → ((t : Thread) (n : ℕ) → f (with-next t n) ≡ f t) → (ts : List Thread) (x : ℕ) (p : Part) (b z : ℕ) → x < length ts
-    → f (recordAt (linkBehind (set ts x (putIn (recordAt ts x) p)) b x) z) ≡ cond (eqb z x) (f (putIn (recordAt ts x) p)) (f (recordAt ts z))
-unfolding linkBehind
-put-field f past ts x p b z h =
-    let written : List Thread = set ts x (putIn (recordAt ts x) p) in
-    let first : f (recordAt written z) ≡ cond (eqb z x) (f (putIn (recordAt ts x) p)) (f (recordAt ts z)) =
-    rw (read-set ts x (putIn (recordAt ts x) p) z h) (both (eqb z x) (λ e. rw e) (λ e. rw e)) in
-    both (eqb b NONE) (λ e. rw e first) (λ e. rw e (kept f written b (with-next (recordAt written b) x) z (past (recordAt written b) x) ∙ first))
 
 steady-home : (n : ℕ) (b : Bool) (t : times.Thread) → Under n (t .queue-cpu) → Under n (cond b (steadied t) t .queue-cpu)
 unfolding steadied
@@ -175,25 +160,13 @@ module _ (limits : Limits) (topology : Topology) (tick us : ℕ) (known : ℕ �
     put-place-at : (z : ℕ) → place-at (insertDef ts cs c x tick current .threads) z ≡ cond (eqb z x) place.Waiting (place-at ts z)
     unfolding insertDef place-in with-next
     put-place-at z =
-        put-field (λ (u : Thread). place-in (u .place)) (λ t m. refl) ts x (putOf ts cs c x tick current .part) (putOf ts cs c x tick current .behind) z (in-records s x below)
+        put-field ts x (in-records s x below) (putOf ts cs c x tick current .part) (putOf ts cs c x tick current .behind) (λ (u : Thread). place-in (u .place)) (λ t m. refl) z
         ∙ both (eqb z x) (λ e. rw (e, put-place (recordAt ts x) (putOf ts cs c x tick current .part))) (λ e. rw e)
 
     put-places : Places (limits .threads) known (at active x false) (insertDef ts cs c x tick current .threads) v
     put-places =
-        let other : (z : ℕ) → z ≢ x → place-at (insertDef ts cs c x tick current .threads) z ≡ place-at ts z = λ z h. put-place-at z ∙ rw (ne-eqb z x h) in
-        let active-other : (z : ℕ) → z ≢ x → at active x false z ≡ active z = λ z h. at-there active x false z h in
-        record {
-          waiting = λ d z h. both (eqb z x) (λ e. put-place-at z ∙ rw e) (λ e. let k = eqb-false z x e in other z k ∙ s .places .waiting d z (sym (waits-still d z k) ∙ h));
-          running = λ z h. both (eqb z x)
-              (λ e. absurd (false≢true (sym (at-here active x false) ∙ rw (eqb-true z x e) at h)))
-              (λ e. let k = eqb-false z x e in other z k ∙ s .places .running z (sym (active-other z k) ∙ h));
-          blocked = λ z l k a f. both (eqb z x)
-              (λ e. absurd (true≢false (sym (waits-here x ∙ rw (eq-eqb x x refl)) ∙ rw (eqb-true z x e) at (f c))))
-              (λ e. let m = eqb-false z x e in other z m ∙ s .places .blocked z l k (sym (active-other z m) ∙ a) (λ d. sym (waits-still d z m) ∙ f d));
-          undeclared = λ z k. both (eqb z x)
-              (λ e. absurd (true≢false (sym (n .is-known) ∙ rw (eqb-true z x e) at k)))
-              (λ e. other z (eqb-false z x e) ∙ s .places .undeclared z k);
-        }
+        places-moved x place.Waiting put-place-at (n .is-known) (λ z h. refl) (λ z h. at-there active x false z h) waits-still (λ d h. refl)
+        (λ h. absurd (false≢true (sym (at-here active x false) ∙ h))) (λ a f. absurd (true≢false (sym (waits-here x ∙ rw (eq-eqb x x refl)) ∙ f c))) (s .places)
 
     -- PUT
     pub shows-insert : (let d = insertDef ts cs c x tick current in
@@ -204,7 +177,7 @@ module _ (limits : Limits) (topology : Topology) (tick us : ℕ) (known : ℕ �
         (subst (λ (R : Reading). Good (limits .threads) (limits .cpus) (insertDef ts cs c x tick current .threads) (insertDef ts cs c x tick current .cpus) (at (λ d. reading-of (w .cpus d)) c R)) read-there
         (put-law (limits .threads) (limits .cpus) ts cs (λ y. reading-of (w .cpus y)) (s .queues) c (n .near) (fits small) x tick current below nobody-reads))
         (words-queue cs c (w .cpus c) _ _ (s .words c (n .near)))
-        (λ z h. put-field reads reads-next ts x (putOf ts cs c x tick current .part) (putOf ts cs c x tick current .behind) z (in-records s x below)
+        (λ z h. put-field ts x (in-records s x below) (putOf ts cs c x tick current .part) (putOf ts cs c x tick current .behind) reads reads-next z
         ∙ (unfold at in both (eqb z x) (λ e. rw e thread-there) (λ e. rw e (s .threads z h))))
         (λ z h. unfold at in both (eqb z x) (λ e. rw e (steady-home (limits .cpus) (is-timeshare (part-for (arrival limits topology tick us (w .threads x) x current))) (w .threads x) (s .queue-cpus x below))) (λ e. rw e (s .queue-cpus z h)))
         put-places
@@ -247,9 +220,6 @@ module _ (limits : Limits) (topology : Topology) (tick us : ℕ) (known : ℕ �
   module _ {active but : ℕ → Bool} {ts : List Thread} {cs : List (List ℕ)} {w : World} (s : Shows limits topology known active ts cs w) (safe : Sound limits known H but w) (c : ℕ) (near : c < limits .cpus) where
     abbrev Q : Queue
     Q = w .cpus c .queue
-
-    well : Well (limits .threads) (marks ts) (queueAt cs c) (reading-of (w .cpus c))
-    well = s .queues .shows .each c near
 
     line-in : (z : ℕ) → has z (order Q) ≡ true → z < limits .threads
     line-in z h = numbered z (safe .placed c z h .1)
@@ -303,26 +273,12 @@ module _ (limits : Limits) (topology : Topology) (tick us : ℕ) (known : ℕ �
 
         take-place-at : (z : ℕ) → place-at running-now z ≡ cond (eqb z x) place.Running (place-at ts z)
         unfolding place-in with-place
-        take-place-at z = rw (read-set ts x (with-place (recordAt ts x) RUNNING) z (in-records s x was-in)) (both (eqb z x) (λ e. rw e) (λ e. rw e))
+        take-place-at z = field-set (λ (u : Thread). place-in (u .place)) ts x (with-place (recordAt ts x) RUNNING) z (in-records s x was-in)
 
         take-places : Places (limits .threads) known (at active x true) running-now (got .world)
         take-places =
-            let other : (z : ℕ) → z ≢ x → place-at running-now z ≡ place-at ts z = λ z h. take-place-at z ∙ rw (ne-eqb z x h) in
-            let active-other : (z : ℕ) → z ≢ x → at active x true z ≡ active z = λ z h. at-there active x true z h in
-            record {
-              waiting = λ d z h. both (eqb z x)
-                  (λ e. absurd (true≢false (sym (rw (eqb-true z x e) at h) ∙ kept-taken .handed-free x (unfold handed-out in refl) d)))
-                  (λ e. let k = eqb-false z x e in other z k ∙ s .places .waiting d z (sym (left-waits d z k) ∙ h));
-              running = λ z h. both (eqb z x)
-                  (λ e. take-place-at z ∙ rw e)
-                  (λ e. let k = eqb-false z x e in other z k ∙ s .places .running z (sym (active-other z k) ∙ h));
-              blocked = λ z l k m f. both (eqb z x)
-                  (λ e. absurd (true≢false (sym (at-here active x true) ∙ rw (eqb-true z x e) at m)))
-                  (λ e. let o = eqb-false z x e in other z o ∙ s .places .blocked z l k (sym (active-other z o) ∙ m) (λ d. sym (left-waits d z o) ∙ f d));
-              undeclared = λ z k. both (eqb z x)
-                  (λ e. absurd (true≢false (sym (kept-taken .handed-known x (unfold handed-out in refl)) ∙ rw (eqb-true z x e) at k)))
-                  (λ e. other z (eqb-false z x e) ∙ s .places .undeclared z k);
-            }
+            places-moved x place.Running take-place-at (kept-taken .handed-known x (unfold handed-out in refl)) (λ z h. refl) (λ z h. at-there active x true z h) left-waits
+            (λ d h. absurd (true≢false (sym h ∙ kept-taken .handed-free x (unfold handed-out in refl) d))) (λ h. refl) (λ a f. absurd (true≢false (sym (at-here active x true) ∙ a))) (s .places)
 
         some-shows : (p′ : Part) (b′ : ℕ)
             → Good (limits .threads) (limits .cpus) (tookFrom ts cs c (front.At p′ b′ x) .threads) (tookFrom ts cs c (front.At p′ b′ x) .cpus)

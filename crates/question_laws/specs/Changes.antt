@@ -8,11 +8,11 @@ use mathlib.Core.List.{List, [], _∷_, _++_}
 use native.Mathlib.Omega.{arith}
 use lib.ListN.{length, set, length-set, length-append}
 use lib.Dec.{eqb, ltb, leb}
-use borrow.Author.Tests.{eqb-true, eqb-false, ne-eqb, leb-true, ltb-true, not-true}
+use borrow.Author.Tests.{eqb-true, eqb-false, leb-true, ltb-true, not-true}
 use Rattle.rules.specs.Line.{both}
 use Rattle.rules.specs.Priority.{nr-values, priority, class-at}
 use Rattle.rules.specs.Times as times
-use Rattle.rules.specs.Times.{is-some, pinned, donated-to, critical-at}
+use Rattle.rules.specs.Times.{is-some, donated-to, critical-at}
 use Rattle.rules.specs.Puts.{PutOrTake}
 use Rattle.rules.specs.State as rules
 use Rattle.rules.specs.State.{at, Limits, Topology, is-number, runs-on, new-thread}
@@ -35,10 +35,9 @@ use Rattle.processor.specs.Words.{width, word, put-word, word-put-other}
 use Rattle.nodes.specs.Node.{put-node, linked, add-child, put-cpu, set-cpu-up, set-cpu, length-put-cpu}
 use Rattle.nodes.specs.Words.{length-put as length-node}
 use Rattle.lent.specs.Rq.{recordAt}
-use Rattle.represent.specs.Records.{marks, read-set}
-use Rattle.represent.specs.System.{good-frame}
-use Rattle.memory.specs.Shows.{reading-of, number-or-none, mark-in, Words-show, place-at, Shows}
-use Rattle.memory.specs.Frames.{beside-put, word-here, in-records, in-rows, words-same, words-alike, written-none, shows-words, shows-removed, shows-critical}
+use Rattle.represent.specs.Records.{field-set}
+use Rattle.memory.specs.Shows.{number-or-none, mark-in, Words-show, place-at, Shows}
+use Rattle.memory.specs.Frames.{beside-put, word-here, in-records, in-rows, words-same, words-alike, written-none, shows-words, shows-removed, shows-critical, shows-record, places-moved}
 use Rattle.tree.specs.Lists.{any-none}
 use Rattle.tree.specs.Tree.{Tree, number-is}
 use Rattle.tree.specs.Grown.{tree-child}
@@ -126,35 +125,11 @@ module _ {limits : Limits} {topology : Topology} {known active : ℕ → Bool} {
   -- the record of a thread that is not known, and so neither runs nor waits, is written as that of one declared
   shows-new : (x : ℕ) (t : Thread) (u : times.Thread) → x < limits .threads → Free w x → active x ≡ false → reads t ≡ u → u .queue-cpu ≡ none → t .place ≡ BLOCKED
       → Shows limits topology (at known x true) active (set ts x t) cs (with-thread w x u)
-  unfolding with-thread marks
+  unfolding Under place-in
   shows-new x t u h f a r q b =
-      let read : (z : ℕ) → recordAt (set ts x t) z ≡ cond (eqb z x) t (recordAt ts z) = λ z. read-set ts x t z (in-records s x h) in
-      let other : (c z : ℕ) → waits w c z ≡ true → recordAt (set ts x t) z ≡ recordAt ts z =
-      λ c z e. read z ∙ rw (ne-eqb z x (λ k. true≢false (sym e ∙ rw k (f c)))) in
-      let here : place-in (t .place) ≡ place.Blocked = rw b (unfold place-in in refl) in
-      let at-place : (z : ℕ) → place-at (set ts x t) z ≡ cond (eqb z x) place.Blocked (place-at ts z) =
-      λ z. ap (λ (y : Thread). place-in (y .place)) (read z) ∙ both (eqb z x) (λ e. rw e here) (λ e. rw e) in
-      record {
-        queues = good-frame (limits .threads) (limits .cpus) ts cs (λ d. reading-of (w .cpus d)) (s .queues) (set ts x t) cs (rw (length-set ts x t) (s .queues .records)) (s .queues .cpus) (s .queues .rows)
-            (λ d m. record {
-              links = λ z e. ap (λ (y : Thread). y .next) (other d z (unfold reading-of in e));
-              pins = λ z e. ap (λ (y : Thread). pinned (reads y)) (other d z (unfold reading-of in e));
-              values = λ z e. ap (λ (y : Thread). reads y .stable .value) (other d z (unfold reading-of in e));
-            }) (λ d m. refl);
-        none-past = rw (length-set ts x t) (s .none-past);
-        rows = s .rows;
-        threads = λ z m. rw (read z) (unfold at in both (eqb z x) (λ e. rw e r) (λ e. rw e (s .threads z m)));
-        queue-cpus = λ z m. unfold at in both (eqb z x) (λ e. rw (e, q) (unfold Under in tt)) (λ e. rw e (s .queue-cpus z m));
-        words = s .words;
-        places = record {
-          waiting = λ c z e. ap (λ (y : Thread). place-in (y .place)) (other c z e) ∙ s .places .waiting c z e;
-          running = λ z e. at-place z ∙ rw (ne-eqb z x (λ k. true≢false (sym e ∙ rw k a))) (s .places .running z e);
-          blocked = λ z l k e g. at-place z ∙ both (eqb z x) (λ n. rw n) (λ n. rw n (s .places .blocked z l (sym (at-there known x true z (eqb-false z x n)) ∙ k) e g));
-          undeclared = λ z k. at-place z ∙ both (eqb z x)
-              (λ n. absurd (true≢false (sym (at-here known x true) ∙ rw (eqb-true z x n) at k)))
-              (λ n. rw n (s .places .undeclared z (sym (at-there known x true z (eqb-false z x n)) ∙ k)));
-        };
-      }
+      shows-record s x t u h r (λ d e. absurd (true≢false (sym e ∙ f d))) (rw q tt)
+      (places-moved x place.Blocked (λ z. field-set (λ (y : Thread). place-in (y .place)) ts x t z (in-records s x h) ∙ ap (λ n. cond (eqb z x) (place-in n) (place-at ts z)) b)
+      (at-here known x true) (λ z n. at-there known x true z n) (λ z n. refl) (λ d z n. refl) (λ d e. absurd (true≢false (sym e ∙ f d))) (λ e. absurd (true≢false (sym e ∙ a))) (λ e g. refl) (s .places))
 
 -- ---- memory that stands for a state
 

@@ -621,12 +621,6 @@ module _ (limit : ℕ) (small : limit ≤ NONE) (m : Marks) (q : RunQueue) (R : 
     unfolding rqInsert
     put-behind = part-behind (part-of (a .priority .class) (a .due))
 
-    put-part : (p : Part) → rqInsertInto p q a .part ≡ p
-    unfolding rqInsertInto rqInsertRealtime rqInsertTimeshare rqInsertIdle
-    put-part part.Realtime = refl
-    put-part part.Timeshare = refl
-    put-part part.Idle = refl
-
     values-stay : (p : Part) (z : ℕ) → eqb z y ≡ false → value-after p (m .value) y v z ≡ m .value z
     unfolding value-after at
     values-stay part.Realtime z e = refl

@@ -6,13 +6,12 @@ use mathlib.Core.Option.{Option, none, some}
 use mathlib.Core.List.{List}
 use lib.ListN.{set}
 use lib.Dec.{eqb}
-use borrow.Author.Tests.{eqb-true}
 use Rattle.rules.specs.declared.Priority.{Priority}
 use Rattle.rules.specs.Line.{both}
 use Rattle.rules.specs.Priority.{nr-values, from-raw, less, donation-accepted}
 use Rattle.rules.specs.Times as times
 use Rattle.rules.specs.Times.{effective-priority, pinned, donated-to}
-use Rattle.rules.specs.State.{at, Limits, Topology}
+use Rattle.rules.specs.State.{Limits, Topology}
 use Rattle.rules.specs.Schedule as sched
 use Rattle.rules.specs.Schedule.{World, with-thread, wakeup, is-empty}
 use Rattle.rules.specs.Sound.{at-here, Under}
@@ -25,7 +24,7 @@ use Rattle.thread.specs.Priority.{donate-priority, reads-donated}
 use Rattle.processor.specs.Queue.{queueAt}
 use Rattle.lent.specs.Rq.{recordAt}
 use Rattle.memory.specs.Shows.{Small, Shows}
-use Rattle.memory.specs.Frames.{shows-alike, shows-fields}
+use Rattle.memory.specs.Frames.{shows-fields, shows-same-thread}
 use Rattle.memory.specs.Numbers.{advertised-shown, empty-shown}
 use Rattle.step.specs.Running.{runningAt}
 use Rattle.step.specs.Donate.{wakeupDue, wokenIn, maybeReschedule, donationSignals}
@@ -99,10 +98,6 @@ module _ (limits : Limits) (topology : Topology) (tick us : ℕ) (known : ℕ �
       shows-maybe none a = a
       shows-maybe (some c) a = shows-wakeup _ a
 
-      at-self : (z : ℕ) → with-thread w x u .threads z ≡ w .threads z
-      unfolding with-thread at
-      at-self z = both (eqb z x) (λ e. rw (e, eqb-true z x e)) (λ e. rw e)
-
       pub shows-donated : (wakeups : ℕ) → Shows limits topology known active (donatePriority ts cs us x p wakeups .threads) cs (sched.donate-priority limits topology tick us w x p)
       unfolding donatePriority sched.donate-priority
       shows-donated wakeups =
@@ -114,7 +109,7 @@ module _ (limits : Limits) (topology : Topology) (tick us : ℕ) (known : ℕ �
           (λ e.
           let f : Shows limits topology known active (set ts x (donate-priority r p .thread)) cs (with-thread w x u) =
           subst (λ (b : Bool). Shows limits topology known active (set ts x (donate-priority r p .thread)) cs (with-thread w x (cond b (donated-to u (some p)) u))) e first in
-          rw e (shows-alike (with-thread w x u) w (λ c. unfold with-thread in refl) (λ z. sym (at-self z)) f))
+          rw e (shows-same-thread w x f))
 
       -- its count of wake-ups
       module _ (runs : (y : ℕ) → w .cpus us .running ≡ some y → known y ≡ true) (wakeups : ℕ) (count : wakeups ≡ w .wakeups) (few : w .wakeups < NONE) (yes : accepted ≡ true) where

@@ -2,11 +2,10 @@
 use Prim.Native.Nat.{ℕ, _≤_, _<_}
 use mathlib.Core.Path.{_≡_, refl, sym, ap, subst, _∙_}
 use mathlib.Core.Bool.{Bool, true, false, not, _||_, false≢true}
-use mathlib.Core.Option.{Option, none, some}
+use mathlib.Core.Option.{Option, none, some, Option·none-ne-some}
 use mathlib.Core.List.{List}
 use lib.Dec.{eqb}
 use borrow.Author.Tests.{eqb-true}
-use native.Mathlib.Omega.{arith}
 use Rattle.rules.specs.Line.{both}
 use Rattle.rules.specs.Times.{effective-priority, is-some}
 use Rattle.rules.specs.Puts.{PutOrTake}
@@ -48,9 +47,6 @@ flags-in f = record { yield = f .yields; preempt = f .preempt; again = f .reinse
 named-some : {c : ℕ} → named (cpu.Some c) ≡ some c
 unfolding named
 named-some = refl
-
-no-some : (y : ℕ) → none ≡ some y → ⊥
-no-some y e = let z : _≡_ {A = ℕ} 0 1 = cc in omega arith
 
 idle-is : not (is-some none) ≡ true
 unfolding is-some
@@ -195,7 +191,7 @@ module _ (limits : Limits) (topology : Topology) (tick us : ℕ) (known : ℕ �
           (record {
             runs = λ c y b q. st .runs c y refl q;
             others = λ y h. st .others y (λ c b q. both (eqb c us)
-                (λ p. no-some y (sym e ∙ ap (λ d. w .cpus d .running) (sym (eqb-true c us p)) ∙ q))
+                (λ p. Option·none-ne-some y (sym e ∙ ap (λ d. w .cpus d .running) (sym (eqb-true c us p)) ∙ q))
                 (λ p. h c p q));
           })
           s (weaker limits topology tick us known numbered H us-in w safe));
