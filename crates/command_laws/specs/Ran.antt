@@ -6,7 +6,8 @@ use mathlib.Core.Bool.{Bool, true, false, false≢true}
 use mathlib.Core.Option.{Option, none, some}
 use mathlib.Core.List.{List}
 use native.Mathlib.Omega.{arith}
-use borrow.Author.Tests.{ne-eqb}
+use lib.Dec.{ltb}
+use borrow.Author.Tests.{ne-eqb, ltb-false}
 use Rattle.rules.specs.declared.Priority.{Priority}
 use Rattle.rules.specs.Priority.{nr-values, priority, class-at}
 use Rattle.rules.specs.Times.{is-some}
@@ -30,6 +31,8 @@ use Rattle.memory.specs.Shows.{number-or-none, Shows}
 use Rattle.memory.specs.Frames.{shows-alike}
 use Rattle.memory.specs.Numbers.{word-load, load-shown, running-shown}
 use Rattle.lines.specs.Lines.{refusal-number, shown-option, running-option, answer-of}
+use Rattle.topology.specs.CpuSet.{max-cpu-id}
+use Rattle.nodes.specs.Node.{lesser}
 use Rattle.questions.specs.declared.state.State.{State}
 use Rattle.sched.specs.declared.context.Context.{Context}
 use Rattle.sched.specs.World as lent
@@ -60,6 +63,11 @@ running-same : (o : Option ℕ) → ((x : ℕ) → o ≡ some x → x < NONE) �
 unfolding running-option running-in number-or-none running-of
 running-same none h = refl
 running-same (some x) h = let l : x < NONE = h x refl in rw (ne-eqb x NONE (λ e. omega arith))
+
+-- a limit that a set of CPUs can hold is not cut
+uncut : (n : ℕ) → n ≤ max-cpu-id → lesser n max-cpu-id ≡ n
+unfolding lesser
+uncut n h = both (ltb n max-cpu-id) (λ e. rw e) (λ e. rw e (let l : max-cpu-id ≤ n = ltb-false _ _ e in omega arith))
 
 -- ---- what a command changes beside queues
 
@@ -114,9 +122,9 @@ module _ {H : ℕ → List PutOrTake} {ts : List Thread} {cs ns : List (List ℕ
   unfolding world-of
   few-still = omega arith
 
-  told : (c : ℕ) → context (s .limits) (s .tick) c ≡ record { us = c; tick = a .tick; shortest = a .shortest; limit = a .cpus }
+  told : (c : ℕ) → context (s .limits) (s .tick) c ≡ record { us = c; tick = a .tick; shortest = a .shortest; limit = lesser (a .cpus) max-cpu-id }
   unfolding context limits-in
-  told c = λ i. record { us = c; tick = sym (m .tick) i; shortest = m .limits i .shortest; limit = m .limits i .cpus }
+  told c = λ i. record { us = c; tick = sym (m .tick) i; shortest = m .limits i .shortest; limit = (ap (λ (l : Limits). l .cpus) (m .limits) ∙ sym (uncut (a .cpus) (rw (← ap (λ (l : Limits). l .cpus) (m .limits)) (m .tree .cpus-fit)))) i }
 
   -- ---- what is left: the records and words show what the rules leave
 
