@@ -17,7 +17,7 @@ use Rattle.rules.specs.State.{Limits, runs-on, blocked}
 use Rattle.rules.specs.Schedule as sched
 use Rattle.rules.specs.Schedule.{World, Got, with-cpu, with-thread}
 use Rattle.rules.specs.Requests.{schedule-thread, schedule, hardtick, stattick, resched, maybe-preempt, donate, asks, flags-of}
-use Rattle.rules.specs.Questions.{refusal, concerning, thread-declared, thread-blocked}
+use Rattle.rules.specs.Questions.{refusal, concerning, thread-declared, thread-blocked, most-accepted}
 use Rattle.rules.specs.Commands as rule
 use Rattle.rules.specs.Commands.{Answer, world-of, running-of, obeys, schedules, scheduled-on}
 use Rattle.rules.specs.Sound.{Under, Sound, New}
@@ -26,7 +26,7 @@ use Rattle.rules.specs.Reached.{yes, value-below, blocked-new}
 use Rattle.thread.specs.declared.Thread.{Thread}
 use Rattle.thread.specs.Thread.{NONE}
 use Rattle.processor.specs.Words.{word}
-use Rattle.memory.specs.Shows.{number-or-none, Shows}
+use Rattle.memory.specs.Shows.{number-or-none, Shows, most-tick}
 use Rattle.memory.specs.Frames.{shows-alike}
 use Rattle.memory.specs.Numbers.{word-load, load-shown, running-shown}
 use Rattle.lines.specs.Lines.{refusal-number, shown-option, running-option, answer-of}
@@ -95,7 +95,7 @@ module _ {H : ℕ → List PutOrTake} {ts : List Thread} {cs ns : List (List ℕ
   safe : Soundly w
   safe = r .reached .sound
 
-  early : s .tick ≤ 4611686018427387904
+  early : s .tick ≤ most-tick
   early = m .tick-fits
 
   settled : Settled no-one (runs s) w
@@ -125,7 +125,7 @@ module _ {H : ℕ → List PutOrTake} {ts : List Thread} {cs ns : List (List ℕ
   unfolding rule.ran runs runs-on runs-somewhere world-of
   shows-left v x d e = shows-alike v _ (λ c. refl) (λ z. refl) (ends-runs (λ c y q. d .runs c y q .0) e)
 
-  stands-ran : {ts′ : List Thread} {cs′ : List (List ℕ)} (v : World) (x : Answer) → s .accepted < 4294967295 → Soundly v → Ends (s .limits) (s .topology) (s .known) ts′ cs′ v
+  stands-ran : {ts′ : List Thread} {cs′ : List (List ℕ)} (v : World) (x : Answer) → s .accepted < most-accepted → Soundly v → Ends (s .limits) (s .topology) (s .known) ts′ cs′ v
       → Stands ts′ cs′ ns (accepted a) (rule.ran s v x .state)
   unfolding rule.ran accepted limits-in
   stands-ran v x room d e = record {
@@ -156,7 +156,7 @@ module _ {H : ℕ → List PutOrTake} {ts : List Thread} {cs ns : List (List ℕ
       λ i. record { refused = 0; cpu = some c; running = p i; load = some (l i); wakeups = some (k i) }
 
   -- ---- a command that a CPU ran, and whose line shows CPU c
-  ran-law : (d : lent.World) (v : World) (c used : ℕ) → s .accepted < 4294967295 → c < s .limits .cpus → Soundly v → Leave d v
+  ran-law : (d : lent.World) (v : World) (c used : ℕ) → s .accepted < most-accepted → c < s .limits .cpus → Soundly v → Leave d v
       → As-ruled (record { outcome = ran (d .cpus) a c (d .wakeups) used; threads = d .threads; cpus = d .cpus; nodes = ns }) (rule.ran s v (rule.shown v c))
   unfolding ran
   ran-law d v c used room near ok e = record {
@@ -165,7 +165,7 @@ module _ {H : ℕ → List PutOrTake} {ts : List Thread} {cs ns : List (List ℕ
   }
 
   -- a blocked thread goes into the queue of the CPU selected for it
-  module _ (c x used : ℕ) (on : On s c) (room : s .accepted < 4294967295) (known : s .known x ≡ true) (idle : blocked s x ≡ true) where
+  module _ (c x used : ℕ) (on : On s c) (room : s .accepted < most-accepted) (known : s .known x ≡ true) (idle : blocked s x ≡ true) where
     abbrev chosen : Got
     chosen = sched.select-cpu (s .limits) (s .topology) (s .tick) c w x none
 

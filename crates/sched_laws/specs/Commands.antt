@@ -22,7 +22,7 @@ use Rattle.thread.specs.declared.time.OptionCpu.the-variants as cpu
 use Rattle.thread.specs.Reads.{named}
 use Rattle.thread.specs.Thread.{NONE}
 use Rattle.lent.specs.Rq.{recordAt}
-use Rattle.memory.specs.Shows.{Small, Shows}
+use Rattle.memory.specs.Shows.{Small, Shows, most-tick}
 use Rattle.tree.specs.Tree.{Tree, number-is}
 use Rattle.tree.specs.Lists.{any-at}
 use Rattle.choice.specs.Reads.{as-cpu}
@@ -90,7 +90,7 @@ pub ends-runs : {limits : Limits} {topology : Topology} {known : ℕ → Bool} {
 ends-runs {limits} {v = v} near e = shows-active (runs-somewhere limits v) (settled-is limits (e .active) v near (e .settled)) (e .shows)
 
 module _ (limits : Limits) (topology : Topology) (tick us : ℕ) (known : ℕ → Bool) (numbered : (x : ℕ) → known x ≡ true → x < limits .threads) (small : Small limits)
-    (early : tick ≤ 4611686018427387904) (us-in : us < limits .cpus) (H : ℕ → List PutOrTake) (ns : List (List ℕ)) (tree : Tree limits ns topology) (node : ℕ) (put-on : topology .placed us ≡ some node) where
+    (early : tick ≤ most-tick) (us-in : us < limits .cpus) (H : ℕ → List PutOrTake) (ns : List (List ℕ)) (tree : Tree limits ns topology) (node : ℕ) (put-on : topology .placed us ≡ some node) where
   abbrev k : Context
   k = context limits tick us
 
