@@ -13,9 +13,9 @@ use Rattle.rules.specs.Times.{is-some}
 use Rattle.rules.specs.Queue.{load}
 use Rattle.rules.specs.Puts.{PutOrTake}
 use Rattle.rules.specs.State as rules
-use Rattle.rules.specs.State.{Limits, runs-on, blocked}
+use Rattle.rules.specs.State.{runs-on, blocked}
 use Rattle.rules.specs.Schedule as sched
-use Rattle.rules.specs.Schedule.{World, Got, with-cpu, with-thread}
+use Rattle.rules.specs.Schedule.{World, Got}
 use Rattle.rules.specs.Requests.{schedule-thread, schedule, hardtick, stattick, resched, maybe-preempt, donate, asks, flags-of}
 use Rattle.rules.specs.Questions.{refusal, concerning, thread-declared, thread-blocked, most-accepted}
 use Rattle.rules.specs.Commands as rule
@@ -46,7 +46,7 @@ use Rattle.sched_laws.specs.Scheduled as law
 use Rattle.sched_laws.specs.Scheduled.{Leaves, shows-schedule}
 use Rattle.sched_laws.specs.Commands.{settled-same, runs-somewhere, settled-runs, ends-runs, shows-maybe-preempt, ends-resched, ends-hardtick, woken-on, wakes, scheduled-thread}
 use Rattle.sched_laws.specs.Donates.{shows-donated, counts-donated}
-use Rattle.sched_laws.specs.Spared.{donate-running}
+use Rattle.sched_laws.specs.Spared.{donate-running, resched-wakeups, hardtick-wakeups}
 use Rattle.balance_laws.specs.Stattick.{stattick-law}
 use Rattle.question_laws.specs.Stands.{limits-in, runs, Stands}
 use Rattle.command_laws.specs.Law.{Reachable, As-ruled}
@@ -60,27 +60,6 @@ running-same : (o : Option ℕ) → ((x : ℕ) → o ≡ some x → x < NONE) �
 unfolding running-option running-in number-or-none running-of
 running-same none h = refl
 running-same (some x) h = let l : x < NONE = h x refl in rw (ne-eqb x NONE (λ e. omega arith))
-
--- ---- what a command changes beside queues
-
-module _ (limits : Limits) (topology : rules.Topology) (tick us : ℕ) where
-  mark-wakeups : (w : World) (b : Bool) → sched.mark-preempt limits topology tick us w b .wakeups ≡ w .wakeups
-  unfolding sched.mark-preempt with-cpu
-  mark-wakeups w true = refl
-  mark-wakeups w false = refl
-
-  paid-wakeups : (w : World) (o : Option ℕ) (n : ℕ) → sched.paid-by limits topology tick us w o n .wakeups ≡ w .wakeups
-  unfolding sched.paid-by with-cpu with-thread
-  paid-wakeups w none n = refl
-  paid-wakeups w (some x) n = refl
-
-  hardtick-wakeups : (w : World) → sched.schedule-hardtick limits topology tick us w .wakeups ≡ w .wakeups
-  unfolding sched.schedule-hardtick
-  hardtick-wakeups w = mark-wakeups _ _ ∙ paid-wakeups w _ _
-
-  resched-wakeups : (w : World) → sched.schedule-resched limits topology tick us w .wakeups ≡ w .wakeups
-  unfolding sched.schedule-resched
-  resched-wakeups w = mark-wakeups w _
 
 module _ {H : ℕ → List PutOrTake} {ts : List Thread} {cs ns : List (List ℕ)} {a : State} {s : rules.State} (m : Stands ts cs ns a s) (r : Reachable H s) where
   abbrev Soundly : World → Type 0
