@@ -9,6 +9,7 @@ use native.Mathlib.Omega.{arith}
 use lib.Dec.{ltb}
 use borrow.Author.Tests.{ne-eqb, ltb-false}
 use Rattle.rules.specs.declared.Priority.{Priority}
+use Rattle.rules.specs.Line.{both}
 use Rattle.rules.specs.Priority.{nr-values, priority, class-at}
 use Rattle.rules.specs.Times.{is-some}
 use Rattle.rules.specs.Queue.{load}
