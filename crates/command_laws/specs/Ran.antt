@@ -104,7 +104,7 @@ module _ {H : ℕ → List PutOrTake} {ts : List Thread} {cs ns : List (List ℕ
 
   told : (c : ℕ) → context (s .limits) (s .tick) c ≡ record { us = c; tick = a .tick; shortest = a .shortest; limit = lesser (a .cpus) max-cpu-id }
   unfolding context limits-in
-  told c = λ i. record { us = c; tick = sym (m .tick) i; shortest = m .limits i .shortest; limit = (ap (λ (l : Limits). l .cpus) (m .limits) ∙ sym (uncut (a .cpus) (rw (← ap (λ (l : Limits). l .cpus) (m .limits)) (m .tree .cpus-fit)))) i }
+  told c = λ i. record { us = c; tick = sym (m .tick) i; shortest = m .limits i .shortest; limit = (ap (λ (l : rules.Limits). l .cpus) (m .limits) ∙ sym (uncut (a .cpus) (rw (← ap (λ (l : rules.Limits). l .cpus) (m .limits)) (m .tree .cpus-fit)))) i }
 
   -- ---- what is left: the records and words show what the rules leave
 
