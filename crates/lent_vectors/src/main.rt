@@ -1,6 +1,5 @@
-// The stored operations on four run queues (oracle/vectors/queue.operations), each put to lent thread records and CPU words by the functions of crate
-// lent; the answers are written as oracle/vectors/queue.answers has those of the original rq.rs and timeshare.rs. 16 bytes to an operation, 48 to an
-// answer.
+// The stored operations on four run queues (stdin; oracle/vectors/README.md), each put to lent thread records and CPU words by the functions of crate
+// lent; the answers are written as those of the original rq.rs and timeshare.rs are stored (stdout). 16 bytes to an operation, 48 to an answer.
 mod answer;
 mod operation;
 

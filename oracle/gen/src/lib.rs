@@ -34,6 +34,9 @@ pub fn generate(seed: u64, profile: &str, count: usize, without: &[u8]) -> Optio
     if profile == mangled::PROFILE {
         return Some(mangled::generate(seed, count, without));
     }
+    if let Some(plan) = Plan::steady(profile) {
+        return Some(follow(plan, Random::new(seed, 1001), count, without));
+    }
     let number = PROFILES.iter().position(|name| *name == profile)?;
     let mut random = Random::new(seed, number as u64);
     // Endings are tried on streams of every length, the empty one too.
@@ -43,6 +46,10 @@ pub fn generate(seed: u64, profile: &str, count: usize, without: &[u8]) -> Optio
         _ => count,
     };
     let plan = Plan::draw(profile, seed, &mut random, count);
+    Some(follow(plan, random, count, without))
+}
+
+fn follow(plan: Plan, random: Random, count: usize, without: &[u8]) -> Vec<u8> {
     let mut generator = Generator {
         random,
         plan,
@@ -55,7 +62,7 @@ pub fn generate(seed: u64, profile: &str, count: usize, without: &[u8]) -> Optio
         threads: Vec::new(),
     };
     generator.run();
-    Some(generator.stream)
+    generator.stream
 }
 
 /// The commands of a stream, the one that ends the run included; what comes after it is left out.
@@ -258,7 +265,7 @@ impl Generator {
         let waits: usize = self.cpus.iter().map(|c| self.state.cpus[*c as usize].queue.load()).sum();
         // Now and then the target changes, so that queues fill and run dry.
         if self.random.chance(1) {
-            self.plan.target = self.plan.draw_target(&mut self.random);
+            self.plan.target = self.random.of(self.plan.targets);
         }
         let many = waits > self.plan.target * self.cpus.len();
         let roll = self.random.weighted(&self.plan.weights);

@@ -1,6 +1,7 @@
 //! gen SEED PROFILE COUNT [--without HEX]...
 //!
-//! Writes a stream of COUNT commands to standard output. `gen --profiles` lists the profiles.
+//! Writes a stream of COUNT commands to standard output. `gen --profiles` lists the profiles; two more are `draws` and
+//! `steady:CPUS:THREADS`, in which nothing varies but the commands.
 
 use std::io::Write;
 

@@ -53,29 +53,52 @@ pub struct Plan {
     pub flags: &'static [u8],
     pub far: bool,
     pub farthest: bool,
-    /// Long queues.
-    pub long: bool,
-    /// Waiting threads to a CPU, about.
+    /// Waiting threads to a CPU, about: now, and what it changes to.
     pub target: usize,
+    pub targets: &'static [usize],
     /// wake, schedule, block, tick, hardtick, stattick, resched, preempt, donate, remove, critical, declare
     pub weights: [u64; 12],
     pub ending: Ending,
 }
 
+const USER: &[u8] = &[2, 2, 2, 2, 2, 2, 3, 1, 0];
 const ALL_FLAGS: &[u8] = &[0, 1, 2, 3, 4, 4, 5, 5, 6, 6, 7, 7];
 
 impl Plan {
-    pub fn draw_target(&self, random: &mut Random) -> usize {
-        match self.long {
-            true => random.of(&[14, 15, 16, 17, 18, 30, 33, 60, 100]),
-            false => random.of(&[0, 1, 1, 2, 2, 3, 4, 6, 10, 20]),
-        }
+    /// Nothing varies but the commands: the profile `steady:CPUS:THREADS`, for measurements.
+    pub fn steady(profile: &str) -> Option<Plan> {
+        let (cpus, threads) = profile.strip_prefix("steady:")?.split_once(':')?;
+        let cpus = cpus.parse().ok().filter(|cpus| (1..=64).contains(cpus))?;
+        let threads = threads.parse().ok().filter(|threads| *threads <= 1024)?;
+        Some(Plan {
+            cpus,
+            dense: true,
+            nodes: 1 + cpus.div_ceil(4),
+            shape: Shape::Flat,
+            crowd: false,
+            grows: false,
+            threads,
+            pins: 0,
+            bad: 0,
+            favour: 0,
+            follow: 60,
+            boot: 20,
+            often: 30,
+            classes: USER,
+            values: Values::Any,
+            flags: ALL_FLAGS,
+            far: false,
+            farthest: false,
+            target: 1,
+            targets: &[1],
+            weights: [20, 14, 8, 8, 9, 9, 5, 6, 6, 2, 2, 0],
+            ending: Ending::Clean,
+        })
     }
 
     pub fn draw(profile: &str, seed: u64, r: &mut Random, count: usize) -> Plan {
         let cpus = r.of(&[1, 2, 2, 3, 4, 4, 5, 6, 8, 8, 12, 16]);
-        let user: &[u8] = &[2, 2, 2, 2, 2, 2, 3, 1, 0];
-        let mixes: [&[u8]; 6] = [user, &[0, 1, 2, 3], &[2], &[2, 2, 3], &[0, 1, 2], &[3, 3, 2, 0]];
+        let mixes: [&[u8]; 6] = [USER, &[0, 1, 2, 3], &[2], &[2, 2, 3], &[0, 1, 2], &[3, 3, 2, 0]];
         let mut plan = Plan {
             cpus,
             dense: r.chance(60),
@@ -95,8 +118,8 @@ impl Plan {
             flags: ALL_FLAGS,
             far: r.chance(40),
             farthest: r.chance(5),
-            long: false,
             target: 2,
+            targets: &[0, 1, 1, 2, 2, 3, 4, 6, 10, 20],
             weights: [20, 14, 8, 8, 9, 9, 5, 6, 6, 2, 2, 1],
             ending: Ending::Clean,
         };
@@ -136,8 +159,8 @@ impl Plan {
                 plan.cpus = r.of(&[1, 1, 2, 3]);
                 plan.threads = r.of(&[20, 40, 70, 140]).min(count / 4);
                 plan.classes = r.of(&[&[2], &[2, 2, 2, 3], &[2, 2, 1]]);
-                plan.long = true;
                 plan.target = 18;
+                plan.targets = &[14, 15, 16, 17, 18, 30, 33, 60, 100];
                 plan.weights = [34, 12, 2, 10, 14, 8, 2, 8, 4, 2, 1, 1];
             }
             "pins" => {

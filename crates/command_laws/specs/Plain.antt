@@ -1,0 +1,137 @@
+-- THE COMMANDS THAT TOUCH NO QUEUE (hex 01 to 04, 10, 11, 19, 1A): once obeyed, memory and answer are those of the rules. Assumes nothing.
+use Prim.Native.Nat.{ℕ, _+_, _%_, _^_, _<_}
+use mathlib.Core.Path.{_≡_, refl, sym, ap, subst, _∙_}
+use mathlib.Core.Bool.{true}
+use mathlib.Core.Option.{Option, none, some}
+use mathlib.Core.List.{List}
+use native.Mathlib.Omega.{arith}
+use lib.ListN.{length, set}
+use borrow.Author.Tests.{ltb-true}
+use Rattle.rules.specs.Puts.{PutOrTake}
+use Rattle.rules.specs.State as rules
+use Rattle.rules.specs.Priority.{priority, class-at}
+use Rattle.rules.specs.Requests.{declare-cpu, add-node, place-cpu, seal, declare-thread, set-tick, remove-donation, set-critical, asks}
+use Rattle.rules.specs.Questions.{refusal, concerning, open-yet, at-most, node-exists, parent-without-cpus, node-fits}
+use Rattle.rules.specs.Commands as ruled
+use Rattle.rules.specs.Commands.{obeys}
+use Rattle.rules.specs.Reached.{yes}
+use Rattle.thread.specs.declared.Thread.{Thread}
+use Rattle.thread.specs.Place.{new}
+use Rattle.lines.specs.Lines.{refusal-number, shown-option, running-option, answer-of}
+use Rattle.questions.specs.declared.state.State.{State}
+use Rattle.sched.specs.Donate.{removeDonated, setCritical}
+use Rattle.command.specs.Answer.{accepted, nothing-shown, changed}
+use Rattle.command.specs.Call.{pin-number, call-of, priority-in, ticked, sealed-now, one-node-more}
+use Rattle.command.specs.Command.{prepares, declareThread, removeDonation, criticalDef, obeyDef}
+use Rattle.question_laws.specs.Stands.{limits-in, Stands}
+use Rattle.question_laws.specs.Changes.{Counted, pin-of, stands-declare-cpu, stands-add-node, stands-place-cpu, stands-seal, stands-declare-thread, stands-set-tick, stands-remove-donation, stands-set-critical}
+use Rattle.command_laws.specs.Law.{Reachable, As-ruled}
+use Rattle.command_laws.specs.Numbers.{few-accepted}
+
+pin-same : (pin : Option ℕ) → pin-of pin ≡ pin-number pin
+unfolding pin-of pin-number
+pin-same none = refl
+pin-same (some c) = refl
+
+-- one command more does not wrap
+pub one-more : (n : ℕ) → n < 4294967295 → (n + 1) % 2 ^ 64 ≡ n + 1
+one-more n h = omega arith
+
+module _ {H : ℕ → List PutOrTake} {ts : List Thread} {cs ns : List (List ℕ)} {a : State} {s : rules.State} (m : Stands ts cs ns a s) (reachable : Reachable H s) where
+  accepted-one : s .accepted < 4294967295 → (a .accepted + 1) % 2 ^ 64 ≡ a .accepted + 1
+  accepted-one h = one-more (a .accepted) (subst (λ (n : ℕ). n < 4294967295) (sym (m .accepted)) h)
+
+  counted : s .accepted < 4294967295 → Counted a (accepted a) (s .sealed) (s .tick) (length (s .topology .nodes))
+  unfolding accepted limits-in
+  counted h = record { limits-stay = refl; sealed-is = m .sealed; tick-is = m .tick; count-is = m .node-count; accepted-is = accepted-one h }
+
+  -- 01
+  pub plain-declare-cpu : (c used : ℕ) → refusal s (asks (declare-cpu c) used) ≡ 0 → As-ruled (obeyDef ts cs ns a (call-of (declare-cpu c) used)) (obeys s (declare-cpu c))
+  unfolding obeyDef prepares call-of changed nothing-shown answer-of refusal-number shown-option running-option obeys ruled.changed ruled.nothing-shown
+  plain-declare-cpu c used e = record {
+    stands = stands-declare-cpu m (reachable .reached) c used (accepted a) (counted (few-accepted s (declare-cpu c) used e)) e;
+    answer = refl;
+  }
+
+  -- 02: a node more does not wrap
+  node-more : (p k used : ℕ) → refusal s (asks (add-node p k) used) ≡ 0 → length (s .topology .nodes) < s .limits .nodes
+  unfolding refusal concerning open-yet at-most node-exists parent-without-cpus node-fits
+  node-more p k used e =
+      let fits = yes 5 _ _ (yes 5 _ _ (yes 5 _ _ (yes 5 _ _ (yes 2 _ _ e .1) .1) .1) .1) in
+      ltb-true _ _ (fits .0)
+
+  counted-node : s .accepted < 4294967295 → length (s .topology .nodes) < s .limits .nodes
+      → Counted a (accepted (one-node-more a)) (s .sealed) (s .tick) (length (s .topology .nodes) + 1)
+  unfolding accepted one-node-more limits-in
+  counted-node h l = record {
+    limits-stay = refl;
+    sealed-is = m .sealed;
+    tick-is = m .tick;
+    count-is = ap (λ (n : ℕ). (n + 1) % 2 ^ 64) (m .node-count) ∙ one-more (length (s .topology .nodes)) (omega (arith, m .few-nodes));
+    accepted-is = accepted-one h;
+  }
+
+  pub plain-add-node : (p k used : ℕ) → refusal s (asks (add-node p k) used) ≡ 0 → As-ruled (obeyDef ts cs ns a (call-of (add-node p k) used)) (obeys s (add-node p k))
+  unfolding obeyDef prepares call-of changed nothing-shown answer-of refusal-number shown-option running-option obeys ruled.changed ruled.nothing-shown
+  plain-add-node p k used e = record {
+    stands = stands-add-node m (reachable .reached) p k used (accepted (one-node-more a)) (counted-node (few-accepted s (add-node p k) used e) (node-more p k used e)) e;
+    answer = refl;
+  }
+
+  -- 03
+  pub plain-place-cpu : (n c used : ℕ) → refusal s (asks (place-cpu n c) used) ≡ 0 → As-ruled (obeyDef ts cs ns a (call-of (place-cpu n c) used)) (obeys s (place-cpu n c))
+  unfolding obeyDef prepares call-of changed nothing-shown answer-of refusal-number shown-option running-option obeys ruled.changed ruled.nothing-shown
+  plain-place-cpu n c used e = record {
+    stands = stands-place-cpu m (reachable .reached) n c used (accepted a) (counted (few-accepted s (place-cpu n c) used e)) e;
+    answer = refl;
+  }
+
+  -- 04
+  counted-seal : s .accepted < 4294967295 → Counted a (accepted (sealed-now a)) true (s .tick) (length (s .topology .nodes))
+  unfolding accepted sealed-now limits-in
+  counted-seal h = record { limits-stay = refl; sealed-is = refl; tick-is = m .tick; count-is = m .node-count; accepted-is = accepted-one h }
+
+  pub plain-seal : (used : ℕ) → refusal s (asks seal used) ≡ 0 → As-ruled (obeyDef ts cs ns a (call-of seal used)) (obeys s seal)
+  unfolding obeyDef prepares call-of changed nothing-shown answer-of refusal-number shown-option running-option obeys ruled.changed ruled.nothing-shown
+  plain-seal used e = record {
+    stands = stands-seal m (reachable .reached) used (accepted (sealed-now a)) (counted-seal (few-accepted s seal used e)) e;
+    answer = refl;
+  }
+
+  -- 10
+  pub plain-declare-thread : (x k v : ℕ) (pin : Option ℕ) (used : ℕ) → refusal s (asks (declare-thread x k v pin) used) ≡ 0
+      → As-ruled (obeyDef ts cs ns a (call-of (declare-thread x k v pin) used)) (obeys s (declare-thread x k v pin))
+  unfolding obeyDef declareThread call-of priority-in changed nothing-shown answer-of refusal-number shown-option running-option obeys ruled.changed ruled.nothing-shown
+  plain-declare-thread x k v pin used e = record {
+    stands = subst (λ (n : ℕ). Stands (set ts x (new (priority (class-at k) v) n)) cs ns (accepted a) (obeys s (declare-thread x k v pin) .state)) (pin-same pin)
+        (stands-declare-thread m (reachable .reached) x k v used pin (accepted a) (counted (few-accepted s (declare-thread x k v pin) used e)) e);
+    answer = refl;
+  }
+
+  -- 11
+  counted-tick : (t : ℕ) → s .accepted < 4294967295 → Counted a (accepted (ticked a t)) (s .sealed) t (length (s .topology .nodes))
+  unfolding accepted ticked limits-in
+  counted-tick t h = record { limits-stay = refl; sealed-is = m .sealed; tick-is = refl; count-is = m .node-count; accepted-is = accepted-one h }
+
+  pub plain-set-tick : (t used : ℕ) → refusal s (asks (set-tick t) used) ≡ 0 → As-ruled (obeyDef ts cs ns a (call-of (set-tick t) used)) (obeys s (set-tick t))
+  unfolding obeyDef call-of changed nothing-shown answer-of refusal-number shown-option running-option obeys ruled.changed ruled.nothing-shown
+  plain-set-tick t used e = record {
+    stands = stands-set-tick m (reachable .reached) t used (accepted (ticked a t)) (counted-tick t (few-accepted s (set-tick t) used e)) e;
+    answer = refl;
+  }
+
+  -- 19
+  pub plain-remove-donation : (x used : ℕ) → refusal s (asks (remove-donation x) used) ≡ 0 → As-ruled (obeyDef ts cs ns a (call-of (remove-donation x) used)) (obeys s (remove-donation x))
+  unfolding obeyDef removeDonation removeDonated call-of changed nothing-shown answer-of refusal-number shown-option running-option obeys ruled.changed ruled.nothing-shown
+  plain-remove-donation x used e = record {
+    stands = stands-remove-donation m (reachable .reached) x used (accepted a) (counted (few-accepted s (remove-donation x) used e)) e;
+    answer = refl;
+  }
+
+  -- 1A
+  pub plain-set-critical : (x k used : ℕ) → refusal s (asks (set-critical x k) used) ≡ 0 → As-ruled (obeyDef ts cs ns a (call-of (set-critical x k) used)) (obeys s (set-critical x k))
+  unfolding obeyDef criticalDef setCritical call-of changed nothing-shown answer-of refusal-number shown-option running-option obeys ruled.changed ruled.nothing-shown
+  plain-set-critical x k used e = record {
+    stands = stands-set-critical m (reachable .reached) x k used (accepted a) (counted (few-accepted s (set-critical x k) used e)) e;
+    answer = refl;
+  }

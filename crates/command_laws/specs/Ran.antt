@@ -1,0 +1,296 @@
+-- THE COMMANDS THAT A CPU RUNS (hex 12 to 18): over memory that stands for a state that the rules reach, each leaves and answers what the rules say.
+-- Assumes nothing.
+use Prim.Native.Nat.{ℕ, _+_, _%_, _^_, _≤_, _<_}
+use mathlib.Core.Path.{_≡_, refl, sym, ap, subst, _∙_}
+use mathlib.Core.Bool.{Bool, true, false, not, _&&_, false≢true}
+use mathlib.Core.Option.{Option, none, some}
+use mathlib.Core.List.{List}
+use native.Mathlib.Omega.{arith}
+use borrow.Author.Tests.{ne-eqb}
+use Rattle.rules.specs.declared.Priority.{Priority}
+use Rattle.rules.specs.Line.{both}
+use Rattle.rules.specs.Priority.{nr-values, priority, class-at, less, donation-accepted}
+use Rattle.rules.specs.Times.{effective-priority, is-some}
+use Rattle.rules.specs.Queue.{load}
+use Rattle.rules.specs.Puts.{PutOrTake}
+use Rattle.rules.specs.State as rules
+use Rattle.rules.specs.State.{Limits, runs-on, blocked}
+use Rattle.rules.specs.Schedule as sched
+use Rattle.rules.specs.Schedule.{World, Got, with-cpu, with-thread, wakeup}
+use Rattle.rules.specs.Requests.{schedule-thread, schedule, hardtick, stattick, resched, maybe-preempt, donate, asks, flags-of}
+use Rattle.rules.specs.Questions.{refusal, concerning, thread-declared, thread-blocked}
+use Rattle.rules.specs.Commands as rule
+use Rattle.rules.specs.Commands.{Answer, world-of, running-of, obeys, schedules, scheduled-on}
+use Rattle.rules.specs.Sound.{Under, Sound, New}
+use Rattle.rules.specs.Steps.{nobody-but, select-cpu-selected, ok-scheduled, ok-schedule, ok-hardtick, ok-stattick, ok-resched, ok-maybe-preempt, ok-donate}
+use Rattle.rules.specs.Reached.{yes, value-below, blocked-new}
+use Rattle.thread.specs.declared.Thread.{Thread}
+use Rattle.thread.specs.Thread.{NONE}
+use Rattle.processor.specs.Words.{word}
+use Rattle.memory.specs.Shows.{number-or-none, Shows}
+use Rattle.memory.specs.Frames.{shows-alike}
+use Rattle.memory.specs.Numbers.{word-load, load-shown, running-shown}
+use Rattle.lines.specs.Lines.{refusal-number, shown-option, running-option, answer-of}
+use Rattle.questions.specs.declared.state.State.{State}
+use Rattle.sched.specs.declared.context.Context.{Context}
+use Rattle.sched.specs.World as lent
+use Rattle.sched.specs.Schedule.{scheduleDef, scheduleThread}
+use Rattle.sched.specs.Balance.{scheduleStattick}
+use Rattle.sched.specs.Ticks.{scheduleHardtick, scheduleResched, scheduleMaybePreempt}
+use Rattle.sched.specs.Donate.{Donated, donatePriority}
+use Rattle.command.specs.Answer.{accepted, running-in, shown, ran}
+use Rattle.command.specs.Call.{call-of, priority-in, context-of, flags-in}
+use Rattle.command.specs.Command.{by-ran, by-marked, by-told, scheduledThread, silent, scheduleThreadDef, scheduleCommand, hardtickDef, stattickDef, reschedDef, maybePreemptDef, donateDef}
+use Rattle.sched_laws.specs.Ticked.{context}
+use Rattle.sched_laws.specs.Picks.{Settled, no-one, Ends}
+use Rattle.sched_laws.specs.Scheduled as law
+use Rattle.sched_laws.specs.Scheduled.{Leaves, shows-schedule}
+use Rattle.sched_laws.specs.Commands.{settled-same, runs-somewhere, settled-runs, ends-runs, shows-maybe-preempt, ends-resched, ends-hardtick, woken-on, wakes, scheduled-thread}
+use Rattle.sched_laws.specs.Donates.{shows-donated, counts-donated}
+use Rattle.balance_laws.specs.Stattick.{stattick-law}
+use Rattle.question_laws.specs.Stands.{limits-in, runs, Stands}
+use Rattle.command_laws.specs.Law.{Reachable, As-ruled}
+use Rattle.command_laws.specs.Numbers.{few-accepted}
+use Rattle.command_laws.specs.Asked.{On, on-node}
+use Rattle.command_laws.specs.Plain.{one-more}
+
+-- ---- the line: what a CPU runs
+
+running-same : (o : Option ℕ) → ((x : ℕ) → o ≡ some x → x < NONE) → running-option (running-in (number-or-none o)) ≡ some (running-of o)
+unfolding running-option running-in number-or-none running-of
+running-same none h = refl
+running-same (some x) h = let l : x < NONE = h x refl in rw (ne-eqb x NONE (λ e. omega arith))
+
+-- ---- what a command changes beside queues
+
+module _ (limits : Limits) (topology : rules.Topology) (tick us : ℕ) where
+  mark-wakeups : (w : World) (b : Bool) → sched.mark-preempt limits topology tick us w b .wakeups ≡ w .wakeups
+  unfolding sched.mark-preempt with-cpu
+  mark-wakeups w true = refl
+  mark-wakeups w false = refl
+
+  paid-wakeups : (w : World) (o : Option ℕ) (n : ℕ) → sched.paid-by limits topology tick us w o n .wakeups ≡ w .wakeups
+  unfolding sched.paid-by with-cpu with-thread
+  paid-wakeups w none n = refl
+  paid-wakeups w (some x) n = refl
+
+  hardtick-wakeups : (w : World) → sched.schedule-hardtick limits topology tick us w .wakeups ≡ w .wakeups
+  unfolding sched.schedule-hardtick
+  hardtick-wakeups w = mark-wakeups _ _ ∙ paid-wakeups w _ _
+
+  resched-wakeups : (w : World) → sched.schedule-resched limits topology tick us w .wakeups ≡ w .wakeups
+  unfolding sched.schedule-resched
+  resched-wakeups w = mark-wakeups w _
+
+  wakeup-running : (w : World) (x : ℕ) (o : Option ℕ) (c : ℕ) → sched.maybe-wakeup limits topology tick us w x o .cpus c .running ≡ w .cpus c .running
+  unfolding sched.maybe-wakeup wakeup
+  wakeup-running w x none c = refl
+  wakeup-running w x (some d) c = refl
+
+  donate-running : (w : World) (x : ℕ) (p : Priority) (c : ℕ) → sched.donate-priority limits topology tick us w x p .cpus c .running ≡ w .cpus c .running
+  unfolding sched.donate-priority
+  donate-running w x p c =
+      both (donation-accepted (w .threads x .donated) p)
+      (λ e. rw e (both (less (effective-priority (w .threads x)) p && not (sched.same-cpu x (w .cpus us .running)))
+      (λ f. rw f (wakeup-running _ x _ c ∙ (unfold with-thread in refl))) (λ f. rw f (unfold with-thread in refl))))
+      (λ e. rw e)
+
+module _ {H : ℕ → List PutOrTake} {ts : List Thread} {cs ns : List (List ℕ)} {a : State} {s : rules.State} (m : Stands ts cs ns a s) (r : Reachable H s) where
+  abbrev Soundly : World → Type 0
+  Soundly v = Sound (s .limits) (s .known) H nobody-but v
+
+  abbrev Leave : lent.World → World → Type 0
+  Leave d v = Leaves (s .limits) (s .topology) (s .known) d v
+
+  abbrev w : World
+  w = world-of s
+
+  safe : Soundly w
+  safe = r .reached .sound
+
+  early : s .tick ≤ 4611686018427387904
+  early = m .tick-fits
+
+  settled : Settled no-one (runs s) w
+  unfolding runs runs-on runs-somewhere world-of
+  settled = settled-runs (s .limits) w (λ c x e. safe .runs c x e .0)
+
+  no-wakeups : 0 ≡ w .wakeups
+  unfolding world-of
+  no-wakeups = refl
+
+  few : w .wakeups < NONE
+  unfolding world-of
+  few = omega arith
+
+  few-still : w .wakeups + 2 ≤ NONE
+  unfolding world-of
+  few-still = omega arith
+
+  told : (c : ℕ) → context (s .limits) (s .tick) c ≡ record { us = c; tick = a .tick; shortest = a .shortest; limit = a .cpus }
+  unfolding context limits-in
+  told c = λ i. record { us = c; tick = sym (m .tick) i; shortest = m .limits i .shortest; limit = m .limits i .cpus }
+
+  -- ---- what is left: the records and words show what the rules leave
+
+  shows-left : {ts′ : List Thread} {cs′ : List (List ℕ)} (v : World) (x : Answer) → Soundly v → Ends (s .limits) (s .topology) (s .known) ts′ cs′ v
+      → Shows (s .limits) (s .topology) (s .known) (runs (rule.ran s v x .state)) ts′ cs′ (world-of (rule.ran s v x .state))
+  unfolding rule.ran runs runs-on runs-somewhere world-of
+  shows-left v x d e = shows-alike v _ (λ c. refl) (λ z. refl) (ends-runs (λ c y q. d .runs c y q .0) e)
+
+  stands-ran : {ts′ : List Thread} {cs′ : List (List ℕ)} (v : World) (x : Answer) → s .accepted < 4294967295 → Soundly v → Ends (s .limits) (s .topology) (s .known) ts′ cs′ v
+      → Stands ts′ cs′ ns (accepted a) (rule.ran s v x .state)
+  unfolding rule.ran accepted limits-in
+  stands-ran v x room d e = record {
+    limits = m .limits;
+    sealed = m .sealed;
+    tick = m .tick;
+    accepted = ap (λ (n : ℕ). (n + 1) % 2 ^ 64) (m .accepted) ∙ one-more (s .accepted) room;
+    node-count = m .node-count;
+    tree = m .tree;
+    rows = m .rows;
+    shows = shows-left v x d e;
+    small = m .small;
+    few-nodes = m .few-nodes;
+    nodes-fit = m .nodes-fit;
+    tick-fits = m .tick-fits;
+  }
+
+  -- ---- what is answered
+
+  shown-same : {active : ℕ → Bool} {ts′ : List Thread} {cs′ : List (List ℕ)} (v : World) (c n : ℕ) → c < s .limits .cpus → Soundly v → Shows (s .limits) (s .topology) (s .known) active ts′ cs′ v → n ≡ v .wakeups
+      → answer-of (shown cs′ c n) ≡ rule.shown v c
+  unfolding answer-of shown rule.shown refusal-number shown-option
+  shown-same {cs′ = cs′} v c n near d e k =
+      let p : running-option (running-in (word cs′ c 74)) ≡ some (running-of (v .cpus c .running)) =
+      ap (λ (z : ℕ). running-option (running-in z)) (running-shown e (m .small) c near)
+      ∙ running-same (v .cpus c .running) (λ x q. omega (arith, r .reached .numbered x (d .runs c x q .1), m .small .threads)) in
+      let l : word cs′ c 62 ≡ load (v .cpus c .queue) = word-load cs′ c ∙ load-shown e (m .small) c near in
+      λ i. record { refused = 0; cpu = some c; running = p i; load = some (l i); wakeups = some (k i) }
+
+  -- ---- a command that a CPU ran, and whose line shows CPU c
+  ran-law : (d : lent.World) (v : World) (c used : ℕ) → s .accepted < 4294967295 → c < s .limits .cpus → Soundly v → Leave d v
+      → As-ruled (record { outcome = ran (d .cpus) a c (d .wakeups) used; threads = d .threads; cpus = d .cpus; nodes = ns }) (rule.ran s v (rule.shown v c))
+  unfolding ran
+  ran-law d v c used room near ok e = record {
+    stands = stands-ran v _ room ok (e .ends);
+    answer = shown-same v c (d .wakeups) near ok (e .ends .shows) (e .counted) ∙ (unfold rule.ran in refl);
+  }
+
+  -- a blocked thread goes into the queue of the CPU selected for it
+  module _ (c x used : ℕ) (on : On s c) (room : s .accepted < 4294967295) (known : s .known x ≡ true) (idle : blocked s x ≡ true) where
+    abbrev chosen : Got
+    chosen = sched.select-cpu (s .limits) (s .topology) (s .tick) c w x none
+
+    on-chosen : (o : Option ℕ) → chosen .got ≡ o → is-some o ≡ true → Under (s .limits .cpus) o
+        → As-ruled (by-ran ns (scheduleThreadDef ts cs ns a (call-of (schedule-thread c x) used))) (scheduled-on s c x (chosen .world) o)
+    unfolding is-some Under scheduled-on scheduleThreadDef call-of context-of
+    on-chosen none e i u = absurd (false≢true i)
+    on-chosen (some d) e i u =
+        let new : (b : ℕ) → b < s .limits .cpus → New (s .limits) (s .known) nobody-but w b x = λ b h. blocked-new b x (r .reached) idle known h in
+        let v : World = sched.schedule-thread-on-cpu (s .limits) (s .topology) (s .tick) c (chosen .world) d x in
+        let same = select-cpu-selected (s .limits) (s .topology) (s .tick) c (s .known) (r .reached .numbered) H (on .near) w x none (safe .mild x) .same in
+        subst (λ (k : Context). As-ruled (by-ran ns (scheduledThread (scheduleThread ts cs ns k x) a (call-of (schedule-thread c x) used))) (rule.ran s v (rule.shown v d))) (told c)
+        (subst (λ (z : lent.Chosen). As-ruled (by-ran ns (scheduledThread z a (call-of (schedule-thread c x) used))) (rule.ran s v (rule.shown v d)))
+        (sym (scheduled-thread (s .limits) (s .topology) (s .tick) c (s .known) (r .reached .numbered) (m .small) early (on .near) H ns (m .tree) (on .node) (on .put-on) (m .shows) safe settled 0 no-wakeups few x known new d e))
+        (ran-law _ v d used room u (ok-scheduled (s .limits) (s .topology) (s .tick) c (s .known) (r .reached .numbered) H (on .near) w (chosen .world) x d safe same (new d u))
+        (wakes (s .limits) (s .topology) (s .tick) c (s .known) (r .reached .numbered) (m .small) early (on .near) H ns (m .tree) (on .node) (on .put-on) (m .shows) safe settled 0 no-wakeups few x known new d e u no-wakeups)))
+
+  -- 12
+  pub ran-schedule-thread : (c x used : ℕ) → refusal s (asks (schedule-thread c x) used) ≡ 0
+      → As-ruled (by-ran ns (scheduleThreadDef ts cs ns a (call-of (schedule-thread c x) used))) (obeys s (schedule-thread c x))
+  unfolding refusal concerning thread-declared thread-blocked obeys schedules
+  ran-schedule-thread c x used e =
+      let there = on-node s c _ (r .sealed) e in
+      let on : On s c = there .0 in
+      let known = yes 4 (s .known x) _ (there .1) in
+      let idle = yes 6 (blocked s x) _ (known .1) in
+      let new : (b : ℕ) → b < s .limits .cpus → New (s .limits) (s .known) nobody-but w b x = λ b h. blocked-new b x (r .reached) (idle .0) (known .0) h in
+      on-chosen c x used on (few-accepted s (schedule-thread c x) used e) (known .0) (idle .0) _ refl
+      (woken-on (s .limits) (s .topology) (s .tick) c (s .known) (r .reached .numbered) (m .small) early (on .near) H ns (m .tree) (on .node) (on .put-on) (m .shows) safe settled 0 no-wakeups few x (known .0) new)
+      (select-cpu-selected (s .limits) (s .topology) (s .tick) c (s .known) (r .reached .numbered) H (on .near) w x none (safe .mild x) .under)
+
+  -- 13
+  pub ran-schedule : (c f used : ℕ) → refusal s (asks (schedule c f) used) ≡ 0 → As-ruled (by-ran ns (scheduleCommand ts cs ns a (call-of (schedule c f) used))) (obeys s (schedule c f))
+  unfolding refusal concerning scheduleCommand call-of context-of flags-in obeys rule.ran-on flags-of law.flags-in
+  ran-schedule c f used e =
+      let on : On s c = on-node s c _ (r .sealed) e .0 in
+      let v : World = sched.schedule (s .limits) (s .topology) (s .tick) c w (flags-of f) in
+      ran-law _ v c used (few-accepted s (schedule c f) used e) (on .near)
+      (ok-schedule (s .limits) (s .topology) (s .tick) c (s .known) (r .reached .numbered) H (on .near) w (flags-of f) safe)
+      (subst (λ (k : Context). Leave (scheduleDef ts cs ns k (flags-in (call-of (schedule c f) used)) 0) v) (told c)
+      (shows-schedule (s .limits) (s .topology) (s .tick) c (s .known) (r .reached .numbered) (m .small) early (on .near) H ns (m .tree) (on .node) (on .put-on) (m .shows) safe settled 0 no-wakeups few
+      (flags-in (call-of (schedule c f) used))))
+
+  -- 14
+  pub ran-hardtick : (c used : ℕ) → refusal s (asks (hardtick c) used) ≡ 0 → As-ruled (by-ran ns (hardtickDef ts cs a (call-of (hardtick c) used))) (obeys s (hardtick c))
+  unfolding refusal concerning hardtickDef call-of context-of obeys rule.ran-on
+  ran-hardtick c used e =
+      let on : On s c = on-node s c _ (r .sealed) e .0 in
+      let v : World = sched.schedule-hardtick (s .limits) (s .topology) (s .tick) c w in
+      let late : w .cpus c .last-tick ≤ s .tick = unfold world-of in r .late .last c in
+      ran-law _ v c used (few-accepted s (hardtick c) used e) (on .near)
+      (ok-hardtick (s .limits) (s .topology) (s .tick) c (s .known) (r .reached .numbered) H (on .near) w safe)
+      (subst (λ (k : Context). Leave (silent (scheduleHardtick ts cs k)) v) (told c)
+      (record {
+        ends = ends-hardtick (s .limits) (s .topology) (s .tick) c (s .known) (r .reached .numbered) (m .small) early (on .near) H ns (m .tree) (on .node) (on .put-on) (m .shows) safe settled 0 no-wakeups few late;
+        counted = no-wakeups ∙ sym (hardtick-wakeups (s .limits) (s .topology) (s .tick) c w);
+      }))
+
+  -- 15
+  pub ran-stattick : (c n used : ℕ) → refusal s (asks (stattick c n) used) ≡ 0 → As-ruled (by-ran ns (stattickDef ts cs ns a (call-of (stattick c n) used))) (obeys s (stattick c n))
+  unfolding refusal concerning stattickDef call-of context-of obeys rule.ran-on
+  ran-stattick c n used e =
+      let on : On s c = on-node s c _ (r .sealed) e .0 in
+      let v : World = sched.schedule-stattick (s .limits) (s .topology) (s .tick) c w n in
+      ran-law _ v c used (few-accepted s (stattick c n) used e) (on .near)
+      (ok-stattick (s .limits) (s .topology) (s .tick) c (s .known) (r .reached .numbered) H (on .near) w n safe)
+      (subst (λ (k : Context). Leave (scheduleStattick ts cs ns k n 0) v) (told c)
+      (stattick-law (s .limits) (s .topology) (s .tick) c (s .known) (r .reached .numbered) (m .small) early (on .near) H ns (m .tree) (m .shows) safe settled 0 no-wakeups few-still n))
+
+  -- 16
+  pub ran-resched : (c used : ℕ) → refusal s (asks (resched c) used) ≡ 0 → As-ruled (by-marked ts ns (reschedDef ts cs a (call-of (resched c) used))) (obeys s (resched c))
+  unfolding refusal concerning reschedDef call-of obeys rule.ran-on
+  ran-resched c used e =
+      let on : On s c = on-node s c _ (r .sealed) e .0 in
+      let v : World = sched.schedule-resched (s .limits) (s .topology) (s .tick) c w in
+      ran-law (record { threads = ts; cpus = scheduleResched ts cs c; wakeups = 0 }) v c used (few-accepted s (resched c) used e) (on .near)
+      (ok-resched (s .limits) (s .topology) (s .tick) c (s .known) (r .reached .numbered) H (on .near) w safe)
+      (record {
+        ends = ends-resched (s .limits) (s .topology) (s .tick) c (s .known) (r .reached .numbered) (m .small) early (on .near) H ns (m .tree) (on .node) (on .put-on) (m .shows) safe settled 0 no-wakeups few;
+        counted = no-wakeups ∙ sym (resched-wakeups (s .limits) (s .topology) (s .tick) c w);
+      })
+
+  -- 17
+  pub ran-maybe-preempt : (c used : ℕ) → refusal s (asks (maybe-preempt c) used) ≡ 0 → As-ruled (by-ran ns (maybePreemptDef ts cs ns a (call-of (maybe-preempt c) used))) (obeys s (maybe-preempt c))
+  unfolding refusal concerning maybePreemptDef call-of context-of obeys rule.ran-on
+  ran-maybe-preempt c used e =
+      let on : On s c = on-node s c _ (r .sealed) e .0 in
+      let v : World = sched.schedule-maybe-preempt (s .limits) (s .topology) (s .tick) c w in
+      ran-law _ v c used (few-accepted s (maybe-preempt c) used e) (on .near)
+      (ok-maybe-preempt (s .limits) (s .topology) (s .tick) c (s .known) (r .reached .numbered) H (on .near) w safe)
+      (subst (λ (k : Context). Leave (scheduleMaybePreempt ts cs ns k 0) v) (told c)
+      (shows-maybe-preempt (s .limits) (s .topology) (s .tick) c (s .known) (r .reached .numbered) (m .small) early (on .near) H ns (m .tree) (on .node) (on .put-on) (m .shows) safe settled 0 no-wakeups few))
+
+  -- 18
+  pub ran-donate : (c x k v used : ℕ) → refusal s (asks (donate c x k v) used) ≡ 0 → As-ruled (by-told cs ns (donateDef ts cs a (call-of (donate c x k v) used))) (obeys s (donate c x k v))
+  unfolding refusal concerning thread-declared donateDef call-of priority-in obeys rule.ran-on
+  ran-donate c x k v used e =
+      let there = on-node s c _ (r .sealed) e in
+      let on : On s c = there .0 in
+      let known = yes 4 (s .known x) _ (there .1) in
+      let p : Priority = priority (class-at k) v in
+      let low : v < nr-values = value-below k v _ (known .1) in
+      let u : World = sched.donate-priority (s .limits) (s .topology) (s .tick) c w x p in
+      let d : Donated = donatePriority ts cs c x p 0 in
+      let below : x < s .limits .threads = r .reached .numbered x (known .0) in
+      ran-law (record { threads = d .threads; cpus = cs; wakeups = d .wakeups }) u c used (few-accepted s (donate c x k v) used e) (on .near)
+      (ok-donate (s .limits) (s .topology) (s .tick) c (s .known) (r .reached .numbered) H (on .near) w x p low safe)
+      (record {
+        ends = record {
+          active = runs s;
+          shows = shows-donated (s .limits) (s .topology) (s .tick) c (s .known) (r .reached .numbered) (m .small) early (on .near) (m .shows) x below p low 0;
+          settled = settled-same w u (donate-running (s .limits) (s .topology) (s .tick) c w x p) settled;
+        };
+        counted = counts-donated (s .limits) (s .topology) (s .tick) c (s .known) (r .reached .numbered) (m .small) early (on .near) (m .shows) x below p low (λ y q. safe .runs c y q .1) 0 no-wakeups few;
+      })

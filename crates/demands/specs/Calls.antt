@@ -1,0 +1,81 @@
+-- LISTS OF CALLS, over the definitions that the contracts of `start` (feed/src/start.rt) and `command` (command/src/obey.rt) cite. A reader reads all of this
+-- file. Document 01:
+-- "A list starts from the records and state that the library's start made; each call gets what the last one returned and left, and nobody else writes them in
+-- between."
+-- Assumes nothing.
+use Prim.Native.Nat.{ℕ, _≤_, _<_}
+use mathlib.Core.Path.{_≡_}
+use mathlib.Core.List.{List, [], _∷_}
+use lib.ListN.{length, getD}
+use Rattle.rules.specs.Queue.{Queue}
+use Rattle.rules.specs.State as rules
+use Rattle.rules.specs.Commands.{step}
+use Rattle.rules.specs.Commands.{Answer as Ruled}
+use Rattle.thread.specs.declared.Thread.{Thread}
+use Rattle.thread.specs.Thread.{NONE}
+use Rattle.processor.specs.Words.{width}
+use Rattle.processor.specs.Queue.{queueAt}
+use Rattle.represent.specs.Well.{queue-read}
+use Rattle.represent.specs.Records.{marks}
+use Rattle.tree.specs.Rows.{Sized}
+use Rattle.lines.specs.declared.Answer.{Answer}
+use Rattle.questions.specs.declared.state.State.{State}
+use Rattle.command.specs.Command.{After, commandDef}
+use Rattle.feed.specs.declared.start.Started.the-variants as started
+use Rattle.feed.specs.Start.{startDef}
+
+-- ---- the memory
+
+-- What is lent: the thread records, the words of the CPUs and the words of the nodes; and the state, which each call is given and returns.
+pub record Held : Type 0 where
+  pub threads : List Thread
+  pub cpus : List (List ℕ)
+  pub nodes : List (List ℕ)
+  pub state : State
+
+-- What the types of the slices say: a length is below 2^64, and a row has as many words as its array.
+pub record Typed (threads : List Thread) (cpus nodes : List (List ℕ)) : Type 0 where
+  pub records : length threads ≤ NONE
+  pub cpu-rows : (c : ℕ) → c < length cpus → length (getD cpus c []) ≡ width
+  pub node-rows : Sized nodes
+
+-- `start`, on memory that held anything, answered Ready with this state and left this memory.
+pub record Ready (h : Held) : Type 0 where
+  pub threads : List Thread
+  pub cpus : List (List ℕ)
+  pub nodes : List (List ℕ)
+  pub typed : Typed threads cpus nodes
+  pub answered : startDef threads cpus nodes .answer ≡ started.Ready (h .state)
+  pub left-threads : h .threads ≡ startDef threads cpus nodes .threads
+  pub left-cpus : h .cpus ≡ startDef threads cpus nodes .cpus
+  pub left-nodes : h .nodes ≡ startDef threads cpus nodes .nodes
+
+-- ---- the calls
+
+-- one call of `command` on its bytes
+abbrev pub call : Held → List ℕ → After
+call h bytes = commandDef (h .threads) (h .cpus) (h .nodes) bytes (length bytes) 0 (h .state)
+
+-- what it returned and left
+abbrev pub left-by : After → Held
+left-by d = record { threads = d .threads; cpus = d .cpus; nodes = d .nodes; state = d .outcome .state }
+
+-- what the calls of a list left, each on its bytes; and what they answered
+unfoldable pub after : Held → List (List ℕ) → Held
+after h [] = h
+after h (bytes ∷ calls) = after (left-by (call h bytes)) calls
+
+unfoldable pub answers : Held → List (List ℕ) → List Answer
+answers h [] = []
+answers h (bytes ∷ calls) = call h bytes .outcome .answer ∷ answers (left-by (call h bytes)) calls
+
+-- the rules' answers over the same bytes
+unfoldable pub ruled-answers : rules.State → List (List ℕ) → List Ruled
+ruled-answers s [] = []
+ruled-answers s (bytes ∷ calls) = step s bytes .answer ∷ ruled-answers (step s bytes .state) calls
+
+-- ---- the queues
+
+-- The queue of CPU c, read off the records and words: from the head of each bucket along the links of the records, 1,024 threads at most.
+abbrev pub queue-in : Held → ℕ → Queue
+queue-in h c = queue-read 1024 (marks (h .threads)) (queueAt (h .cpus) c)

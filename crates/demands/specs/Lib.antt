@@ -1,0 +1,6 @@
+pub mod Calls
+pub mod Kept
+pub mod Demand1
+pub mod Demand2
+pub mod Demand3
+pub mod Witness

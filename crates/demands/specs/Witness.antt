@@ -1,0 +1,50 @@
+-- There is memory on which `start` answers Ready: 1,024 records, 64 CPUs and 128 nodes of zeros. Assumes nothing.
+use Prim.Native.Nat.{ℕ, _<_}
+use mathlib.Core.Path.{_≡_, refl}
+use mathlib.Core.List.{List, []}
+use native.Mathlib.Omega.{arith}
+use lib.ListN.{length, getD, replicate, length-replicate, getD-replicate}
+use Rattle.thread.specs.declared.Thread.{Thread}
+use Rattle.thread.specs.Thread.{blank}
+use Rattle.processor.specs.Words as cpu
+use Rattle.nodes.specs.Words as node
+use Rattle.tree.specs.Rows.{Sized}
+use Rattle.feed.specs.Start.{initial, noRoom, startDef}
+use Rattle.demands.specs.Calls.{Held, Ready}
+
+abbrev records : List Thread
+records = replicate 1024 blank
+
+abbrev zeros : ℕ → List ℕ
+zeros k = replicate k 0
+
+abbrev rows : ℕ → ℕ → List (List ℕ)
+rows n k = replicate n (zeros k)
+
+row-long : (n k c : ℕ) → c < length (rows n k) → length (getD (rows n k) c []) ≡ k
+row-long n k c h = rw (getD-replicate n c (zeros k) [] (rw (length-replicate n (zeros k)) at h)) (length-replicate {A = ℕ} k 0)
+
+abbrev pub begun : Held
+begun = record {
+  threads = startDef records (rows 64 cpu.width) (rows 128 node.width) .threads;
+  cpus = startDef records (rows 64 cpu.width) (rows 128 node.width) .cpus;
+  nodes = startDef records (rows 64 cpu.width) (rows 128 node.width) .nodes;
+  state = initial;
+}
+
+pub ready : Ready begun
+unfolding startDef noRoom Sized
+ready = record {
+  threads = records;
+  cpus = rows 64 cpu.width;
+  nodes = rows 128 node.width;
+  typed = record {
+    records = rw (length-replicate 1024 blank) (omega arith);
+    cpu-rows = row-long 64 cpu.width;
+    node-rows = row-long 128 node.width;
+  };
+  answered = refl;
+  left-threads = refl;
+  left-cpus = refl;
+  left-nodes = refl;
+}
