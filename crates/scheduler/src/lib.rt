@@ -28,8 +28,8 @@ use questions::state::State;
 use thread::Thread;
 
 // The library's start. Where a slice is too short nothing is changed.
-
-pub fn scheduler_start(
+#[no_mangle]
+pub extern "C" fn scheduler_start(
     threads: &mut [Thread],
     cpus: &mut [[u64; 96]],
     nodes: &mut [[u64; 32]],
@@ -46,8 +46,8 @@ pub fn scheduler_start(
 }
 
 // The command that the bytes ask for.
-
-pub fn scheduler_command(
+#[no_mangle]
+pub extern "C" fn scheduler_command(
     threads: &mut [Thread],
     cpus: &mut [[u64; 96]],
     nodes: &mut [[u64; 32]],
@@ -61,8 +61,8 @@ pub fn scheduler_command(
 }
 
 // The line of one command.
-
-pub fn scheduler_render(buffer: &mut [u8], number: u64, row: Row) -> Written
+#[no_mangle]
+pub extern "C" fn scheduler_render(buffer: &mut [u8], number: u64, row: Row) -> Written
     ensures { λ r. ⌜ (r ≡ written-of (rendered (now (buffer .entry)) 0 (line number (answer-of (answer-in row))))) × (now (buffer .exit) ≡ buffer-with (now (buffer .entry)) 0 (line number (answer-of (answer-in row)))) ⌝ }
 {
     let rendered = render(buffer, number, answer_in(row));
@@ -70,16 +70,16 @@ pub fn scheduler_render(buffer: &mut [u8], number: u64, row: Row) -> Written
 }
 
 // A run that begins.
-
-pub fn scheduler_begin(state: State) -> Fed
+#[no_mangle]
+pub extern "C" fn scheduler_begin(state: State) -> Fed
     ensures { λ r. ⌜ r ≡ begin state ⌝ }
 {
     begin(state)
 }
 
 // The first n bytes of input, `last` if no block follows: header, lines and end line in output.
-
-pub fn scheduler_feed(
+#[no_mangle]
+pub extern "C" fn scheduler_feed(
     threads: &mut [Thread],
     cpus: &mut [[u64; 96]],
     nodes: &mut [[u64; 32]],
