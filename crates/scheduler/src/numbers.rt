@@ -201,10 +201,7 @@ pub fn begun_of(started: Started) -> Begun
     ensures { λ r. ⌜ r ≡ begun-of started ⌝ }
 {
     match started {
-        Started::Ready(state) => Begun {
-            ready: true,
-            state,
-        },
+        Started::Ready(state) => Begun { ready: true, state },
         Started::NoRoom => Begun {
             ready: false,
             state: no_state(),
@@ -216,10 +213,7 @@ pub fn written_of(rendered: Rendered) -> Written
     ensures { λ r. ⌜ r ≡ written-of rendered ⌝ }
 {
     match rendered {
-        Rendered::Written(bytes) => Written {
-            refusal: 0,
-            bytes,
-        },
+        Rendered::Written(bytes) => Written { refusal: 0, bytes },
         Rendered::Refused(refusal) => Written {
             refusal: refusal_number(refusal),
             bytes: 0,
