@@ -1,0 +1,219 @@
+-- Any list of calls: what they write and what is then left to write are the rules' output. Assumes nothing.
+use Prim.Native.Nat.{ℕ, _+_, _-_, _*_, _^_, _≤_, _<_}
+use mathlib.Core.Path.{_≡_, refl, sym, ap, subst, _∙_}
+use mathlib.Core.Bool.{true, true≢false, false≢true}
+use mathlib.Core.List.{List, [], _∷_, _++_, append-assoc, append-nil}
+use lib.ListN.{length, take, drop, length-append}
+use lib.Seq.{take-append-seam}
+use native.Mathlib.Omega.{arith}
+use Rattle.rules.specs.State.{base-limits, State, start}
+use Rattle.rules.specs.Lines.{output}
+use Rattle.feed.specs.declared.fed.Fed.{Fed}
+use Rattle.feed.specs.Fed.{ENDED, begin}
+use Rattle.feed.specs.Feed.{World, worldOf, feedDef}
+use Rattle.command_laws.specs.Law.{reachable-start}
+use Rattle.demands.specs.Calls.{Held, Ready}
+use Rattle.demands.specs.Kept.{ready-stands}
+use Rattle.feed_laws.specs.Going.{left-at, left, left-ended, Going}
+use Rattle.feed_laws.specs.Block.{Called, called, Leaves, run-ended, run-waits, leaves, stays-ended}
+use Rattle.feed_laws.specs.Calls.{Call, Run, in-hand, fed-by, after, output-of, after-all, outputs, stream, Proper, Roomy, says-last, Settled, over, few, begun}
+
+abbrev Goes : Run → State → Type 0
+Goes r s = Going (r .threads) (r .cpus) (r .nodes) (r .fed) s
+
+-- ---- one call
+
+record One (r : Run) (c : Call) (s : State) (to-come : List ℕ) : Type 0 where
+  state : State
+  going : Goes (after r c) state
+  same : output-of r c ++ left state (after r c .fed) (after r c .left-over ++ to-come) ≡ left s (r .fed) (in-hand r c ++ to-come)
+
+module _ (r : Run) (c : Call) (s : State) (g : Goes r s) (small : length (c .buffer) < 2 ^ 64) (to-come : List ℕ) (none-to-come : c .last ≡ true → to-come ≡ []) where
+  abbrev hand : List ℕ
+  hand = in-hand r c
+
+  abbrev world : World
+  world = worldOf (r .threads) (r .cpus) (r .nodes) (c .buffer) (r .fed)
+
+  fits : length hand ≤ length (hand ++ c .behind)
+  fits = rw length-append (omega arith)
+
+  front : take (length hand) (hand ++ c .behind) ≡ hand
+  front = take-append-seam hand (c .behind)
+
+  made : Called (hand ++ c .behind) (length hand) fits to-come (c .last) none-to-come (left s (r .fed) (take (length hand) (hand ++ c .behind) ++ to-come)) (feedDef (hand ++ c .behind) (length hand) (c .last) world)
+  made = called (hand ++ c .behind) (length hand) fits to-come (c .last) none-to-come world s g small
+
+  one : One r c s to-come
+  unfolding after output-of fed-by
+  one = record {
+    state = made .state;
+    going = made .going;
+    same =
+        let w : World = feedDef (hand ++ c .behind) (length hand) (c .last) world in
+        ap (λ (b : List ℕ). take (w .fed .done) (w .output) ++ left (made .state) (w .fed) (drop (w .fed .at) b ++ to-come)) (sym front)
+        ∙ made .same ∙ ap (λ (b : List ℕ). left s (r .fed) (b ++ to-come)) front;
+  }
+
+  one-leaves : 48 * (length hand + 2) ≤ length (c .buffer) → Leaves (c .last) (after r c .fed) (after r c .left-over)
+  unfolding after fed-by
+  one-leaves h =
+      let w : World = feedDef (hand ++ c .behind) (length hand) (c .last) world in
+      subst (λ (b : List ℕ). Leaves (c .last) (w .fed) (drop (w .fed .at) b)) front (leaves (hand ++ c .behind) (length hand) fits to-come (c .last) none-to-come world s g small h)
+
+-- ---- a list of calls
+
+pub record All (r : Run) (calls : List Call) (to-come before : List ℕ) : Type 0 where
+  pub state : State
+  pub going : Goes (after-all r calls) state
+  pub same : outputs r calls ++ left state (after-all r calls .fed) (after-all r calls .left-over ++ to-come) ≡ before
+
+all-none : (r : Run) (s : State) (to-come : List ℕ) → Goes r s → All r [] to-come (left s (r .fed) (r .left-over ++ (stream [] ++ to-come)))
+unfolding after-all outputs stream
+all-none r s to-come g = record { state = s; going = g; same = refl }
+
+proper-last : (c : Call) (calls : List Call) (to-come : List ℕ) → Proper (c ∷ calls) to-come → c .last ≡ true → stream calls ++ to-come ≡ []
+unfolding Proper
+proper-last c calls to-come p = p .0
+
+proper-small : (c : Call) (calls : List Call) (to-come : List ℕ) → Proper (c ∷ calls) to-come → length (c .buffer) < 2 ^ 64
+unfolding Proper
+proper-small c calls to-come p = p .1 .0
+
+proper-rest : (c : Call) (calls : List Call) (to-come : List ℕ) → Proper (c ∷ calls) to-come → Proper calls to-come
+unfolding Proper
+proper-rest c calls to-come p = p .1 .1
+
+module _ (to-come : List ℕ) where
+  here : (r : Run) (c : Call) (calls : List Call) (s : State) → Goes r s → Proper (c ∷ calls) to-come → One r c s (stream calls ++ to-come)
+  here r c calls s g p = one r c s g (proper-small c calls to-come p) (stream calls ++ to-come) (proper-last c calls to-come p)
+
+  all-then : (r : Run) (c : Call) (calls : List Call) (s : State) (o : One r c s (stream calls ++ to-come))
+      → All (after r c) calls to-come (left (o .state) (after r c .fed) (after r c .left-over ++ (stream calls ++ to-come)))
+      → All r (c ∷ calls) to-come (left s (r .fed) (r .left-over ++ (stream (c ∷ calls) ++ to-come)))
+  unfolding after-all outputs stream in-hand
+  all-then r c calls s o a = record {
+    state = a .state;
+    going = a .going;
+    same =
+        append-assoc (output-of r c) (outputs (after r c) calls) _ ∙ ap (λ (l : List ℕ). output-of r c ++ l) (a .same) ∙ o .same
+        ∙ ap (left s (r .fed)) (append-assoc (r .left-over) (c .block) (stream calls ++ to-come) ∙ ap (λ (l : List ℕ). r .left-over ++ l) (sym (append-assoc (c .block) (stream calls) to-come)));
+  }
+
+  all-calls : (calls : List Call) (r : Run) (s : State) → Goes r s → Proper calls to-come → All r calls to-come (left s (r .fed) (r .left-over ++ (stream calls ++ to-come)))
+  all-calls [] r s g p = all-none r s to-come g
+  all-calls (c ∷ calls) r s g p =
+      all-then r c calls s (here r c calls s g p) (all-calls calls (after r c) (here r c calls s g p .state) (here r c calls s g p .going) (proper-rest c calls to-come p))
+
+-- ---- from the start
+
+begun-goes : (h : Held) → Ready h → Goes (begun h) (start base-limits)
+unfolding begun begin start
+begun-goes h r = record {
+  history = _;
+  stands = ready-stands h r;
+  reachable = reachable-start base-limits;
+  base = refl;
+  number-fits = omega arith;
+  goes-on = λ i. omega arith;
+  refused-fits = omega arith;
+  phase-fits = omega arith;
+}
+
+begun-left : (h : Held) (bytes : List ℕ) → left (start base-limits) (begun h .fed) (begun h .left-over ++ bytes) ≡ output base-limits bytes
+unfolding begun begin left-at output
+begun-left h bytes = refl
+
+module _ (h : Held) (r : Ready h) (calls : List Call) (to-come : List ℕ) (p : Proper calls to-come) where
+  pub from-start : All (begun h) calls to-come (output base-limits (stream calls ++ to-come))
+  from-start =
+      subst (λ (o : List ℕ). All (begun h) calls to-come o) (begun-left h (stream calls ++ to-come))
+      (all-calls to-come calls (begun h) (start base-limits) (begun-goes h r) p)
+
+  pub from-start-ended : after-all (begun h) calls .fed .phase ≡ ENDED → outputs (begun h) calls ≡ output base-limits (stream calls ++ to-come)
+  from-start-ended e =
+      let f : Fed = after-all (begun h) calls .fed in
+      let b : List ℕ = after-all (begun h) calls .left-over ++ to-come in
+      sym (append-nil (outputs (begun h) calls))
+      ∙ ap (λ (l : List ℕ). outputs (begun h) calls ++ l)
+      (sym (ap (λ (q : ℕ). left-at (from-start .state) q (f .number) (f .refused) b) e ∙ left-ended (from-start .state) (f .number) (f .refused) b))
+      ∙ from-start .same
+
+-- ---- with large buffers the run ends
+
+settled-after : (r : Run) (c : Call) → Leaves (c .last) (after r c .fed) (after r c .left-over) → Settled (after r c)
+settled-after r c (run-ended e) = over e
+settled-after r c (run-waits e l h) = few h
+
+last-over : (r : Run) (c : Call) → c .last ≡ true → Leaves (c .last) (after r c .fed) (after r c .left-over) → after r c .fed .phase ≡ ENDED
+last-over r c l (run-ended e) = e
+last-over r c l (run-waits e f h) = absurd (true≢false (sym l ∙ f))
+
+ended-stays : (r : Run) (c : Call) → r .fed .phase ≡ ENDED → after r c .fed .phase ≡ ENDED
+unfolding after fed-by
+ended-stays r c e = stays-ended (in-hand r c ++ c .behind) (length (in-hand r c)) (c .last) (worldOf (r .threads) (r .cpus) (r .nodes) (c .buffer) (r .fed)) e
+
+roomy-first : (c : Call) (calls : List Call) → Roomy (c ∷ calls) → 48 * (length (c .block) + 10) ≤ length (c .buffer)
+unfolding Roomy
+roomy-first c calls h = h .0
+
+roomy-rest : (c : Call) (calls : List Call) → Roomy (c ∷ calls) → Roomy calls
+unfolding Roomy
+roomy-rest c calls h = h .1
+
+all-one : (r : Run) (c : Call) → after-all r (c ∷ []) ≡ after r c
+unfolding after-all
+all-one r c = refl
+
+all-more : (r : Run) (c : Call) (calls : List Call) → after-all r (c ∷ calls) ≡ after-all (after r c) calls
+unfolding after-all
+all-more r c calls = refl
+
+says-one : (c : Call) → says-last (c ∷ []) ≡ true → c .last ≡ true
+unfolding says-last
+says-one c e = e
+
+says-more : (c d : Call) (calls : List Call) → says-last (c ∷ d ∷ calls) ≡ true → says-last (d ∷ calls) ≡ true
+unfolding says-last
+says-more c d calls e = e
+
+says-none : says-last [] ≡ true → ⊥
+unfolding says-last
+says-none e = false≢true e
+
+leaves-after : (to-come : List ℕ) (r : Run) (c : Call) (calls : List Call) (s : State) → Goes r s → Proper (c ∷ calls) to-come → Roomy (c ∷ calls) → Settled r
+    → Leaves (c .last) (after r c .fed) (after r c .left-over)
+unfolding in-hand
+leaves-after to-come r c calls s g p m (over e) = run-ended (ended-stays r c e)
+leaves-after to-come r c calls s g p m (few h) =
+    one-leaves r c s g (proper-small c calls to-come p) (stream calls ++ to-come) (proper-last c calls to-come p)
+    (omega (arith, roomy-first c calls m, length-append (r .left-over) (c .block)))
+
+all-settled : (to-come : List ℕ) (calls : List Call) (r : Run) (s : State) → Goes r s → Proper calls to-come → Roomy calls → Settled r → Settled (after-all r calls)
+unfolding after-all
+all-settled to-come [] r s g p m h = h
+all-settled to-come (c ∷ calls) r s g p m h =
+    let o : One r c s (stream calls ++ to-come) = here to-come r c calls s g p in
+    all-settled to-come calls (after r c) (o .state) (o .going) (proper-rest c calls to-come p) (roomy-rest c calls m)
+    (settled-after r c (leaves-after to-come r c calls s g p m h))
+
+all-end : (calls : List Call) (r : Run) (s : State) → Goes r s → Proper calls [] → Roomy calls → Settled r → says-last calls ≡ true → after-all r calls .fed .phase ≡ ENDED
+all-end [] r s g p m h e = absurd (says-none e)
+all-end (c ∷ []) r s g p m h e = ap (λ (q : Run). q .fed .phase) (all-one r c) ∙ last-over r c (says-one c e) (leaves-after [] r c [] s g p m h)
+all-end (c ∷ d ∷ calls) r s g p m h e =
+    let o : One r c s (stream (d ∷ calls) ++ []) = here [] r c (d ∷ calls) s g p in
+    ap (λ (q : Run). q .fed .phase) (all-more r c (d ∷ calls))
+    ∙ all-end (d ∷ calls) (after r c) (o .state) (o .going) (proper-rest c (d ∷ calls) [] p) (roomy-rest c (d ∷ calls) m) (settled-after r c (leaves-after [] r c (d ∷ calls) s g p m h)) (says-more c d calls e)
+
+begun-settled : (h : Held) → Settled (begun h)
+unfolding begun
+begun-settled h = few (omega arith)
+
+pub from-start-whole : (h : Held) → Ready h → (calls : List Call) → Proper calls [] → Roomy calls → says-last calls ≡ true
+    → outputs (begun h) calls ≡ output base-limits (stream calls)
+from-start-whole h r calls p m e =
+    from-start-ended h r calls [] p (all-end calls (begun h) (start base-limits) (begun-goes h r) p m (begun-settled h) e)
+    ∙ ap (output base-limits) (append-nil (stream calls))
+
+pub from-start-settled : (h : Held) → Ready h → (calls : List Call) (to-come : List ℕ) → Proper calls to-come → Roomy calls → Settled (after-all (begun h) calls)
+from-start-settled h r calls to-come p m = all-settled to-come calls (begun h) (start base-limits) (begun-goes h r) p m (begun-settled h)

@@ -1,0 +1,10 @@
+pub mod Reading
+pub mod Length
+pub mod Going
+pub mod Step
+pub mod Block
+pub mod Calls
+pub mod Fold
+pub mod EndLine
+pub mod Output
+pub mod Witness
