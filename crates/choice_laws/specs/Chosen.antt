@@ -6,7 +6,7 @@ use mathlib.Core.Option.{Option, none, some}
 use mathlib.Core.List.{List, [], _∷_}
 use native.Mathlib.Nat.{mod-eq-of-lt}
 use lib.Dec.{eqb}
-use borrow.Author.Tests.{eqb-true, eq-eqb}
+use borrow.Author.Tests.{eq-eqb}
 use Rattle.rules.specs.declared.Priority.{Priority}
 use Rattle.rules.specs.Line.{has, both, has-append}
 use Rattle.rules.specs.Priority.{less}
@@ -18,6 +18,7 @@ use Rattle.rules.specs.Choice as rule
 use Rattle.rules.specs.Choice.{Best, none-yet, best, Searched, find-cpu, first-that, may-steal-from, Extremes, extremes, choose-cpu-balance}
 use Rattle.rules.specs.Schedule as sched
 use Rattle.rules.specs.Schedule.{World, Got, with-cpu, with-draws, current-load, current-priority, movable-on, same-cpu, skips, cpu-of}
+use Rattle.rules.specs.Sound.{at-keeps, at-here}
 use Rattle.nodes.specs.Walk.{cpus-at, nearest-at}
 use Rattle.processor.specs.Words.{word}
 use Rattle.choice.specs.Reads.{load-at, weight-at, priority-at, queue-load-at, movable-at, skips-at, draw-word}
@@ -25,6 +26,7 @@ use Rattle.choice.specs.Found.{begun}
 use Rattle.choice.specs.Select.{runs-at-once, at-once, cpu-found, accepted, search-from, search-again, search-twice, select-cpu}
 use Rattle.tree.specs.Lists.{below-has}
 use Rattle.tree.specs.Tree.{Tree, cpus-same, nearest-same, visited-same}
+use Rattle.memory.specs.Frames.{at-again}
 
 -- ---- what the words must say of the CPUs of a world
 
@@ -142,17 +144,9 @@ module _ (limits : Limits) (t : Topology) (tick us : ℕ) (cpus nodes : List (Li
 unfoldable pub drawn : ℕ → World → ℕ → World
 drawn us w draws = with-cpu w us (with-draws (w .cpus us) draws)
 
-at-again : (f : ℕ → Cpu) (us : ℕ) (a b : Cpu) → at (at f us a) us b ≡ at f us b
-unfolding at
-at-again f us a b = λ i c. same (eqb c us) (f c) i
-  where
-    same : (q : Bool) (e : Cpu) → cond q b (cond q a e) ≡ cond q b e
-    same true e = refl
-    same false e = refl
-
 drawn-at : (us : ℕ) (w : World) (d : ℕ) → drawn us w d .cpus us ≡ with-draws (w .cpus us) d
-unfolding drawn with-cpu at
-drawn-at us w d = rw (eq-eqb us us refl)
+unfolding drawn with-cpu
+drawn-at us w d = at-here (w .cpus) us _
 
 draws-twice : (p : Cpu) (d e : ℕ) → with-draws (with-draws p d) e ≡ with-draws p e
 unfolding with-draws
@@ -163,7 +157,7 @@ unfolding drawn with-cpu
 drawn-again us w d e =
     let h : with-draws (drawn us w d .cpus us) e ≡ with-draws (w .cpus us) e = ap (λ (p : Cpu). with-draws p e) (drawn-at us w d) ∙ draws-twice (w .cpus us) d e in
     λ i. record {
-      cpus = (ap (at (at (w .cpus) us (with-draws (w .cpus us) d)) us) h ∙ at-again (w .cpus) us (with-draws (w .cpus us) d) (with-draws (w .cpus us) e)) i;
+      cpus = (ap (at (at (w .cpus) us (with-draws (w .cpus us) d)) us) h ∙ (λ j c. at-again (w .cpus) us (with-draws (w .cpus us) d) (with-draws (w .cpus us) e) c j)) i;
       threads = w .threads;
       log = w .log;
       wakeups = w .wakeups;
@@ -171,8 +165,8 @@ drawn-again us w d e =
 
 -- what does not look at draw states
 kept : {A : Type 0} (g : Cpu → A) → ((p : Cpu) (d : ℕ) → g (with-draws p d) ≡ g p) → (us : ℕ) (w : World) (d c : ℕ) → g (drawn us w d .cpus c) ≡ g (w .cpus c)
-unfolding drawn with-cpu at
-kept g q us w d c = both (eqb c us) (λ e. rw (e, q (w .cpus us) d, eqb-true c us e)) (λ e. rw e)
+unfolding drawn with-cpu
+kept g q us w d c = at-keeps g (w .cpus) us _ (q (w .cpus us) d) c
 
 load-kept : (p : Cpu) (d : ℕ) → current-load (with-draws p d) ≡ current-load p
 unfolding current-load with-draws

@@ -5,10 +5,9 @@ use mathlib.Core.Logic.{_≢_}
 use mathlib.Core.Bool.{Bool, true, false, cond, _||_, true≢false, false≢true}
 use mathlib.Core.Option.{Option, none, some}
 use mathlib.Core.List.{List, [], _∷_}
-use lib.ListN.{length, getD, set, length-set}
-use lib.Seq.{getD-set-same, set-out}
-use lib.Dec.{eqb, ltb}
-use borrow.Author.Tests.{eqb-true, eqb-false, eq-eqb, ne-eqb, ltb-true, ltb-false}
+use lib.ListN.{length, set, length-set}
+use lib.Dec.{eqb}
+use borrow.Author.Tests.{eqb-true, eqb-false, eq-eqb, ne-eqb}
 use native.Mathlib.Omega.{arith}
 use Rattle.rules.specs.declared.Part.{Part}
 use Rattle.rules.specs.declared.Part.the-variants as part
@@ -17,70 +16,49 @@ use Rattle.rules.specs.Times as times
 use Rattle.rules.specs.Times.{pinned, effective-priority, steadied}
 use Rattle.rules.specs.declared.Priority.{Priority}
 use Rattle.rules.specs.Puts.{PutOrTake, a-take}
-use Rattle.rules.specs.Queue.{Queue, order, timeshare-line, movable, highest-value, said-timeshare, said-after-take, Next, nobody, next-in, asked, leave, insert, is-timeshare, part-of, part-for, said-after-put}
+use Rattle.rules.specs.Queue.{Queue, order, timeshare-line, highest-value, said-timeshare, said-after-take, Next, nobody, next-in, asked, leave, insert, is-timeshare, part-of, part-for, said-after-put}
 use Rattle.rules.specs.State.{at, Limits, Topology, Cpu}
 use Rattle.rules.specs.Schedule.{World, Got, with-cpu, with-thread, with-queue, noted, pinned-in, arrival, insert-thread, take-thread, handed-out}
 use Rattle.rules.specs.Sound.{at-here, at-there, Under, waits, New, Sound, take-taken}
 use Rattle.rules.specs.Sound as sound
 use Rattle.rules.specs.Kept.{asked-head}
+use Rattle.rules.specs.Held.{has-head}
 use Rattle.thread.specs.declared.Thread.{Thread}
 use Rattle.thread.specs.declared.place.Place.the-variants as place
 use Rattle.thread.specs.Reads.{reads}
 use Rattle.thread.specs.Thread.{NONE, WAITING, RUNNING, with-place, with-next, with-stable}
 use Rattle.thread.specs.Place.{place-in, reads-place, reads-next}
-use Rattle.thread.specs.Priority.{stable-effective-priority, reads-stable, effective-below}
+use Rattle.thread.specs.Priority.{stable-effective-priority, effective-below}
 use Rattle.runqueue.specs.declared.rq.RunQueue.{RunQueue}
 use Rattle.runqueue.specs.declared.rq.Arrival.{Arrival}
 use Rattle.runqueue.specs.declared.rq.Front.{Front}
 use Rattle.runqueue.specs.declared.rq.Front.the-variants as front
 use Rattle.runqueue.specs.RunQueue.{rqFront, rqInsert, rqInsertInto, rqInsertRealtime, rqInsertTimeshare, rqInsertIdle}
-use Rattle.processor.specs.Words.{word}
-use Rattle.processor.specs.Window.{length-place}
-use Rattle.processor.specs.Queue.{queueAt, queueStored, queueInto, storedFrom, length-lists, queue-elsewhere, word-after-store}
-use Rattle.represent.specs.Well.{Reading, Well, put-reading, as-arrival, take-reading}
-use Rattle.represent.specs.Linked.{has-first, has-later}
-use Rattle.represent.specs.Operations.{put-has, in-ts}
+use Rattle.processor.specs.Queue.{queueAt, queueStored, word-after-store, row-length-store}
+use Rattle.represent.specs.Well.{Reading, put-reading, as-arrival, take-reading}
+use Rattle.represent.specs.Linked.{has-later}
+use Rattle.represent.specs.Operations.{put-has, in-ts, movable-same}
 use Rattle.lent.specs.declared.rq.Taken.{Taken}
 use Rattle.lent.specs.declared.rq.Taken.the-variants as taken
-use Rattle.lent.specs.Rq.{recordAt, arrivalOf, steadyIn, putIn, linkBehind, putOf, insertDef, leftBy, Took, tookFrom, takeDef}
-use Rattle.represent.specs.Records.{marks, read-set, length-put}
+use Rattle.lent.specs.Rq.{recordAt, arrivalOf, steadyIn, putIn, putOf, insertDef, leftBy, Took, tookFrom, takeDef}
+use Rattle.represent.specs.Records.{marks, length-put, field-set, kept, put-reads, put-field}
 use Rattle.represent.specs.System.{Good, arriving, put-law, Taken-as, take-law}
 use Rattle.memory.specs.Shows.{reading-of, Words-show, place-at, Places, Small, Shows}
-use Rattle.memory.specs.Frames.{kept, words-same, at-map, places-same, in-records}
+use Rattle.memory.specs.Frames.{words-same, at-map, in-records, shows-alike, words-alike, places-moved}
 
 pub fits : {limits : Limits} → Small limits → limits .threads ≤ NONE
 fits small = omega (arith, small .threads)
 
 -- ---- a queue is stored
 
-row-stored : (cs : List (List ℕ)) (c d : ℕ) (q : RunQueue) → length (getD (queueStored cs c q) d []) ≡ length (getD cs d [])
-unfolding queueStored queueInto storedFrom
-row-stored cs c d q =
-    both (eqb d c)
-    (λ e. both (ltb c (length cs))
-    (λ l. rw (eqb-true d c e, getD-set-same cs c (storedFrom (getD cs c []) 0 q) [] (ltb-true _ _ l)) (simp (length-place, length-lists)))
-    (λ l. rw (set-out cs c (storedFrom (getD cs c []) 0 q) (ltb-false _ _ l))))
-    (λ e. unfold queueStored queueInto in rw (queue-elsewhere cs c d q (eqb-false d c e)))
-
 -- what the words of a CPU show beside its queue stays
 pub words-stored : {topology : Topology} (cs : List (List ℕ)) (c d : ℕ) (q : RunQueue) (p : Cpu) → Words-show topology cs d p → Words-show topology (queueStored cs c q) d p
-words-stored cs c d q p s = words-same cs (queueStored cs c q) d p (λ u h l. word-after-store cs c d q u (omega arith)) s
+words-stored cs c d q p s = words-same (λ u h l. word-after-store cs c d q u (omega arith)) s
 
 -- a CPU with another queue has the same other fields
 pub words-queue : {topology : Topology} (cs : List (List ℕ)) (c : ℕ) (p : Cpu) (q : Queue) (said : _) → Words-show topology cs c p → Words-show topology cs c (with-queue p q said)
 unfolding with-queue
-words-queue cs c p q said s = record {
-  declared = s .declared;
-  placed = s .placed;
-  running = s .running;
-  own-priority = s .own-priority;
-  is-idle = s .is-idle;
-  must-rebalance = s .must-rebalance;
-  preempt = s .preempt;
-  draw-state = s .draw-state;
-  rebalance-time = s .rebalance-time;
-  idle-timeslice = s .idle-timeslice;
-}
+words-queue cs c p q said s = words-alike p (with-queue p q said) refl refl refl refl refl refl refl refl refl s
 
 -- the queue of one CPU is stored, and with it records may have changed
 module _ {limits : Limits} {topology : Topology} {known active : ℕ → Bool} {ts : List Thread} {cs : List (List ℕ)} {w : World} (s : Shows limits topology known active ts cs w) where
@@ -93,7 +71,7 @@ module _ {limits : Limits} {topology : Topology} {known active : ℕ → Bool} {
     queues = subst (λ (Rs : ℕ → Reading). Good (limits .threads) (limits .cpus) ts′ (queueStored cs c q) Rs)
         (λ i d. (at-map reading-of (w .cpus) c p d ∙ ap (λ (f : ℕ → Cpu). reading-of (f d)) (sym e)) i) g;
     none-past = rw n (s .none-past);
-    rows = λ d h. row-stored cs c d q ∙ s .rows d h;
+    rows = λ d h. row-length-store cs c d q ∙ s .rows d h;
     threads = t;
     queue-cpus = u;
     words = λ d h. subst (λ (f : ℕ → Cpu). Words-show topology (queueStored cs c q) d (f d)) (sym e) (both (eqb d c)
@@ -113,26 +91,11 @@ put-part q a = go (part-of (a .priority .class) (a .due))
     go part.Timeshare = unfold rqInsertInto rqInsertTimeshare in refl
     go part.Idle = unfold rqInsertInto rqInsertIdle in refl
 
-put-reads : (t : Thread) (p : Part) → reads (putIn t p) ≡ cond (is-timeshare p) (steadied (reads t)) (reads t)
-unfolding putIn steadyIn is-timeshare
-put-reads t part.Realtime = reads-next (with-place t WAITING) NONE ∙ reads-place t WAITING
-put-reads t part.Timeshare = reads-stable _ ∙ ap steadied (reads-next (with-place t WAITING) NONE ∙ reads-place t WAITING)
-put-reads t part.Idle = reads-next (with-place t WAITING) NONE ∙ reads-place t WAITING
-
 put-place : (t : Thread) (p : Part) → putIn t p .place ≡ WAITING
 unfolding putIn steadyIn with-next with-place stable-effective-priority with-stable
 put-place t part.Realtime = refl
 put-place t part.Timeshare = refl
 put-place t part.Idle = refl
-
-put-field {ℓ} : {A : Type ℓ} (f : Thread → A) → ((t : Thread) (n : ℕ) → f (with-next t n) ≡ f t) → (ts : List Thread) (x : ℕ) (p : Part) (b z : ℕ) → x < length ts
-    → f (recordAt (linkBehind (set ts x (putIn (recordAt ts x) p)) b x) z) ≡ cond (eqb z x) (f (putIn (recordAt ts x) p)) (f (recordAt ts z))
-unfolding linkBehind
-put-field f past ts x p b z h =
-    let written : List Thread = set ts x (putIn (recordAt ts x) p) in
-    let first : f (recordAt written z) ≡ cond (eqb z x) (f (putIn (recordAt ts x) p)) (f (recordAt ts z)) =
-    rw (read-set ts x (putIn (recordAt ts x) p) z h) (both (eqb z x) (λ e. rw e) (λ e. rw e)) in
-    both (eqb b NONE) (λ e. rw e first) (λ e. rw e (kept f written b (with-next (recordAt written b) x) z (past (recordAt written b) x) ∙ first))
 
 steady-home : (n : ℕ) (b : Bool) (t : times.Thread) → Under n (t .queue-cpu) → Under n (cond b (steadied t) t .queue-cpu)
 unfolding steadied
@@ -197,25 +160,13 @@ module _ (limits : Limits) (topology : Topology) (tick us : ℕ) (known : ℕ �
     put-place-at : (z : ℕ) → place-at (insertDef ts cs c x tick current .threads) z ≡ cond (eqb z x) place.Waiting (place-at ts z)
     unfolding insertDef place-in with-next
     put-place-at z =
-        put-field (λ (u : Thread). place-in (u .place)) (λ t m. refl) ts x (putOf ts cs c x tick current .part) (putOf ts cs c x tick current .behind) z (in-records s x below)
+        put-field ts x (in-records s x below) (putOf ts cs c x tick current .part) (putOf ts cs c x tick current .behind) (λ (u : Thread). place-in (u .place)) (λ t m. refl) z
         ∙ both (eqb z x) (λ e. rw (e, put-place (recordAt ts x) (putOf ts cs c x tick current .part))) (λ e. rw e)
 
     put-places : Places (limits .threads) known (at active x false) (insertDef ts cs c x tick current .threads) v
     put-places =
-        let other : (z : ℕ) → z ≢ x → place-at (insertDef ts cs c x tick current .threads) z ≡ place-at ts z = λ z h. put-place-at z ∙ rw (ne-eqb z x h) in
-        let active-other : (z : ℕ) → z ≢ x → at active x false z ≡ active z = λ z h. at-there active x false z h in
-        record {
-          waiting = λ d z h. both (eqb z x) (λ e. put-place-at z ∙ rw e) (λ e. let k = eqb-false z x e in other z k ∙ s .places .waiting d z (sym (waits-still d z k) ∙ h));
-          running = λ z h. both (eqb z x)
-              (λ e. absurd (false≢true (sym (at-here active x false) ∙ rw (eqb-true z x e) at h)))
-              (λ e. let k = eqb-false z x e in other z k ∙ s .places .running z (sym (active-other z k) ∙ h));
-          blocked = λ z l k a f. both (eqb z x)
-              (λ e. absurd (true≢false (sym (waits-here x ∙ rw (eq-eqb x x refl)) ∙ rw (eqb-true z x e) at (f c))))
-              (λ e. let m = eqb-false z x e in other z m ∙ s .places .blocked z l k (sym (active-other z m) ∙ a) (λ d. sym (waits-still d z m) ∙ f d));
-          undeclared = λ z k. both (eqb z x)
-              (λ e. absurd (true≢false (sym (n .is-known) ∙ rw (eqb-true z x e) at k)))
-              (λ e. other z (eqb-false z x e) ∙ s .places .undeclared z k);
-        }
+        places-moved x place.Waiting put-place-at (n .is-known) (λ z h. refl) (λ z h. at-there active x false z h) waits-still (λ d h. refl)
+        (λ h. absurd (false≢true (sym (at-here active x false) ∙ h))) (λ a f. absurd (true≢false (sym (waits-here x ∙ rw (eq-eqb x x refl)) ∙ f c))) (s .places)
 
     -- PUT
     pub shows-insert : (let d = insertDef ts cs c x tick current in
@@ -226,7 +177,7 @@ module _ (limits : Limits) (topology : Topology) (tick us : ℕ) (known : ℕ �
         (subst (λ (R : Reading). Good (limits .threads) (limits .cpus) (insertDef ts cs c x tick current .threads) (insertDef ts cs c x tick current .cpus) (at (λ d. reading-of (w .cpus d)) c R)) read-there
         (put-law (limits .threads) (limits .cpus) ts cs (λ y. reading-of (w .cpus y)) (s .queues) c (n .near) (fits small) x tick current below nobody-reads))
         (words-queue cs c (w .cpus c) _ _ (s .words c (n .near)))
-        (λ z h. put-field reads reads-next ts x (putOf ts cs c x tick current .part) (putOf ts cs c x tick current .behind) z (in-records s x below)
+        (λ z h. put-field ts x (in-records s x below) (putOf ts cs c x tick current .part) (putOf ts cs c x tick current .behind) reads reads-next z
         ∙ (unfold at in both (eqb z x) (λ e. rw e thread-there) (λ e. rw e (s .threads z h))))
         (λ z h. unfold at in both (eqb z x) (λ e. rw e (steady-home (limits .cpus) (is-timeshare (part-for (arrival limits topology tick us (w .threads x) x current))) (w .threads x) (s .queue-cpus x below))) (λ e. rw e (s .queue-cpus z h)))
         put-places
@@ -234,15 +185,10 @@ module _ (limits : Limits) (topology : Topology) (tick us : ℕ) (known : ℕ �
 -- ---- what a take asks of the records
 
 -- only of those who wait
-pub movable-same : (f g : ℕ → Bool) (l : List ℕ) → ((z : ℕ) → has z l ≡ true → f z ≡ g z) → movable f l ≡ movable g l
-unfolding movable
-movable-same f g [] h = refl
-movable-same f g (x ∷ l) h = rw (h x (has-first x l), movable-same f g l (λ z k. h z (has-later z x l k)))
-
 highest-same : (f g : ℕ → ℕ) (l : List ℕ) → ((z : ℕ) → has z l ≡ true → f z ≡ g z) → highest-value f l ≡ highest-value g l
 unfolding highest-value
 highest-same f g [] h = refl
-highest-same f g (x ∷ l) h = rw (h x (has-first x l), highest-same f g l (λ z k. h z (has-later z x l k)))
+highest-same f g (x ∷ l) h = rw (h x (has-head x l), highest-same f g l (λ z k. h z (has-later z x l k)))
 
 asked-same : (f g : ℕ → Bool) (Q : Queue) (stealing : Bool) → ((z : ℕ) → has z (order Q) ≡ true → f z ≡ g z) → asked f Q stealing ≡ asked g Q stealing
 unfolding asked
@@ -274,9 +220,6 @@ module _ (limits : Limits) (topology : Topology) (tick us : ℕ) (known : ℕ �
   module _ {active but : ℕ → Bool} {ts : List Thread} {cs : List (List ℕ)} {w : World} (s : Shows limits topology known active ts cs w) (safe : Sound limits known H but w) (c : ℕ) (near : c < limits .cpus) where
     abbrev Q : Queue
     Q = w .cpus c .queue
-
-    well : Well (limits .threads) (marks ts) (queueAt cs c) (reading-of (w .cpus c))
-    well = s .queues .shows .each c near
 
     line-in : (z : ℕ) → has z (order Q) ≡ true → z < limits .threads
     line-in z h = numbered z (safe .placed c z h .1)
@@ -330,26 +273,12 @@ module _ (limits : Limits) (topology : Topology) (tick us : ℕ) (known : ℕ �
 
         take-place-at : (z : ℕ) → place-at running-now z ≡ cond (eqb z x) place.Running (place-at ts z)
         unfolding place-in with-place
-        take-place-at z = rw (read-set ts x (with-place (recordAt ts x) RUNNING) z (in-records s x was-in)) (both (eqb z x) (λ e. rw e) (λ e. rw e))
+        take-place-at z = field-set (λ (u : Thread). place-in (u .place)) ts x (with-place (recordAt ts x) RUNNING) z (in-records s x was-in)
 
         take-places : Places (limits .threads) known (at active x true) running-now (got .world)
         take-places =
-            let other : (z : ℕ) → z ≢ x → place-at running-now z ≡ place-at ts z = λ z h. take-place-at z ∙ rw (ne-eqb z x h) in
-            let active-other : (z : ℕ) → z ≢ x → at active x true z ≡ active z = λ z h. at-there active x true z h in
-            record {
-              waiting = λ d z h. both (eqb z x)
-                  (λ e. absurd (true≢false (sym (rw (eqb-true z x e) at h) ∙ kept-taken .handed-free x (unfold handed-out in refl) d)))
-                  (λ e. let k = eqb-false z x e in other z k ∙ s .places .waiting d z (sym (left-waits d z k) ∙ h));
-              running = λ z h. both (eqb z x)
-                  (λ e. take-place-at z ∙ rw e)
-                  (λ e. let k = eqb-false z x e in other z k ∙ s .places .running z (sym (active-other z k) ∙ h));
-              blocked = λ z l k m f. both (eqb z x)
-                  (λ e. absurd (true≢false (sym (at-here active x true) ∙ rw (eqb-true z x e) at m)))
-                  (λ e. let o = eqb-false z x e in other z o ∙ s .places .blocked z l k (sym (active-other z o) ∙ m) (λ d. sym (left-waits d z o) ∙ f d));
-              undeclared = λ z k. both (eqb z x)
-                  (λ e. absurd (true≢false (sym (kept-taken .handed-known x (unfold handed-out in refl)) ∙ rw (eqb-true z x e) at k)))
-                  (λ e. other z (eqb-false z x e) ∙ s .places .undeclared z k);
-            }
+            places-moved x place.Running take-place-at (kept-taken .handed-known x (unfold handed-out in refl)) (λ z h. refl) (λ z h. at-there active x true z h) left-waits
+            (λ d h. absurd (true≢false (sym h ∙ kept-taken .handed-free x (unfold handed-out in refl) d))) (λ h. refl) (λ a f. absurd (true≢false (sym (at-here active x true) ∙ a))) (s .places)
 
         some-shows : (p′ : Part) (b′ : ℕ)
             → Good (limits .threads) (limits .cpus) (tookFrom ts cs c (front.At p′ b′ x) .threads) (tookFrom ts cs c (front.At p′ b′ x) .cpus)
@@ -371,7 +300,7 @@ module _ (limits : Limits) (topology : Topology) (tick us : ℕ) (known : ℕ �
       unfolding tookFrom handed-out active-with as-taken noted
       none-shows = record {
         answer = refl;
-        left = record { queues = s .queues; none-past = s .none-past; rows = s .rows; threads = s .threads; queue-cpus = s .queue-cpus; words = s .words; places = places-same w (noted w c (a-take stealing none)) (λ d x. refl) (s .places) };
+        left = shows-alike w (noted w c (a-take stealing none)) (λ d. refl) (λ x. refl) s;
       }
 
       go : (f : Front) (n : Next) → asked (pinned-in w) Q stealing ≡ n → Taken-as (limits .threads) (limits .cpus) ts cs (λ d. reading-of (w .cpus d)) c (tookFrom ts cs c f) n

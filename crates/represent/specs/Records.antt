@@ -14,6 +14,7 @@ use Rattle.rules.specs.Line.{both}
 use Rattle.rules.specs.Times.{pinned, effective-priority, steadied}
 use Rattle.rules.specs.Times as times
 use Rattle.rules.specs.State.{at}
+use Rattle.rules.specs.Queue.{is-timeshare}
 use Rattle.thread.specs.declared.Thread.{Thread}
 use Rattle.thread.specs.Thread.{blank, NONE, WAITING, with-place, with-next, with-stable}
 use Rattle.thread.specs.Reads.{reads}
@@ -37,12 +38,18 @@ pub read-set : (ts : List Thread) (x : ℕ) (t : Thread) (z : ℕ) → x < lengt
 read-set ts x t z h =
     both (eqb z x) (λ e. rw (e, eqb-true z x e) (getD-set-same ts x t blank h)) (λ e. rw e (getD-set-other ts x z t blank (eqb-false z x e)))
 
--- a write that keeps a field, wherever it goes
-pub kept {ℓ} : {A : Type ℓ} (f : Thread → A) (ts : List Thread) (x : ℕ) (t : Thread) (z : ℕ) → f t ≡ f (recordAt ts x) → f (recordAt (set ts x t) z) ≡ f (recordAt ts z)
-kept f ts x t z e =
+pub field-set {ℓ} : {A : Type ℓ} (f : Thread → A) (ts : List Thread) (x : ℕ) (t : Thread) (z : ℕ) → x < length ts → f (recordAt (set ts x t) z) ≡ cond (eqb z x) (f t) (f (recordAt ts z))
+field-set f ts x t z h = rw (read-set ts x t z h) (both (eqb z x) (λ e. rw e) (λ e. rw e))
+
+-- a write that keeps a field there, wherever it goes
+pub kept-there {ℓ} : {A : Type ℓ} (f : Thread → A) (ts : List Thread) (x : ℕ) (t : Thread) (z : ℕ) → (z ≡ x → f t ≡ f (recordAt ts x)) → f (recordAt (set ts x t) z) ≡ f (recordAt ts z)
+kept-there f ts x t z e =
     both (ltb x (length ts))
-    (λ l. rw (read-set ts x t z (ltb-true _ _ l)) (both (eqb z x) (λ k. rw (k, eqb-true z x k) e) (λ k. rw k)))
+    (λ l. rw (read-set ts x t z (ltb-true _ _ l)) (both (eqb z x) (λ k. rw (k, eqb-true z x k) (e (eqb-true z x k))) (λ k. rw k)))
     (λ l. rw (set-out ts x t (ltb-false _ _ l)))
+
+pub kept {ℓ} : {A : Type ℓ} (f : Thread → A) (ts : List Thread) (x : ℕ) (t : Thread) (z : ℕ) → f t ≡ f (recordAt ts x) → f (recordAt (set ts x t) z) ≡ f (recordAt ts z)
+kept f ts x t z e = kept-there f ts x t z (λ q. e)
 
 -- A WRITE THAT KEEPS LINK, PIN AND STABLE VALUE
 pub marks-kept : (ts : List Thread) (x : ℕ) (t : Thread) → t .next ≡ recordAt ts x .next → reads t ≡ reads (recordAt ts x) → marks (set ts x t) ≡ marks ts
@@ -61,20 +68,21 @@ put-next t part.Realtime = refl
 put-next t part.Timeshare = refl
 put-next t part.Idle = refl
 
-put-reads : (t : Thread) → reads (with-next (with-place t WAITING) NONE) ≡ reads t
-put-reads t = reads-next (with-place t WAITING) NONE ∙ reads-place t WAITING
+pub put-reads : (t : Thread) (p : Part) → reads (putIn t p) ≡ cond (is-timeshare p) (steadied (reads t)) (reads t)
+unfolding putIn steadyIn is-timeshare
+put-reads t part.Realtime = reads-next (with-place t WAITING) NONE ∙ reads-place t WAITING
+put-reads t part.Timeshare = reads-stable _ ∙ ap steadied (reads-next (with-place t WAITING) NONE ∙ reads-place t WAITING)
+put-reads t part.Idle = reads-next (with-place t WAITING) NONE ∙ reads-place t WAITING
 
 put-pinned : (t : Thread) (p : Part) → pinned (reads (putIn t p)) ≡ pinned (reads t)
-unfolding putIn steadyIn pinned steadied
-put-pinned t part.Realtime = rw (put-reads t)
-put-pinned t part.Timeshare = rw (reads-stable, put-reads t)
-put-pinned t part.Idle = rw (put-reads t)
+unfolding pinned steadied
+put-pinned t p = rw (put-reads t p) (both (is-timeshare p) (λ e. rw e) (λ e. rw e))
 
 put-value : (t : Thread) (p : Part) → reads (putIn t p) .stable .value ≡ value-after p (λ z. reads t .stable .value) 0 (effective-priority (reads t) .value) 0
-unfolding putIn steadyIn steadied value-after at
-put-value t part.Realtime = rw (put-reads t)
-put-value t part.Timeshare = rw (reads-stable, put-reads t)
-put-value t part.Idle = rw (put-reads t)
+unfolding is-timeshare steadied value-after at
+put-value t part.Realtime = rw (put-reads t part.Realtime)
+put-value t part.Timeshare = rw (put-reads t part.Timeshare)
+put-value t part.Idle = rw (put-reads t part.Idle)
 
 value-at : (p : Part) (f : ℕ → ℕ) (x v z : ℕ) → cond (eqb z x) (value-after p (λ y. f x) 0 v 0) (f z) ≡ value-after p f x v z
 unfolding value-after at
@@ -86,17 +94,18 @@ module _ (ts : List Thread) (x : ℕ) (h : x < length ts) (p : Part) (b : ℕ) w
   abbrev written : List Thread
   written = set ts x (putIn (recordAt ts x) p)
 
-  field {ℓ} : {A : Type ℓ} (f : Thread → A) (z : ℕ) → f (recordAt written z) ≡ cond (eqb z x) (f (putIn (recordAt ts x) p)) (f (recordAt ts z))
-  field f z = rw (read-set ts x (putIn (recordAt ts x) p) z h) (both (eqb z x) (λ e. rw e) (λ e. rw e))
-
   -- what the link of b leaves as it is
   past-link {ℓ} : {A : Type ℓ} (f : Thread → A) (z : ℕ) → f (with-next (recordAt written b) x) ≡ f (recordAt written b) → f (recordAt (linkBehind written b x) z) ≡ f (recordAt written z)
   unfolding linkBehind
   past-link f z e = both (eqb b NONE) (λ k. rw k) (λ k. rw k (kept f written b (with-next (recordAt written b) x) z e))
 
+  pub put-field {ℓ} : {A : Type ℓ} (f : Thread → A) → ((t : Thread) (n : ℕ) → f (with-next t n) ≡ f t) → (z : ℕ)
+      → f (recordAt (linkBehind written b x) z) ≡ cond (eqb z x) (f (putIn (recordAt ts x) p)) (f (recordAt ts z))
+  put-field f past z = past-link f z (past (recordAt written b) x) ∙ field-set f ts x (putIn (recordAt ts x) p) z h
+
   link-here : (z : ℕ) → recordAt written z .next ≡ at (marks ts .next) x NONE z
   unfolding at marks
-  link-here z = field (λ (u : Thread). u .next) z ∙ rw (put-next (recordAt ts x) p)
+  link-here z = field-set (λ (u : Thread). u .next) ts x (putIn (recordAt ts x) p) z h ∙ rw (put-next (recordAt ts x) p)
 
   link-next : (z : ℕ) → Behind-in (length ts) b → recordAt (linkBehind written b x) z .next ≡ linkAfter (marks ts .next) b x z
   unfolding linkBehind linkAfter
@@ -120,12 +129,10 @@ module _ (ts : List Thread) (x : ℕ) (h : x < length ts) (p : Part) (b : ℕ) w
   marks-put k = λ i. record { next = λ z. link-next z k i; pinned = λ z. pins z i; value = λ z. values z i }
     where
       pins : (z : ℕ) → pinned (reads (recordAt (linkBehind written b x) z)) ≡ pinned (reads (recordAt ts z))
-      pins z = past-link (λ (u : Thread). pinned (reads u)) z (ap pinned (reads-next (recordAt written b) x))
-          ∙ field (λ (u : Thread). pinned (reads u)) z ∙ both (eqb z x) (λ e. rw (e, eqb-true z x e) (put-pinned (recordAt ts x) p)) (λ e. rw e)
+      pins z = put-field (λ (u : Thread). pinned (reads u)) (λ t n. ap pinned (reads-next t n)) z ∙ both (eqb z x) (λ e. rw (e, eqb-true z x e) (put-pinned (recordAt ts x) p)) (λ e. rw e)
 
       values : (z : ℕ) → reads (recordAt (linkBehind written b x) z) .stable .value ≡ value-after p (λ y. reads (recordAt ts y) .stable .value) x (effective-priority (reads (recordAt ts x)) .value) z
-      values z = past-link (λ (u : Thread). reads u .stable .value) z (ap (λ (u : times.Thread). u .stable .value) (reads-next (recordAt written b) x))
-          ∙ field (λ (u : Thread). reads u .stable .value) z ∙ rw (put-value (recordAt ts x) p) (value-at p (λ y. reads (recordAt ts y) .stable .value) x _ z)
+      values z = put-field (λ (u : Thread). reads u .stable .value) (λ t n. ap (λ (u : times.Thread). u .stable .value) (reads-next t n)) z ∙ rw (put-value (recordAt ts x) p) (value-at p (λ y. reads (recordAt ts y) .stable .value) x _ z)
 
   pub length-put : length (linkBehind written b x) ≡ length ts
   unfolding linkBehind

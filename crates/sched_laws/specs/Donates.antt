@@ -1,4 +1,4 @@
--- DONATION (hex 18), ITS REMOVAL (19) AND THE CRITICAL MARK (1A), over records and words. Assumes nothing.
+-- DONATION (hex 18) over records and words; its removal (19) and the critical mark (1A) are in memory's Frames.antt. Assumes nothing.
 use Prim.Native.Nat.{ℕ, _≤_, _<_}
 use mathlib.Core.Path.{_≡_, refl, sym, ap, subst, _∙_}
 use mathlib.Core.Bool.{Bool, true, false, cond, not, _&&_}
@@ -6,32 +6,29 @@ use mathlib.Core.Option.{Option, none, some}
 use mathlib.Core.List.{List}
 use lib.ListN.{set}
 use lib.Dec.{eqb}
-use borrow.Author.Tests.{eqb-true}
 use Rattle.rules.specs.declared.Priority.{Priority}
 use Rattle.rules.specs.Line.{both}
 use Rattle.rules.specs.Priority.{nr-values, from-raw, less, donation-accepted}
 use Rattle.rules.specs.Times as times
-use Rattle.rules.specs.Times.{effective-priority, pinned, donated-to, critical-at}
-use Rattle.rules.specs.State.{at, Limits, Topology}
+use Rattle.rules.specs.Times.{effective-priority, pinned, donated-to}
+use Rattle.rules.specs.State.{Limits, Topology}
 use Rattle.rules.specs.Schedule as sched
 use Rattle.rules.specs.Schedule.{World, with-thread, wakeup, is-empty}
 use Rattle.rules.specs.Sound.{at-here, Under}
 use Rattle.thread.specs.declared.Thread.{Thread}
 use Rattle.thread.specs.declared.time.OptionCpu.{OptionCpu}
 use Rattle.thread.specs.declared.time.OptionCpu.the-variants as cpu
-use Rattle.thread.specs.Thread.{NONE, with-donated, with-critical}
-use Rattle.thread.specs.Flags.{has-donated-priority}
-use Rattle.thread.specs.Reads.{reads, held, donated-in, named, cpu-in, critical-in}
-use Rattle.thread.specs.Place.{reads-critical}
-use Rattle.thread.specs.Priority.{donate-priority, remove-donated-priority, reads-donated, reads-removed}
+use Rattle.thread.specs.Thread.{NONE, with-donated}
+use Rattle.thread.specs.Reads.{reads, held, donated-in, named, cpu-in}
+use Rattle.thread.specs.Priority.{donate-priority, reads-donated}
 use Rattle.processor.specs.Queue.{queueAt}
 use Rattle.lent.specs.Rq.{recordAt}
-use Rattle.memory.specs.Shows.{Small, Shows}
-use Rattle.memory.specs.Frames.{shows-alike, shows-fields}
+use Rattle.memory.specs.Shows.{Small, Shows, most-tick}
+use Rattle.memory.specs.Frames.{shows-fields, shows-same-thread}
 use Rattle.memory.specs.Numbers.{advertised-shown, empty-shown}
 use Rattle.step.specs.Running.{runningAt}
 use Rattle.step.specs.Donate.{wakeupDue, wokenIn, maybeReschedule, donationSignals}
-use Rattle.sched.specs.Donate.{donatePriority, removeDonated, setCritical}
+use Rattle.sched.specs.Donate.{donatePriority}
 use Rattle.sched_laws.specs.Steps.{shows-wakeup, signal-counts, same-at-work}
 
 -- ---- what a donation leaves of a record as it was
@@ -54,14 +51,6 @@ module _ (t : Thread) (p : Priority) where
   unfolding donate-priority reads
   donated-resched = both (donation-accepted (held (donated-in t)) p) (λ e. rw e) (λ e. rw e)
 
-removed-next : (t : Thread) → remove-donated-priority t .next ≡ t .next
-unfolding remove-donated-priority with-donated
-removed-next t = both (has-donated-priority (t .flags)) (λ e. rw e) (λ e. rw e)
-
-removed-place : (t : Thread) → remove-donated-priority t .place ≡ t .place
-unfolding remove-donated-priority with-donated
-removed-place t = both (has-donated-priority (t .flags)) (λ e. rw e) (λ e. rw e)
-
 queue-reads : (t : Thread) → named (cpu-in (t .«current_processor_queue»)) ≡ reads t .queue-cpu
 unfolding reads
 queue-reads t = refl
@@ -71,23 +60,13 @@ cond-same f true a c d e g = e
 cond-same f false a c d e g = g
 
 module _ (limits : Limits) (topology : Topology) (tick us : ℕ) (known : ℕ → Bool) (numbered : (x : ℕ) → known x ≡ true → x < limits .threads) (small : Small limits)
-    (early : tick ≤ 4611686018427387904) (us-in : us < limits .cpus) where
+    (early : tick ≤ most-tick) (us-in : us < limits .cpus) where
   module _ {active : ℕ → Bool} {ts : List Thread} {cs : List (List ℕ)} {w : World} (s : Shows limits topology known active ts cs w) (x : ℕ) (below : x < limits .threads) where
     abbrev r : Thread
     r = recordAt ts x
 
     abbrev u : times.Thread
     u = w .threads x
-
-    -- 19: `remove_donated_priority`
-    pub shows-removed : Shows limits topology known active (removeDonated ts x) cs (with-thread w x (donated-to u none))
-    unfolding removeDonated donated-to pinned
-    shows-removed = shows-fields s x (remove-donated-priority r) _ below (reads-removed r ∙ ap (λ (t : times.Thread). donated-to t none) (s .threads x below)) (removed-next r) (removed-place r) refl refl (s .queue-cpus x below)
-
-    -- 1A: the critical mark
-    pub shows-critical : (m : ℕ) → Shows limits topology known active (setCritical ts x m) cs (with-thread w x (critical-at u (critical-in m)))
-    unfolding setCritical critical-at pinned with-critical
-    shows-critical m = shows-fields s x (with-critical r m) _ below (reads-critical r m ∙ ap (λ (t : times.Thread). critical-at t (critical-in m)) (s .threads x below)) refl refl refl refl (s .queue-cpus x below)
 
     -- 18: `donate_priority`
     module _ (p : Priority) (low : p .value < nr-values) where
@@ -119,10 +98,6 @@ module _ (limits : Limits) (topology : Topology) (tick us : ℕ) (known : ℕ �
       shows-maybe none a = a
       shows-maybe (some c) a = shows-wakeup _ a
 
-      at-self : (z : ℕ) → with-thread w x u .threads z ≡ w .threads z
-      unfolding with-thread at
-      at-self z = both (eqb z x) (λ e. rw (e, eqb-true z x e)) (λ e. rw e)
-
       pub shows-donated : (wakeups : ℕ) → Shows limits topology known active (donatePriority ts cs us x p wakeups .threads) cs (sched.donate-priority limits topology tick us w x p)
       unfolding donatePriority sched.donate-priority
       shows-donated wakeups =
@@ -134,7 +109,7 @@ module _ (limits : Limits) (topology : Topology) (tick us : ℕ) (known : ℕ �
           (λ e.
           let f : Shows limits topology known active (set ts x (donate-priority r p .thread)) cs (with-thread w x u) =
           subst (λ (b : Bool). Shows limits topology known active (set ts x (donate-priority r p .thread)) cs (with-thread w x (cond b (donated-to u (some p)) u))) e first in
-          rw e (shows-alike (with-thread w x u) w (λ c. unfold with-thread in refl) (λ z. sym (at-self z)) f))
+          rw e (shows-same-thread w x f))
 
       -- its count of wake-ups
       module _ (runs : (y : ℕ) → w .cpus us .running ≡ some y → known y ≡ true) (wakeups : ℕ) (count : wakeups ≡ w .wakeups) (few : w .wakeups < NONE) (yes : accepted ≡ true) where

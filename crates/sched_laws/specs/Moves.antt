@@ -1,9 +1,9 @@
 -- THREADS GO INTO QUEUES AND COME OUT OF THEM: puts on a CPU, takes for a CPU, steals. Assumes nothing.
-use Prim.Native.Nat.{ℕ, zero, suc, _≤_, _<_}
+use Prim.Native.Nat.{ℕ, _≤_, _<_}
 use mathlib.Core.Path.{_≡_, refl, sym, ap, subst}
 use mathlib.Core.Bool.{Bool, true, false, cond, not}
 use mathlib.Core.Option.{Option, none, some}
-use mathlib.Core.List.{List, [], _∷_, _++_}
+use mathlib.Core.List.{List, [], _∷_}
 use lib.ListN.{set}
 use lib.Dec.{eqb}
 use native.Mathlib.Omega.{arith}
@@ -23,7 +23,7 @@ use Rattle.thread.specs.Time.{moving-to-queue}
 use Rattle.lent.specs.declared.rq.Taken.the-variants as taken
 use Rattle.lent.specs.declared.rq.Taken as lent
 use Rattle.lent.specs.Rq.{recordAt, Took, takeDef}
-use Rattle.memory.specs.Shows.{Small, Shows}
+use Rattle.memory.specs.Shows.{Small, Shows, most-tick}
 use Rattle.memory.specs.Queues.{active-with, as-taken, Take-shows, shows-take}
 use Rattle.choice.specs.Reads.{as-cpu}
 use Rattle.tree.specs.Tree.{Tree}
@@ -49,7 +49,7 @@ first-in n test (c ∷ l) b = both (test c) (λ e. rw e (b .0)) (λ e. rw e (fir
 
 -- ---- what a take answers
 
-nobody-moved : (d : ℕ) (D : Took) → D .answer ≡ taken.Nobody → movedFor d D ≡ D
+pub nobody-moved : (d : ℕ) (D : Took) → D .answer ≡ taken.Nobody → movedFor d D ≡ D
 unfolding movedFor isNobody
 nobody-moved d D e = ap (λ (a : lent.Taken). cond (isNobody a) D (record {
   answer = D .answer;
@@ -67,7 +67,7 @@ somebody-moved d x D e = ap (λ (a : lent.Taken). cond (isNobody a) D (record {
 })) e
 
 module _ (limits : Limits) (topology : Topology) (tick us : ℕ) (known : ℕ → Bool) (numbered : (x : ℕ) → known x ≡ true → x < limits .threads) (small : Small limits)
-    (early : tick ≤ 4611686018427387904) (us-in : us < limits .cpus) (H : ℕ → List PutOrTake) where
+    (early : tick ≤ most-tick) (us-in : us < limits .cpus) (H : ℕ → List PutOrTake) where
   abbrev k : Context
   k = context limits tick us
 

@@ -2,24 +2,23 @@
 use Prim.Native.Nat.{ℕ, _≤_, _<_}
 use mathlib.Core.Path.{_≡_, refl, sym, ap, subst, _∙_}
 use mathlib.Core.Logic.{_≢_}
-use mathlib.Core.Bool.{Bool, true, false, cond, not, true≢false, false≢true}
+use mathlib.Core.Bool.{Bool, true, false, cond, true≢false, false≢true}
 use mathlib.Core.Option.{Option, none, some}
 use mathlib.Core.List.{List, [], _∷_}
 use lib.ListN.{set}
 use lib.Dec.{eqb, ltb}
-use borrow.Author.Tests.{eqb-true, eqb-false, ne-eqb}
+use borrow.Author.Tests.{eqb-true, eqb-false}
 use native.Mathlib.Omega.{arith}
 use Rattle.rules.specs.Line.{both}
 use Rattle.rules.specs.Times as times
 use Rattle.rules.specs.Times.{effective-priority, is-some, either}
 use Rattle.rules.specs.Puts.{PutOrTake}
-use Rattle.rules.specs.State.{at, Limits, Topology, Cpu}
+use Rattle.rules.specs.State.{at, Limits, Topology}
 use Rattle.rules.specs.Topology.{visited}
 use Rattle.rules.specs.Choice.{Best, none-yet, best, lower, Searched, find-cpu}
 use Rattle.rules.specs.Schedule as sched
-use Rattle.rules.specs.Schedule.{World, Got, with-cpu, with-thread, wakeup}
-use Rattle.rules.specs.Sound.{at-here, at-there, at-keeps, Under, alike-queue, alike-reset, Free, Same, same-then, same-free, same-thread-changed, same-wakeup, sound-same, New, Sound, sound-insert}
-use Rattle.rules.specs.Steps as rules-steps
+use Rattle.rules.specs.Schedule.{World, Got}
+use Rattle.rules.specs.Sound.{at-here, at-there, Under, Free, Sound}
 use Rattle.rules.specs.Steps.{nobody-but}
 use Rattle.thread.specs.declared.Thread.{Thread}
 use Rattle.thread.specs.declared.place.Place.the-variants as place
@@ -31,17 +30,15 @@ use Rattle.thread.specs.Thread.{BLOCKED, with-place}
 use Rattle.thread.specs.Place.{place-in, reads-place}
 use Rattle.thread.specs.Time.{preferred-cpu, chosen, reads-preferred-cpu}
 use Rattle.lent.specs.Rq.{recordAt}
-use Rattle.memory.specs.Shows.{place-at, Places, Small, Shows}
-use Rattle.memory.specs.Frames.{shows-alike, shows-record, in-records}
-use Rattle.represent.specs.Records.{read-set}
+use Rattle.memory.specs.Shows.{place-at, Places, Small, Shows, most-tick}
+use Rattle.memory.specs.Frames.{shows-record, in-records, places-moved, shows-same-thread}
+use Rattle.represent.specs.Records.{field-set}
 use Rattle.tree.specs.Tree.{Tree}
 use Rattle.choice.specs.Reads.{as-cpu}
 use Rattle.choice.specs.Select as choice
 use Rattle.choice_laws.specs.Memory.{select-memory}
 use Rattle.step.specs.Choose.{preferredOf, selectFor, selectedFor}
-use Rattle.sched.specs.declared.context.Context.{Context}
 use Rattle.sched.specs.Queues.{blockDef}
-use Rattle.sched_laws.specs.Ticked.{context}
 use Rattle.sched_laws.specs.Picks.{Settled, no-one}
 
 -- ---- a choice finds a CPU where there is one
@@ -100,10 +97,7 @@ either-in n none (some d) u v c e = let z : d ≡ c = cc in rw (← z) v
 either-in n (some d) b u v c e = let z : d ≡ c = cc in rw (← z) u
 
 module _ (limits : Limits) (topology : Topology) (tick us : ℕ) (known : ℕ → Bool) (numbered : (x : ℕ) → known x ≡ true → x < limits .threads) (small : Small limits)
-    (early : tick ≤ 4611686018427387904) (us-in : us < limits .cpus) (H : ℕ → List PutOrTake) (ns : List (List ℕ)) (tree : Tree limits ns topology) (node : ℕ) (put-on : topology .placed us ≡ some node) where
-  abbrev k : Context
-  k = context limits tick us
-
+    (early : tick ≤ most-tick) (us-in : us < limits .cpus) (H : ℕ → List PutOrTake) (ns : List (List ℕ)) (tree : Tree limits ns topology) (node : ℕ) (put-on : topology .placed us ≡ some node) where
   abbrev OK : (ℕ → Bool) → World → Type 0
   OK but w = Sound limits known H but w
 
@@ -133,25 +127,6 @@ module _ (limits : Limits) (topology : Topology) (tick us : ℕ) (known : ℕ �
     unfolding sched.select-cpu
     select-finds w x avoid = select-from-finds w x avoid _
 
-  -- ---- what is kept, as in the rules' Steps.antt
-
-  pub weaker : (w : World) → OK nobody-but w → OK (λ c. eqb c us) w
-  weaker = rules-steps.weaker limits topology tick us known numbered H us-in
-
-  pub running-new : (w : World) (c x : ℕ) → OK nobody-but w → w .cpus us .running ≡ some x → c < limits .cpus → New limits known (λ c. eqb c us) w c x
-  running-new = rules-steps.running-new limits topology tick us known numbered H us-in
-
-  pub new-same : {but : ℕ → Bool} {w v : World} {c x : ℕ} → Same limits w v → New limits known but w c x → New limits known but v c x
-  new-same s n = rules-steps.new-same limits topology tick us known numbered H us-in s n
-
-  pub ok-put : (but : ℕ → Bool) (w : World) (c x : ℕ) → OK but w → New limits known but w c x → OK but (sched.schedule-thread-on-cpu limits topology tick us w c x)
-  ok-put = rules-steps.ok-put limits topology tick us known numbered H us-in
-
-  -- a put changes no thread running
-  pub put-running : (w : World) (c x d : ℕ) → sched.schedule-thread-on-cpu limits topology tick us w c x .cpus d .running ≡ w .cpus d .running
-  unfolding sched.schedule-thread-on-cpu sched.reset-thread-time sched.insert-thread sched.noted with-thread with-cpu wakeup sched.with-queue
-  put-running w c x d = at-keeps (λ (p : Cpu). p .running) (w .cpus) c _ refl d
-
   -- ---- the thread running is blocked
 
   module _ {active : ℕ → Bool} {ts : List Thread} {cs : List (List ℕ)} {w : World} (s : Shows limits topology known active ts cs w) (x : ℕ) (is-known : known x ≡ true) (free : Free w x) where
@@ -160,33 +135,19 @@ module _ (limits : Limits) (topology : Topology) (tick us : ℕ) (known : ℕ �
 
     blocked-at : (z : ℕ) → place-at (set ts x t) z ≡ cond (eqb z x) place.Blocked (place-at ts z)
     unfolding place-in with-place
-    blocked-at z = rw (read-set ts x t z (in-records s x (numbered x is-known))) (both (eqb z x) (λ e. rw e) (λ e. rw e))
+    blocked-at z = field-set (λ (u : Thread). place-in (u .place)) ts x t z (in-records s x (numbered x is-known))
 
     block-places : Places (limits .threads) known (at active x false) (set ts x t) w
     block-places =
-        let other : (z : ℕ) → z ≢ x → place-at (set ts x t) z ≡ place-at ts z = λ z h. blocked-at z ∙ rw (ne-eqb z x h) in
-        let active-other : (z : ℕ) → z ≢ x → at active x false z ≡ active z = λ z h. at-there active x false z h in
-        record {
-          waiting = λ d z h. both (eqb z x)
-              (λ e. absurd (true≢false (sym (rw (eqb-true z x e) at h) ∙ free d)))
-              (λ e. other z (eqb-false z x e) ∙ s .places .waiting d z h);
-          running = λ z h. both (eqb z x)
-              (λ e. absurd (false≢true (sym (at-here active x false) ∙ rw (eqb-true z x e) at h)))
-              (λ e. let k = eqb-false z x e in other z k ∙ s .places .running z (sym (active-other z k) ∙ h));
-          blocked = λ z l m a f. both (eqb z x)
-              (λ e. blocked-at z ∙ rw e)
-              (λ e. let o = eqb-false z x e in other z o ∙ s .places .blocked z l m (sym (active-other z o) ∙ a) f);
-          undeclared = λ z m. both (eqb z x)
-              (λ e. absurd (true≢false (sym is-known ∙ rw (eqb-true z x e) at m)))
-              (λ e. other z (eqb-false z x e) ∙ s .places .undeclared z m);
-        }
+        places-moved x place.Blocked blocked-at is-known (λ z h. refl) (λ z h. at-there active x false z h) (λ d z h. refl) (λ d h. absurd (true≢false (sym h ∙ free d)))
+        (λ h. absurd (false≢true (sym (at-here active x false) ∙ h))) (λ a f. refl) (s .places)
 
     pub shows-blocked : Shows limits topology known (at active x false) (blockDef ts x) cs w
     unfolding blockDef with-place
     shows-blocked =
         let h = numbered x is-known in
-        shows-alike (with-thread w x (w .threads x)) w (λ c. unfold with-thread in refl) (λ z. unfold with-thread at in both (eqb z x) (λ e. rw (e, eqb-true z x e)) (λ e. rw e))
-        (shows-record s x t (w .threads x) h (reads-place (recordAt ts x) BLOCKED ∙ s .threads x h) refl refl refl (s .queue-cpus x h) block-places)
+        shows-same-thread w x
+        (shows-record s x t (w .threads x) h (reads-place (recordAt ts x) BLOCKED ∙ s .threads x h) (λ d e. (refl, (refl, refl))) (s .queue-cpus x h) block-places)
 
   -- ---- where the thread running goes back into a queue
 

@@ -26,8 +26,8 @@ use Rattle.thread.specs.Time.{pay-ticks, reads-pay-ticks, expired-pay-ticks}
 use Rattle.processor.specs.Words.{word, put-word}
 use Rattle.processor.specs.Queue.{queueAt}
 use Rattle.lent.specs.Rq.{recordAt, hardtickDef, Ticked}
-use Rattle.memory.specs.Shows.{Small, Shows}
-use Rattle.memory.specs.Frames.{shows-alike, shows-fields, shows-idle-timeslice, shows-draws, shows-rebalance-time}
+use Rattle.memory.specs.Shows.{Small, Shows, most-tick}
+use Rattle.memory.specs.Frames.{shows-alike, shows-fields, shows-idle-timeslice, shows-draws, shows-rebalance-time, at-again}
 use Rattle.memory.specs.Numbers.{timeshare-load-shown}
 use Rattle.memory.specs.Clock.{shows-hardtick, ticks-shown}
 use Rattle.step.specs.Running.{runningAt}
@@ -36,11 +36,11 @@ use Rattle.step.specs.Rebalance.{timePassed, rebalanceDue}
 use Rattle.sched_laws.specs.Steps.{idle-at-work, needs-shown, shows-marked}
 
 -- a CPU changed twice is changed once
-pub cpu-twice : (w : World) (c : ℕ) (p q : Cpu) (d : ℕ) → with-cpu (with-cpu w c p) c q .cpus d ≡ with-cpu w c q .cpus d
-unfolding with-cpu at
-cpu-twice w c p q d = both (eqb d c) (λ e. rw e) (λ e. rw e)
+cpu-twice : (w : World) (c : ℕ) (p q : Cpu) (d : ℕ) → with-cpu (with-cpu w c p) c q .cpus d ≡ with-cpu w c q .cpus d
+unfolding with-cpu
+cpu-twice w c p q d = at-again (w .cpus) c p q d
 
-pub cpu-here : (w : World) (c : ℕ) (p : Cpu) → with-cpu w c p .cpus c ≡ p
+cpu-here : (w : World) (c : ℕ) (p : Cpu) → with-cpu w c p .cpus c ≡ p
 unfolding with-cpu
 cpu-here w c p = at-here (w .cpus) c p
 
@@ -77,7 +77,7 @@ unfolding with-ticks
 ticked-queue p last n = refl
 
 module _ (limits : Limits) (topology : Topology) (tick us : ℕ) (known : ℕ → Bool) (numbered : (x : ℕ) → known x ≡ true → x < limits .threads) (small : Small limits)
-    (early : tick ≤ 4611686018427387904) (us-in : us < limits .cpus) where
+    (early : tick ≤ most-tick) (us-in : us < limits .cpus) where
   module _ {active : ℕ → Bool} {ts : List Thread} {cs : List (List ℕ)} {w : World} (s : Shows limits topology known active ts cs w)
       (runs : (x : ℕ) → w .cpus us .running ≡ some x → known x ≡ true) where
     -- `schedule_resched`

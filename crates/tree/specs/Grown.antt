@@ -1,6 +1,6 @@
 -- The root alone, and a new last child: the words are then the topology of the rules. Assumes nothing.
 use Prim.Native.Nat.{ℕ, zero, suc, _+_, _-_, _/_, _%_, _^_, _≤_, _<_}
-use mathlib.Core.Path.{_≡_, refl, sym, ap, _∙_}
+use mathlib.Core.Path.{_≡_, refl, sym, ap, _∙_, subst}
 use mathlib.Core.Bool.{true, false, not, _||_, _&&_, true≢false, false≢true, and-true, and-false, or-true}
 use mathlib.Core.Option.{Option, none, some}
 use mathlib.Core.List.{List, [], _∷_, _++_, append-nil}
@@ -19,7 +19,7 @@ use Rattle.nodes.specs.Words.{word, width, put-word, length-put}
 use Rattle.nodes.specs.Node.{parent, level-type, children as children-word, next, prev, first, end, new-node, put-node, new-root, linked, add-child, has-children, contains-at}
 use Rattle.tree.specs.Lists.{any-true, ins, ins-none}
 use Rattle.tree.specs.Links.{Linked, linked-back, linked-back-end, linked-prev, linked-prev-end, linked-ins, linked-end}
-use Rattle.tree.specs.Rows.{Sized, put-same, put-other, put-elsewhere, sized-put, node-same, node-other, sized-node}
+use Rattle.tree.specs.Rows.{Sized, put-same, put-elsewhere, sized-put, node-same, node-other, sized-node, put-past}
 use Rattle.tree.specs.Order.{met-first, Sound, nr-grown, parent-old, parent-new, children-grown, children-none, first-grown, has-grown, distinct-grown}
 use Rattle.tree.specs.Tree.{type-of, Ranged, Tree, holds-has, up-enough, up-within}
 
@@ -193,22 +193,26 @@ module _ (limits : Limits) (rows : List (List ℕ)) (t : Topology) (tree : Tree 
   unfolding add-child linked
   is-rows = refl
 
+  -- p is met in the order, or is the root
+  p-met {ℓ} : {A : Type ℓ} → (has p (met-first limits t) ≡ true → A) → (p ≡ 0 → A) → A
+  p-met f g =
+      both (has p (met-first limits t)) f
+      (λ e. both (eqb p 0)
+      (λ z. g (eqb-true p 0 z))
+      (λ z. let m : p ≡ 0 → ⊥ = eqb-false p 0 z in absurd (true≢false (sym (tree .sound .all-met p (omega arith) p-there) ∙ e))))
+
   -- q is a node
   q-there : q < n
   q-there =
-      both (has p (met-first limits t))
+      p-met
       (λ e. linked-prev (λ z. word rows z next) (λ z. word rows z prev) (λ z. z < n) (met-first limits t) 0 0 p (tree .order-is) (tree .sound .root) (tree .sound .within) e)
-      (λ e. both (eqb p 0)
-      (λ z. rw (eqb-true p 0 z) (linked-prev-end (λ z. word rows z next) (λ z. word rows z prev) (λ z. z < n) (met-first limits t) 0 0 (tree .order-is) (tree .sound .root) (tree .sound .within)))
-      (λ z. let m : p ≡ 0 → ⊥ = eqb-false p 0 z in absurd (true≢false (sym (tree .sound .all-met p (omega arith) p-there) ∙ e))))
+      (λ z. rw z (linked-prev-end (λ z. word rows z next) (λ z. word rows z prev) (λ z. z < n) (met-first limits t) 0 0 (tree .order-is) (tree .sound .root) (tree .sound .within)))
 
   q-next : word rows q next ≡ p
   q-next =
-      both (has p (met-first limits t))
+      p-met
       (λ e. linked-back (λ z. word rows z next) (λ z. word rows z prev) (met-first limits t) 0 0 p (tree .order-is) e)
-      (λ e. both (eqb p 0)
-      (λ z. rw (eqb-true p 0 z) (linked-back-end (λ z. word rows z next) (λ z. word rows z prev) (met-first limits t) 0 0 (tree .order-is)))
-      (λ z. let m : p ≡ 0 → ⊥ = eqb-false p 0 z in absurd (true≢false (sym (tree .sound .all-met p (omega arith) p-there) ∙ e))))
+      (λ z. rw z (linked-back-end (λ z. word rows z next) (λ z. word rows z prev) (met-first limits t) 0 0 (tree .order-is)))
 
   -- ---- the words
 
@@ -234,12 +238,19 @@ module _ (limits : Limits) (rows : List (List ℕ)) (t : Topology) (tree : Tree 
   l₃ : length rows₃ ≡ length rows
   l₃ = length-put rows₂ p children-word 1 ∙ l₂
 
-  -- words other than the links and the mark of children
-  else-new : (w : ℕ) → (w % 32 ≡ 5 → ⊥) → (w % 32 ≡ 6 → ⊥) → (w % 32 ≡ 2 → ⊥) → word rows₃ n w ≡ getD row (w % width) 0
-  else-new w a b c = put-elsewhere rows₂ p children-word 1 n w c ∙ put-elsewhere rows₁ p prev n n w b ∙ put-elsewhere rows₀ q next n n w a ∙ node-same rows n row w more
+  -- words other than the links and the mark of children that were written
+  past-writes : (z w : ℕ) → (z ≡ q → w % 32 ≡ 5 → ⊥) → (z ≡ p → w % 32 ≡ 6 → ⊥) → (z ≡ p → w % 32 ≡ 2 → ⊥) → word rows₃ z w ≡ word rows₀ z w
+  past-writes z w a b c = put-past rows₂ p children-word 1 z w c ∙ put-past rows₁ p prev n z w b ∙ put-past rows₀ q next n z w a
 
-  else-old : (z w : ℕ) → (z ≡ n → ⊥) → (w % 32 ≡ 5 → ⊥) → (w % 32 ≡ 6 → ⊥) → (w % 32 ≡ 2 → ⊥) → word rows₃ z w ≡ word rows z w
-  else-old z w d a b c = put-elsewhere rows₂ p children-word 1 z w c ∙ put-elsewhere rows₁ p prev n z w b ∙ put-elsewhere rows₀ q next n z w a ∙ node-other rows n z row w d
+  else-new : (w : ℕ) → (w % 32 ≡ 5 → ⊥) → (w % 32 ≡ 6 → ⊥) → (w % 32 ≡ 2 → ⊥) → word rows₃ n w ≡ getD row (w % width) 0
+  else-new w a b c = past-writes n w (λ e. a) (λ e. b) (λ e. c) ∙ node-same rows n row w more
+
+  else-old : (z w : ℕ) → z < n → (w % 32 ≡ 5 → ⊥) → (w % 32 ≡ 6 → ⊥) → (w % 32 ≡ 2 → ⊥) → word rows₃ z w ≡ word rows z w
+  else-old z w h a b c = past-writes z w (λ e. a) (λ e. b) (λ e. c) ∙ node-other rows n z row w (λ r. let e : z ≡ n = r in omega arith)
+
+  -- what holds of the new node and of those that were there
+  all-nodes {ℓ} : (P : ℕ → Type ℓ) → P n → ((z : ℕ) → z < n → P z) → (z : ℕ) → z < suc n → P z
+  all-nodes P f g z h = both (eqb z n) (λ e. subst P (sym (eqb-true z n e)) f) (λ e. g z (let d : z ≡ n → ⊥ = eqb-false z n e in omega arith))
 
   qn : q ≡ n → ⊥
   qn r = omega (arith, q-there)
@@ -249,48 +260,36 @@ module _ (limits : Limits) (rows : List (List ℕ)) (t : Topology) (tree : Tree 
 
   next-q : word rows₃ q next ≡ n
   next-q =
-      put-elsewhere rows₂ p children-word 1 q next (λ r. let e : 5 ≡ 2 = r in omega arith) ∙ put-elsewhere rows₁ p prev n q next (λ r. let e : 5 ≡ 6 = r in omega arith)
+      put-elsewhere rows₂ p children-word 1 q next (eqb-false 5 2 refl) ∙ put-elsewhere rows₁ p prev n q next (eqb-false 5 6 refl)
       ∙ put-same rows₀ s₀ q (rw l₀ (omega (arith, q-there))) next n
 
   next-n : word rows₃ n next ≡ p
   unfolding new-node
-  next-n =
-      put-elsewhere rows₂ p children-word 1 n next (λ r. let e : 5 ≡ 2 = r in omega arith) ∙ put-elsewhere rows₁ p prev n n next (λ r. let e : 5 ≡ 6 = r in omega arith)
-      ∙ put-other rows₀ q next n n next (λ r. qn (sym r)) ∙ node-same rows n row next more
+  next-n = past-writes n next (λ r e. qn (sym r)) (λ r. eqb-false 5 6 refl) (λ r. eqb-false 5 2 refl) ∙ node-same rows n row next more
 
   next-else : (z : ℕ) → (z ≡ n → ⊥) → (z ≡ q → ⊥) → word rows₃ z next ≡ word rows z next
-  next-else z a b =
-      put-elsewhere rows₂ p children-word 1 z next (λ r. let e : 5 ≡ 2 = r in omega arith) ∙ put-elsewhere rows₁ p prev n z next (λ r. let e : 5 ≡ 6 = r in omega arith)
-      ∙ put-other rows₀ q next n z next b ∙ node-other rows n z row next a
+  next-else z a b = past-writes z next (λ r e. b r) (λ r. eqb-false 5 6 refl) (λ r. eqb-false 5 2 refl) ∙ node-other rows n z row next a
 
   prev-p : word rows₃ p prev ≡ n
   prev-p =
-      put-elsewhere rows₂ p children-word 1 p prev (λ r. let e : 6 ≡ 2 = r in omega arith) ∙ put-same rows₁ s₁ p (rw l₁ (omega arith)) prev n
+      put-elsewhere rows₂ p children-word 1 p prev (eqb-false 6 2 refl) ∙ put-same rows₁ s₁ p (rw l₁ (omega arith)) prev n
 
   prev-n : word rows₃ n prev ≡ q
   unfolding new-node
-  prev-n =
-      put-elsewhere rows₂ p children-word 1 n prev (λ r. let e : 6 ≡ 2 = r in omega arith) ∙ put-other rows₁ p prev n n prev (λ r. pn (sym r))
-      ∙ put-elsewhere rows₀ q next n n prev (λ r. let e : 6 ≡ 5 = r in omega arith) ∙ node-same rows n row prev more
+  prev-n = past-writes n prev (λ r. eqb-false 6 5 refl) (λ r e. pn (sym r)) (λ r. eqb-false 6 2 refl) ∙ node-same rows n row prev more
 
   prev-else : (z : ℕ) → (z ≡ n → ⊥) → (z ≡ p → ⊥) → word rows₃ z prev ≡ word rows z prev
-  prev-else z a b =
-      put-elsewhere rows₂ p children-word 1 z prev (λ r. let e : 6 ≡ 2 = r in omega arith) ∙ put-other rows₁ p prev n z prev b
-      ∙ put-elsewhere rows₀ q next n z prev (λ r. let e : 6 ≡ 5 = r in omega arith) ∙ node-other rows n z row prev a
+  prev-else z a b = past-writes z prev (λ r. eqb-false 6 5 refl) (λ r e. b r) (λ r. eqb-false 6 2 refl) ∙ node-other rows n z row prev a
 
   mark-p : word rows₃ p children-word ≡ 1
   mark-p = put-same rows₂ s₂ p (rw l₂ (omega arith)) children-word 1
 
   mark-n : word rows₃ n children-word ≡ 0
   unfolding new-node
-  mark-n =
-      put-other rows₂ p children-word 1 n children-word (λ r. pn (sym r)) ∙ put-elsewhere rows₁ p prev n n children-word (λ r. let e : 2 ≡ 6 = r in omega arith)
-      ∙ put-elsewhere rows₀ q next n n children-word (λ r. let e : 2 ≡ 5 = r in omega arith) ∙ node-same rows n row children-word more
+  mark-n = past-writes n children-word (λ r. eqb-false 2 5 refl) (λ r. eqb-false 2 6 refl) (λ r e. pn (sym r)) ∙ node-same rows n row children-word more
 
   mark-else : (z : ℕ) → (z ≡ n → ⊥) → (z ≡ p → ⊥) → word rows₃ z children-word ≡ word rows z children-word
-  mark-else z a b =
-      put-other rows₂ p children-word 1 z children-word b ∙ put-elsewhere rows₁ p prev n z children-word (λ r. let e : 2 ≡ 6 = r in omega arith)
-      ∙ put-elsewhere rows₀ q next n z children-word (λ r. let e : 2 ≡ 5 = r in omega arith) ∙ node-other rows n z row children-word a
+  mark-else z a b = past-writes z children-word (λ r. eqb-false 2 5 refl) (λ r. eqb-false 2 6 refl) (λ r e. b r) ∙ node-other rows n z row children-word a
 
   -- ---- the topology
 
@@ -330,8 +329,7 @@ module _ (limits : Limits) (rows : List (List ℕ)) (t : Topology) (tree : Tree 
 
   parents-now : (m : ℕ) → 0 < m → m < suc n → parent-of limits t′ m < m
   parents-now m a b =
-      both (eqb m n) (λ e. rw (eqb-true m n e, parent-new limits t p k) p-there)
-      (λ e. let d : m ≡ n → ⊥ = eqb-false m n e in rw (parent-old limits t p k m (omega arith)) (tree .sound .parents m a (omega arith)))
+      all-nodes (λ m. 0 < m → parent-of limits t′ m < m) (λ a. rw (parent-new limits t p k) p-there) (λ m h a. rw (parent-old limits t p k m h) (tree .sound .parents m a h)) m b a
 
   placed-now : (c m : ℕ) → t′ .placed c ≡ some m → (c < limits .cpus) × ((m < suc n) × (leaf limits t′ m ≡ true))
   unfolding with-node
@@ -403,15 +401,15 @@ module _ (limits : Limits) (rows : List (List ℕ)) (t : Topology) (tree : Tree 
 
   word-parent : word rows₃ n parent ≡ p
   unfolding new-node
-  word-parent = else-new parent (λ r. let e : 1 ≡ 5 = r in omega arith) (λ r. let e : 1 ≡ 6 = r in omega arith) (λ r. let e : 1 ≡ 2 = r in omega arith)
+  word-parent = else-new parent (eqb-false 1 5 refl) (eqb-false 1 6 refl) (eqb-false 1 2 refl)
 
   word-type : word rows₃ n level-type ≡ k
   unfolding new-node
-  word-type = else-new level-type (λ r. let e : 0 ≡ 5 = r in omega arith) (λ r. let e : 0 ≡ 6 = r in omega arith) (λ r. let e : 0 ≡ 2 = r in omega arith)
+  word-type = else-new level-type (eqb-false 0 5 refl) (eqb-false 0 6 refl) (eqb-false 0 2 refl)
 
   word-end : word rows₃ n end ≡ 0
   unfolding new-node
-  word-end = else-new end (λ r. let e : 4 ≡ 5 = r in omega arith) (λ r. let e : 4 ≡ 6 = r in omega arith) (λ r. let e : 4 ≡ 2 = r in omega arith)
+  word-end = else-new end (eqb-false 4 5 refl) (eqb-false 4 6 refl) (eqb-false 4 2 refl)
 
   sets-new : (w : ℕ) → 16 ≤ w → w < 32 → word rows₃ n w ≡ word rows₀ n w
   sets-new w a b =
@@ -419,7 +417,7 @@ module _ (limits : Limits) (rows : List (List ℕ)) (t : Topology) (tree : Tree 
 
   sets-old : (z : ℕ) → z < n → (w : ℕ) → 16 ≤ w → w < 32 → word rows₃ z w ≡ word rows z w
   sets-old z h w a b =
-      else-old z w (λ r. let e : z ≡ n = r in omega arith) (λ r. let e : w % 32 ≡ 5 = r in omega arith) (λ r. let e : w % 32 ≡ 6 = r in omega arith) (λ r. let e : w % 32 ≡ 2 = r in omega arith)
+      else-old z w h (λ r. let e : w % 32 ≡ 5 = r in omega arith) (λ r. let e : w % 32 ≡ 6 = r in omega arith) (λ r. let e : w % 32 ≡ 2 = r in omega arith)
 
   empty-new : (c : ℕ) → contains-at rows₃ n c ≡ false
   empty-new c = contains-words rows₀ rows₃ n sets-new c ∙ made-empty rows n k p q p more c
@@ -451,36 +449,25 @@ module _ (limits : Limits) (rows : List (List ℕ)) (t : Topology) (tree : Tree 
 
   parent-now : (z : ℕ) → 0 < z → z < suc n → word rows₃ z parent ≡ parent-of limits t′ z
   parent-now z a h =
-      both (eqb z n) (λ e. rw (eqb-true z n e) (word-parent ∙ sym (parent-new limits t p k)))
-      (λ e.
-      let d : z ≡ n → ⊥ = eqb-false z n e in
-      else-old z parent d (λ r. let e : 1 ≡ 5 = r in omega arith) (λ r. let e : 1 ≡ 6 = r in omega arith) (λ r. let e : 1 ≡ 2 = r in omega arith)
-      ∙ tree .parent-is z a (omega arith) ∙ sym (parent-old limits t p k z (omega arith)))
+      all-nodes (λ z. 0 < z → word rows₃ z parent ≡ parent-of limits t′ z) (λ a. word-parent ∙ sym (parent-new limits t p k))
+      (λ z h a. else-old z parent h (eqb-false 1 5 refl) (eqb-false 1 6 refl) (eqb-false 1 2 refl) ∙ tree .parent-is z a h ∙ sym (parent-old limits t p k z h)) z h a
 
   type-now : (z : ℕ) → z < suc n → word rows₃ z level-type ≡ type-of t′ z
-  type-now z h =
-      both (eqb z n) (λ e. rw (eqb-true z n e) (word-type ∙ sym type-new))
-      (λ e.
-      let d : z ≡ n → ⊥ = eqb-false z n e in
-      else-old z level-type d (λ r. let e : 0 ≡ 5 = r in omega arith) (λ r. let e : 0 ≡ 6 = r in omega arith) (λ r. let e : 0 ≡ 2 = r in omega arith)
-      ∙ tree .type-is z (omega arith) ∙ sym (type-old z (omega arith)))
+  type-now =
+      all-nodes (λ z. word rows₃ z level-type ≡ type-of t′ z) (word-type ∙ sym type-new)
+      (λ z h. else-old z level-type h (eqb-false 0 5 refl) (eqb-false 0 6 refl) (eqb-false 0 2 refl) ∙ tree .type-is z h ∙ sym (type-old z h))
 
   set-now : (z : ℕ) → z < suc n → (c : ℕ) → c < limits .cpus → contains-at rows₃ z c ≡ on-node limits t′ (t .placed c) z
-  set-now z h c l =
-      both (eqb z n) (λ e. rw (eqb-true z n e) (empty-new c ∙ sym (on-old n (t .placed c) (there c) ∙ on-new (t .placed c) (there c))))
-      (λ e.
-      let d : z ≡ n → ⊥ = eqb-false z n e in
-      contains-words rows rows₃ z (sets-old z (omega arith)) c ∙ tree .set-is z (omega arith) c l ∙ sym (on-old z (t .placed c) (there c)))
+  set-now =
+      all-nodes (λ z. (c : ℕ) → c < limits .cpus → contains-at rows₃ z c ≡ on-node limits t′ (t .placed c) z)
+      (λ c l. empty-new c ∙ sym (on-old n (t .placed c) (there c) ∙ on-new (t .placed c) (there c)))
+      (λ z h c l. contains-words rows rows₃ z (sets-old z h) c ∙ tree .set-is z h c l ∙ sym (on-old z (t .placed c) (there c)))
 
   range-now : (z : ℕ) → z < suc n → Ranged (limits .cpus) rows₃ z
-  range-now z h =
-      both (eqb z n) (λ e. rw (eqb-true z n e) (ranged-none (limits .cpus) rows₃ n empty-new word-end))
-      (λ e.
-      let d : z ≡ n → ⊥ = eqb-false z n e in
-      ranged-words (limits .cpus) rows rows₃ z (sets-old z (omega arith))
-      (else-old z first d (λ r. let e : 3 ≡ 5 = r in omega arith) (λ r. let e : 3 ≡ 6 = r in omega arith) (λ r. let e : 3 ≡ 2 = r in omega arith))
-      (else-old z end d (λ r. let e : 4 ≡ 5 = r in omega arith) (λ r. let e : 4 ≡ 6 = r in omega arith) (λ r. let e : 4 ≡ 2 = r in omega arith))
-      (tree .range-is z (omega arith)))
+  range-now =
+      all-nodes (Ranged (limits .cpus) rows₃) (ranged-none (limits .cpus) rows₃ n empty-new word-end)
+      (λ z h. ranged-words (limits .cpus) rows rows₃ z (sets-old z h)
+      (else-old z first h (eqb-false 3 5 refl) (eqb-false 3 6 refl) (eqb-false 3 2 refl)) (else-old z end h (eqb-false 4 5 refl) (eqb-false 4 6 refl) (eqb-false 4 2 refl)) (tree .range-is z h))
 
   pub tree-child : Tree limits (add-child rows n p k) t′
   unfolding with-node

@@ -2,7 +2,7 @@
 use Prim.Native.Nat.{ℕ, zero, suc, _+_, _-_, _/_, _%_, _≤_, _<_}
 use mathlib.Core.Path.{_≡_, refl, sym, ap, _∙_}
 use mathlib.Core.Bool.{Bool, true, false, _||_, _&&_, and-true, and-false, or-true, or-false}
-use mathlib.Core.Option.{Option, none, some}
+use mathlib.Core.Option.{Option, none, some, Option·some-injective}
 use mathlib.Core.List.{List, [], _∷_}
 use native.Mathlib.Omega.{arith}
 use lib.Dec.{eqb, ltb}
@@ -19,7 +19,7 @@ use Rattle.nodes.specs.Walk.{to-root}
 use Rattle.tree.specs.Links.{linked-same}
 use Rattle.tree.specs.Rows.{Sized, put-same, put-other, put-elsewhere, sized-put}
 use Rattle.tree.specs.Order.{met-first, Sound}
-use Rattle.tree.specs.Tree.{type-of, Ranged, Tree, holds-has, up-within, above-same}
+use Rattle.tree.specs.Tree.{type-of, Ranged, Tree, holds-has, up-within, above-same, lesser-most}
 use Rattle.tree.specs.Grown.{contains-words, ranged-words}
 
 -- ---- a CPU put on one node
@@ -27,10 +27,6 @@ use Rattle.tree.specs.Grown.{contains-words, ranged-words}
 lesser-left : (a b : ℕ) → lesser a b ≤ a
 unfolding lesser
 lesser-left a b = both (ltb a b) (λ e. rw e (omega arith)) (λ e. rw e (ltb-false a b e))
-
-lesser-right : (a b : ℕ) → lesser a b ≤ b
-unfolding lesser
-lesser-right a b = both (ltb a b) (λ e. rw e (omega (arith, ltb-true a b e))) (λ e. rw e (omega arith))
 
 greater-left : (a b : ℕ) → a ≤ greater a b
 unfolding greater
@@ -81,7 +77,7 @@ module _ (rows : List (List ℕ)) (n c : ℕ) (fits : c < max-cpu-id) where
     put-sized = rw is-put (sized-put rows₂ n end (greater (word rows n end) (c + 1)) s₂)
 
     put-first : word (put-cpu rows n c) n first ≡ lesser (word rows n first) c
-    put-first = rw is-put (put-elsewhere rows₂ n end _ n first (λ r. let e : 3 ≡ 4 = r in omega arith) ∙ put-same rows₁ s₁ n (rw (length-put rows n w (set-bit (word rows n w) c)) there) first _)
+    put-first = rw is-put (put-elsewhere rows₂ n end _ n first (eqb-false 3 4 refl) ∙ put-same rows₁ s₁ n (rw (length-put rows n w (set-bit (word rows n w) c)) there) first _)
 
     put-end : word (put-cpu rows n c) n end ≡ greater (word rows n end) (c + 1)
     put-end = rw is-put (put-same rows₂ s₂ n (rw (length-put rows₁ n first (lesser (word rows n first) c), length-put rows n w (set-bit (word rows n w) c)) there) end _)
@@ -132,7 +128,7 @@ module _ (rows : List (List ℕ)) (n c : ℕ) (fits : c < max-cpu-id) where
           (λ q.
           let g : eqb c x ≡ true = rw (q, eq-eqb n n refl) at (sym (put-contains n x) ∙ e) in
           let k : c ≡ x = eqb-true c x g in
-          (omega (arith, lesser-right (word rows n first) c), omega (arith, greater-right (word rows n end) (c + 1)))));
+          (omega (arith, lesser-most (word rows n first) c), omega (arith, greater-right (word rows n end) (c + 1)))));
       last = λ h. rw put-end
           (both (ltb (word rows n end) (c + 1))
           (λ q. let m : c + 1 - 1 ≡ c = omega arith in rw (q, m) (l, put-same-cpu))
@@ -161,7 +157,7 @@ module _ (c : ℕ) (fits : c < max-cpu-id) where
   root-same rows rows′ h (suc k) n = rw (h n, root-same rows rows′ h k (word rows n parent))
 
   parent-kept : (rows : List (List ℕ)) (n z : ℕ) → word (put-cpu rows n c) z parent ≡ word rows z parent
-  parent-kept rows n z = put-else rows n c fits z parent (omega arith) (λ r. let e : 1 ≡ 3 = r in omega arith) (λ r. let e : 1 ≡ 4 = r in omega arith)
+  parent-kept rows n z = put-else rows n c fits z parent (omega arith) (eqb-false 1 3 refl) (eqb-false 1 4 refl)
 
   -- the way up puts it on the nodes that it meets
   up-all : (k : ℕ) (rows : List (List ℕ)) (n : ℕ) → set-cpu-up k rows n c ≡ put-all c (to-root rows parent k n) rows
@@ -235,22 +231,6 @@ module _ (limits : Limits) (t : Topology) (d : ℕ → Bool) (pl : ℕ → Optio
   on-any (some m) n =
       holds-has limits alike n (upward limits alike (nr-nodes limits t) m) ∙ ap (has n) (up-any (nr-nodes limits t) m) ∙ sym (holds-has limits t n (upward limits t (nr-nodes limits t) m))
 
-  first-any : met-first limits alike ≡ met-first limits t
-  unfolding met-first children parent-of nr-nodes
-  first-any = refl
-
-  nr-any : nr-nodes limits alike ≡ nr-nodes limits t
-  unfolding nr-nodes
-  nr-any = refl
-
-  parent-any : (n : ℕ) → parent-of limits alike n ≡ parent-of limits t n
-  unfolding parent-of
-  parent-any n = refl
-
-  type-any : (n : ℕ) → type-of alike n ≡ type-of t n
-  unfolding type-of
-  type-any n = refl
-
   sound-any : Sound limits t → ((c m : ℕ) → pl c ≡ some m → (c < limits .cpus) × ((m < nr-nodes limits t) × (leaf limits t m ≡ true))) → Sound limits alike
   unfolding nr-nodes parent-of met-first children
   sound-any s h = record {
@@ -274,12 +254,12 @@ module _ (limits : Limits) (t : Topology) (d : ℕ → Bool) (pl : ℕ → Optio
     sized = s;
     room = rw l (tree .room);
     cpus-fit = tree .cpus-fit;
-    parent-is = λ n a b. k n 1 (omega arith) (λ r. let e : 1 ≡ 3 = r in omega arith) (λ r. let e : 1 ≡ 4 = r in omega arith) ∙ tree .parent-is n a b;
-    type-is = λ n b. k n 0 (omega arith) (λ r. let e : 0 ≡ 3 = r in omega arith) (λ r. let e : 0 ≡ 4 = r in omega arith) ∙ tree .type-is n b;
-    children-is = λ n b. rw (k n 2 (omega arith) (λ r. let e : 2 ≡ 3 = r in omega arith) (λ r. let e : 2 ≡ 4 = r in omega arith), leaf-any n) (tree .children-is n b);
+    parent-is = λ n a b. k n 1 (omega arith) (eqb-false 1 3 refl) (eqb-false 1 4 refl) ∙ tree .parent-is n a b;
+    type-is = λ n b. k n 0 (omega arith) (eqb-false 0 3 refl) (eqb-false 0 4 refl) ∙ tree .type-is n b;
+    children-is = λ n b. rw (k n 2 (omega arith) (eqb-false 2 3 refl) (eqb-false 2 4 refl), leaf-any n) (tree .children-is n b);
     order-is = linked-same (λ z. word rows z next) (λ z. word rows z prev) (λ z. word rows′ z next) (λ z. word rows′ z prev)
-        (λ z. k z 5 (omega arith) (λ r. let e : 5 ≡ 3 = r in omega arith) (λ r. let e : 5 ≡ 4 = r in omega arith))
-        (λ z. k z 6 (omega arith) (λ r. let e : 6 ≡ 3 = r in omega arith) (λ r. let e : 6 ≡ 4 = r in omega arith)) (met-first limits t) 0 0 (tree .order-is);
+        (λ z. k z 5 (omega arith) (eqb-false 5 3 refl) (eqb-false 5 4 refl))
+        (λ z. k z 6 (omega arith) (eqb-false 6 3 refl) (eqb-false 6 4 refl)) (met-first limits t) 0 0 (tree .order-is);
     set-is = λ n b c m. set-now n b c m ∙ sym (on-any (pl c) n);
     range-is = range-now;
   }
@@ -313,11 +293,8 @@ module _ (limits : Limits) (rows : List (List ℕ)) (t : Topology) (tree : Tree 
   unfolding at
   there-now d x e =
       both (eqb d c)
-      (λ q. let k : m ≡ x = some-same m x (rw q at e) in (rw (eqb-true d c q) c-fits, (rw (← k) m-there, rw (← k) m-leaf)))
+      (λ q. let k : m ≡ x = Option·some-injective m x (rw q at e) in (rw (eqb-true d c q) c-fits, (rw (← k) m-there, rw (← k) m-leaf)))
       (λ q. tree .sound .placed-there d x (rw q at e))
-    where
-      some-same : (a b : ℕ) → _≡_ {A = Option ℕ} (some a) (some b) → a ≡ b
-      some-same a b e = cc
 
   set-now : (n : ℕ) → n < nr-nodes limits t → (d : ℕ) → d < limits .cpus → contains-at (set-cpu rows m c) n d ≡ on-node limits t (on d) n
   unfolding at on-node

@@ -48,6 +48,10 @@ put-elsewhere rows n w v z u d =
     (λ l. rw (set-out rows n (set (getD rows n []) (w % width) v) (ltb-false _ _ l))))
     (λ e. row-other rows n z _ u (eqb-false z n e))
 
+-- any word but the one that was written
+pub put-past : (rows : List (List ℕ)) (n w v z : ℕ) (u : ℕ) → (z ≡ n → u % width ≡ w % width → ⊥) → word (put-word rows n w v) z u ≡ word rows z u
+put-past rows n w v z u d = both (eqb z n) (λ e. put-elsewhere rows n w v z u (d (eqb-true z n e))) (λ e. put-other rows n w v z u (eqb-false z n e))
+
 pub sized-put : (rows : List (List ℕ)) (n w v : ℕ) → Sized rows → Sized (put-word rows n w v)
 unfolding put-word Sized
 sized-put rows n w v s =
