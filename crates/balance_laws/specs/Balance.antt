@@ -2,7 +2,7 @@
 use Prim.Native.Nat.{ℕ, zero, suc, _+_, _≤_, _<_}
 use mathlib.Core.Path.{_≡_, refl, sym, ap, subst, _∙_}
 use mathlib.Core.Logic.{_⊎_, inl, inr}
-use mathlib.Core.Bool.{Bool, true, false, not, _&&_, _||_, true≢false, false≢true}
+use mathlib.Core.Bool.{Bool, true, false, not, _&&_, _||_, true≢false}
 use mathlib.Core.List.{List}
 use lib.Dec.{ltb, leb}
 use borrow.Author.Tests.{ltb-true, ltb-false, lt-ltb, le-leb, lt-leb}
@@ -14,6 +14,7 @@ use Rattle.rules.specs.Schedule as sched
 use Rattle.rules.specs.Schedule.{World, Balancing}
 use Rattle.rules.specs.Sound.{Sound}
 use Rattle.rules.specs.Steps.{nobody-but}
+use Rattle.rules.specs.Effect.{and-left, and-right}
 use Rattle.thread.specs.declared.Thread.{Thread}
 use Rattle.thread.specs.Thread.{NONE}
 use Rattle.memory.specs.Shows.{Small, Shows}
@@ -34,13 +35,9 @@ done-is : (g : Bool) (i : ℕ) → (not g || leb 20 i) ≡ not (g && ltb i 20)
 done-is false i = refl
 done-is true i = both (ltb i 20) (λ e. rw (e, lt-leb 20 i (ltb-true i 20 e))) (λ e. rw (e, le-leb 20 i (ltb-false i 20 e)))
 
-goes : (g : Bool) (i : ℕ) → (g && ltb i 20) ≡ true → (g ≡ true) × (i < 20)
-goes false i e = absurd (false≢true e)
-goes true i e = (refl, ltb-true i 20 e)
-
 going-on : (B : Balancing) → going B ≡ true → (B .goes-on ≡ true) × (B .steps < 20)
 unfolding going
-going-on B e = goes (B .goes-on) (B .steps) e
+going-on B e = (and-left (B .goes-on) _ e, ltb-true (B .steps) 20 (and-right (B .goes-on) _ e))
 
 done-moves : (b : step.Balancing) → b .moves ≡ true → isDone b ≡ true
 unfolding isDone
@@ -65,7 +62,7 @@ pub record Shown (limits : Limits) (topology : Topology) (known active : ℕ →
 module _ (limits : Limits) (topology : Topology) (tick us : ℕ) (known : ℕ → Bool) (numbered : (x : ℕ) → known x ≡ true → x < limits .threads) (small : Small limits)
     (early : tick ≤ 4611686018427387904) (H : ℕ → List PutOrTake) (us-in : us < limits .cpus) (active : ℕ → Bool) (nodes : List (List ℕ)) (tree : Tree limits nodes topology) where
   abbrev k : Context
-  k = record { us = us; tick = tick; shortest = limits .shortest; limit = limits .cpus }
+  k = context limits tick us
 
   abbrev next : Balancing → Balancing
   next B = sched.balance-step limits topology tick us B

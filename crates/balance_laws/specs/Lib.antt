@@ -1,6 +1,5 @@
 pub mod Turns
 pub mod Pairs
-pub mod Runs
 pub mod Moves
 pub mod Balance
 pub mod Rebalance

@@ -1,15 +1,13 @@
 -- ONE CHOICE OF `balance`, and the move that it comes to: memory that meets the rules' balancing meets it again after the rules' step. Assumes nothing.
 use Prim.Native.Nat.{ℕ, _+_, _*_, _≤_, _<_}
 use mathlib.Core.Path.{_≡_, refl, sym, ap, subst, _∙_}
-use mathlib.Core.Bool.{Bool, true, false, cond, not, true≢false, false≢true}
+use mathlib.Core.Bool.{Bool, true, false, cond, not, true≢false}
 use mathlib.Core.Option.{Option, none, some}
 use mathlib.Core.List.{List, _∷_}
-use lib.ListN.{set}
 use lib.Dec.{eqb, ltb}
 use borrow.Author.Tests.{eqb-true, eqb-false}
 use native.Mathlib.Omega.{arith}
 use Rattle.rules.specs.Line.{has, both}
-use Rattle.rules.specs.Times as times
 use Rattle.rules.specs.Times.{is-some}
 use Rattle.rules.specs.Queue.{order, load, Next, nobody, next-in, asked, leave}
 use Rattle.rules.specs.Puts.{PutOrTake}
@@ -19,11 +17,11 @@ use Rattle.rules.specs.Topology.{cpus-of}
 use Rattle.rules.specs.Choice.{Pair, no-pair, pair, Chosen, choose-cpu-balance}
 use Rattle.rules.specs.Schedule as sched
 use Rattle.rules.specs.Schedule.{World, Got, Balancing, with-cpu, with-thread, with-draws, set-rebalance, pinned-in}
-use Rattle.rules.specs.Sound.{at-here, at-there, waits, Sound, Same, New, Taken, not-true-is, alike-queue, alike-reset, same-free, same-then, same-cpu-changed, same-thread-changed, same-wakeup, sound-same, sound-insert, take-taken}
-use Rattle.rules.specs.Steps.{nobody-but}
+use Rattle.rules.specs.Sound.{at-here, at-there, waits, Sound, New, Taken, not-true-is, same-cpu-changed, sound-same}
+use Rattle.rules.specs.Steps.{nobody-but, ok-put}
+use Rattle.rules.specs.Held.{has-head}
 use Rattle.thread.specs.declared.Thread.{Thread}
 use Rattle.thread.specs.Thread.{NONE}
-use Rattle.thread.specs.Time.{moving-to-queue}
 use Rattle.queue.specs.Num.{sum, sum-exact}
 use Rattle.runqueue.specs.declared.rq.RunQueue.{RunQueue}
 use Rattle.runqueue.specs.declared.rq.Front.{Front}
@@ -32,13 +30,12 @@ use Rattle.runqueue.specs.RunQueue.{rqFront}
 use Rattle.processor.specs.Words.{word, put-word}
 use Rattle.processor.specs.Queue.{queueAt}
 use Rattle.processor.specs.Cpu as cpu
-use Rattle.represent.specs.Linked.{has-first}
 use Rattle.lent.specs.declared.rq.Taken as lent
 use Rattle.lent.specs.declared.rq.Taken.the-variants as taken
-use Rattle.lent.specs.Rq.{recordAt, Took, tookFrom, takeDef}
+use Rattle.lent.specs.Rq.{Took, tookFrom, takeDef}
 use Rattle.memory.specs.Shows.{Small, Shows}
 use Rattle.memory.specs.Frames.{beside-put, in-rows, shows-must-rebalance, shows-draws}
-use Rattle.memory.specs.Queues.{active-with, as-taken, Take-shows, shows-take}
+use Rattle.memory.specs.Queues.{active-with, as-taken, Take-shows}
 use Rattle.memory.specs.Numbers.{word-load, load-shown, current-load-shown}
 use Rattle.topology.specs.CpuSet as cpus
 use Rattle.topology.specs.CpuSet.{Sixteen, sixteen-remove, remove-same, remove-other}
@@ -48,9 +45,11 @@ use Rattle.step.specs.declared.balance.Balancing as step
 use Rattle.step.specs.Balance.{Balanced, passed, stopped, without, moving, isSomebody, handsOut, outcome, pairStep, pairOf, chosenAt, balanceStep}
 use Rattle.sched.specs.declared.context.Context.{Context}
 use Rattle.sched.specs.World as code
-use Rattle.sched.specs.Queues.{isNobody, threadOf, movedIn, scheduleThreadOnCpu, movedFor, takeFrom}
+use Rattle.sched.specs.Queues.{isNobody, threadOf, scheduleThreadOnCpu, movedFor, takeFrom}
 use Rattle.sched.specs.Balance.{received, moveOne}
-use Rattle.sched_laws.specs.Steps.{shows-moving-to-queue, shows-put, put-counts}
+use Rattle.sched_laws.specs.Spared.{from-wakeups}
+use Rattle.sched_laws.specs.Ticked.{context}
+use Rattle.sched_laws.specs.Moves.{nobody-moved, shows-scheduled, counts-scheduled, from-handed, shows-taken-from}
 use Rattle.balance_laws.specs.Pairs.{PairUnder, chosen-in}
 
 -- ---- what a take answers
@@ -60,15 +59,19 @@ unfolding isSomebody isNobody tookFrom
 somebody-answers ts cs c front.Nothing = refl
 somebody-answers ts cs c (front.At p b x) = refl
 
-nobody-left : (ts : List Thread) (cs : List (List ℕ)) (c : ℕ) (f : Front) → isNobody (tookFrom ts cs c f .answer) ≡ true → (tookFrom ts cs c f .threads ≡ ts) × (tookFrom ts cs c f .cpus ≡ cs)
-unfolding isNobody tookFrom
+nobody-left : (ts : List Thread) (cs : List (List ℕ)) (c : ℕ) (f : Front) → tookFrom ts cs c f .answer ≡ taken.Nobody → (tookFrom ts cs c f .threads ≡ ts) × (tookFrom ts cs c f .cpus ≡ cs)
+unfolding tookFrom
 nobody-left ts cs c front.Nothing e = (refl, refl)
-nobody-left ts cs c (front.At p b x) e = absurd (false≢true e)
+nobody-left ts cs c (front.At p b x) e = let z : _≡_ {A = ℕ} 0 1 = cc in absurd (omega arith)
 
 somebody-is : (o : Option ℕ) → not (isNobody (as-taken o)) ≡ is-some o
 unfolding isNobody as-taken is-some
 somebody-is none = refl
 somebody-is (some x) = refl
+
+moved-answer : (r : ℕ) (g : Took) → movedFor r g .answer ≡ g .answer
+unfolding movedFor
+moved-answer r g = both (isNobody (g .answer)) (λ e. rw e) (λ e. rw e)
 
 -- ---- a move
 
@@ -82,22 +85,10 @@ unfolding moveOne
 move-some ts cs k b n e =
     ap (λ (t : Bool). cond (not t) (record { threads = ts; cpus = cs; wakeups = n }) (received k (b .recipient) n (takeFrom ts cs (b .donor) (b .recipient)))) e
 
-moved-some : (g : Took) (r x : ℕ) → g .answer ≡ taken.Thread x
-    → movedFor r g ≡ record { answer = g .answer; threads = set (g .threads) x (moving-to-queue (recordAt (g .threads) x) r); cpus = g .cpus }
-unfolding movedFor isNobody threadOf
-moved-some g r x e =
-    ap (λ (a : lent.Taken). cond (isNobody a) g (record { answer = g .answer; threads = set (g .threads) (threadOf a) (moving-to-queue (recordAt (g .threads) (threadOf a)) r); cpus = g .cpus })) e
-
 received-some : (k : Context) (r n : ℕ) (g : Took) (x : ℕ) → g .answer ≡ taken.Thread x → received k r n g ≡ scheduleThreadOnCpu (g .threads) (g .cpus) k r x n
 unfolding received isNobody threadOf
 received-some k r n g x e =
     ap (λ (a : lent.Taken). cond (isNobody a) (record { threads = g .threads; cpus = g .cpus; wakeups = n }) (scheduleThreadOnCpu (g .threads) (g .cpus) k r (threadOf a) n)) e
-
-taken-received : (ts : List Thread) (cs : List (List ℕ)) (k : Context) (c r n x : ℕ) → takeDef ts cs c (not (eqb r c)) .answer ≡ taken.Thread x
-    → received k r n (takeFrom ts cs c r)
-    ≡ scheduleThreadOnCpu (set (takeDef ts cs c (not (eqb r c)) .threads) x (moving-to-queue (recordAt (takeDef ts cs c (not (eqb r c)) .threads) x) r)) (takeDef ts cs c (not (eqb r c)) .cpus) k r x n
-unfolding takeFrom
-taken-received ts cs k c r n x e = ap (received k r n) (moved-some (takeDef ts cs c (not (eqb r c))) r x e) ∙ received-some k r n _ x e
 
 one-at-most : (b : Bool) (n : ℕ) → cond b (n + 1) n ≤ n + 1
 one-at-most true n = omega arith
@@ -107,7 +98,7 @@ one-at-most false n = omega arith
 module _ (limits : Limits) (topology : Topology) (tick us : ℕ) (known : ℕ → Bool) (numbered : (x : ℕ) → known x ≡ true → x < limits .threads) (small : Small limits)
     (early : tick ≤ 4611686018427387904) (H : ℕ → List PutOrTake) (us-in : us < limits .cpus) (active : ℕ → Bool) (base : ℕ) (room : base + 2 ≤ NONE) where
   abbrev pub k : Context
-  k = record { us = us; tick = tick; shortest = limits .shortest; limit = limits .cpus }
+  k = context limits tick us
 
   abbrev OK : World → Type 0
   OK w = Sound limits known H nobody-but w
@@ -125,15 +116,6 @@ module _ (limits : Limits) (topology : Topology) (tick us : ℕ) (known : ℕ �
 
   -- ---- the rules
 
-  put-safe : (w : World) (c x : ℕ) → OK w → New limits known nobody-but w c x → OK (sched.schedule-thread-on-cpu limits topology tick us w c x)
-  unfolding sched.schedule-thread-on-cpu sched.reset-thread-time
-  put-safe w c x d n =
-      let v : World = with-thread w x (times.moving-to-queue (w .threads x) c) in
-      let s : Same limits w (sched.reset-thread-time limits topology tick us v c x) =
-      same-then (same-thread-changed limits w x _ (alike-queue limits (w .threads x) c)) (same-thread-changed limits v x _ (alike-reset limits (v .threads x) _)) in
-      sound-same (same-wakeup limits _ _) (sound-insert limits topology tick us known numbered H nobody-but _ c x false (sound-same s d)
-      (record { nowhere = same-free x s (n .nowhere); is-known = n .is-known; near = n .near; runs-not = λ e b r. n .runs-not e b (sym (s .running e) ∙ r) }))
-
   put-few : (w : World) (c x : ℕ) → sched.schedule-thread-on-cpu limits topology tick us w c x .wakeups ≤ w .wakeups + 1
   unfolding sched.schedule-thread-on-cpu sched.wakeup sched.insert-thread sched.noted sched.with-thread sched.with-cpu sched.reset-thread-time
   put-few w c x = one-at-most (sched.should-signal limits topology tick us w c x) (w .wakeups)
@@ -145,36 +127,28 @@ module _ (limits : Limits) (topology : Topology) (tick us : ℕ) (known : ℕ �
   handed-waited w c s x d (next-in p j y) a e =
       let z : y ≡ x = cc in
       ap (has x) (asked-head (pinned-in w) (w .cpus c .queue) s p j y (d .kept c .fits .shape) a .first)
-      ∙ ap (λ v. has x (v ∷ order (leave p (w .cpus c .queue) j))) z ∙ has-first x (order (leave p (w .cpus c .queue) j))
+      ∙ ap (λ v. has x (v ∷ order (leave p (w .cpus c .queue) j))) z ∙ has-head x (order (leave p (w .cpus c .queue) j))
 
-  handed-counts : (w : World) (c : ℕ) (s : Bool) (n : Next) → sched.handed-out limits topology tick us w c s n .world .wakeups ≡ w .wakeups
-  unfolding sched.handed-out sched.noted sched.with-cpu
-  handed-counts w c s nobody = refl
-  handed-counts w c s (next-in p j y) = refl
-
-  take-counts : (w : World) (c : ℕ) (s : Bool) → sched.take-thread limits topology tick us w c s .world .wakeups ≡ w .wakeups
-  unfolding sched.take-thread
-  take-counts w c s = handed-counts w c s _
+  moved-got : (r : ℕ) (o : Option ℕ) (w : World) → sched.moved-for limits topology tick us r o w .got ≡ o
+  unfolding sched.moved-for
+  moved-got r none w = refl
+  moved-got r (some x) w = refl
 
   -- the move of the rules, by what is taken
-  rules-some : (w : World) (allowed : ℕ → Bool) (n donor recipient x : ℕ) (g : Got) → sched.take-thread limits topology tick us w donor (not (eqb recipient donor)) ≡ g → g .got ≡ some x
-      → sched.move-one limits topology tick us w allowed n donor recipient
-      ≡ record { world = sched.schedule-thread-on-cpu limits topology tick us (with-thread (g .world) x (times.moving-to-queue (g .world .threads x) recipient)) recipient x; allowed = at allowed recipient false; steps = n + 11; goes-on = true }
-  unfolding sched.move-one sched.take-a-thread-from-cpu sched.moved-for sched.received
-  rules-some w allowed n donor recipient x g t e =
-      ap (λ (g : Got). sched.received limits topology tick us (sched.moved-for limits topology tick us recipient (g .got) (g .world) .world) (at allowed recipient false) n recipient
-      (sched.moved-for limits topology tick us recipient (g .got) (g .world) .got)) t
-      ∙ ap (λ (o : Option ℕ). sched.received limits topology tick us (sched.moved-for limits topology tick us recipient o (g .world) .world) (at allowed recipient false) n recipient
-      (sched.moved-for limits topology tick us recipient o (g .world) .got)) e
+  abbrev taken-from : World → ℕ → ℕ → Got
+  taken-from w donor recipient = sched.take-a-thread-from-cpu limits topology tick us w donor recipient
 
-  rules-none : (w : World) (allowed : ℕ → Bool) (n donor recipient : ℕ) (g : Got) → sched.take-thread limits topology tick us w donor (not (eqb recipient donor)) ≡ g → g .got ≡ none
-      → sched.move-one limits topology tick us w allowed n donor recipient ≡ record { world = g .world; allowed = at allowed recipient false; steps = n + 1; goes-on = true }
-  unfolding sched.move-one sched.take-a-thread-from-cpu sched.moved-for sched.received
-  rules-none w allowed n donor recipient g t e =
-      ap (λ (g : Got). sched.received limits topology tick us (sched.moved-for limits topology tick us recipient (g .got) (g .world) .world) (at allowed recipient false) n recipient
-      (sched.moved-for limits topology tick us recipient (g .got) (g .world) .got)) t
-      ∙ ap (λ (o : Option ℕ). sched.received limits topology tick us (sched.moved-for limits topology tick us recipient o (g .world) .world) (at allowed recipient false) n recipient
-      (sched.moved-for limits topology tick us recipient o (g .world) .got)) e
+  rules-some : (w : World) (allowed : ℕ → Bool) (n donor recipient x : ℕ) → taken-from w donor recipient .got ≡ some x
+      → sched.move-one limits topology tick us w allowed n donor recipient
+      ≡ record { world = sched.schedule-thread-on-cpu limits topology tick us (taken-from w donor recipient .world) recipient x; allowed = at allowed recipient false; steps = n + 11; goes-on = true }
+  unfolding sched.move-one sched.received
+  rules-some w allowed n donor recipient x e = ap (sched.received limits topology tick us (taken-from w donor recipient .world) (at allowed recipient false) n recipient) e
+
+  rules-none : (w : World) (allowed : ℕ → Bool) (n donor recipient : ℕ) → taken-from w donor recipient .got ≡ none
+      → sched.move-one limits topology tick us w allowed n donor recipient
+      ≡ record { world = taken-from w donor recipient .world; allowed = at allowed recipient false; steps = n + 1; goes-on = true }
+  unfolding sched.move-one sched.received
+  rules-none w allowed n donor recipient e = ap (sched.received limits topology tick us (taken-from w donor recipient .world) (at allowed recipient false) n recipient) e
 
   active-again : (x : ℕ) → active x ≡ false → at (at active x true) x false ≡ active
   active-again x h = λ i z. (both (eqb z x)
@@ -186,51 +160,52 @@ module _ (limits : Limits) (topology : Topology) (tick us : ℕ) (known : ℕ �
   module _ {ts : List Thread} {cs : List (List ℕ)} {w : World} (s : Shows limits topology known active ts cs w) (safe : OK w) (donor recipient : ℕ) (donor-in : donor < limits .cpus)
       (recipient-in : recipient < limits .cpus) where
     abbrev d : Took
-    d = takeDef ts cs donor (not (eqb recipient donor))
+    d = takeFrom ts cs donor recipient
+
+    abbrev front-there : Front
+    front-there = rqFront (queueAt cs donor) (not (eqb recipient donor))
 
     abbrev g : Got
-    g = sched.take-thread limits topology tick us w donor (not (eqb recipient donor))
+    g = taken-from w donor recipient
 
     taken-shows : Take-shows limits topology known active d g
-    taken-shows = shows-take limits topology tick us known numbered small H s safe donor donor-in (not (eqb recipient donor))
+    taken-shows = shows-taken-from limits topology tick us known numbered small early us-in H s safe donor recipient donor-in recipient-in
 
     taken-safe : Taken limits topology tick us known numbered H nobody-but w g
-    taken-safe = take-taken limits topology tick us known numbered H nobody-but w donor (not (eqb recipient donor)) safe
+    taken-safe = from-handed limits topology tick us known numbered small early us-in H nobody-but w donor recipient safe
+
+    -- the answer of the queue's own take
+    own-answer : tookFrom ts cs donor front-there .answer ≡ as-taken (g .got)
+    unfolding takeFrom takeDef
+    own-answer = sym (moved-answer recipient (takeDef ts cs donor (not (eqb recipient donor)))) ∙ taken-shows .answer
 
     hands-shown : handsOut cs donor recipient ≡ is-some (g .got)
-    unfolding handsOut takeDef
-    hands-shown =
-        somebody-answers ts cs donor (rqFront (queueAt cs donor) (not (eqb recipient donor)))
-        ∙ ap (λ (a : lent.Taken). not (isNobody a)) (taken-shows .answer) ∙ somebody-is (g .got)
+    unfolding handsOut
+    hands-shown = somebody-answers ts cs donor front-there ∙ ap (λ (a : lent.Taken). not (isNobody a)) own-answer ∙ somebody-is (g .got)
+
+    left-shows : (o : Option ℕ) → g .got ≡ o → Shows limits topology known (active-with active o) (d .threads) (d .cpus) (g .world)
+    left-shows o e = subst (λ (o : Option ℕ). Shows limits topology known (active-with active o) (d .threads) (d .cpus) (g .world)) e (taken-shows .left)
 
     -- nobody was handed out: only the rules' log has changed
     none-shows : g .got ≡ none → Shows limits topology known active ts cs (g .world)
-    unfolding takeDef active-with isNobody as-taken
+    unfolding takeFrom takeDef active-with as-taken
     none-shows e =
-        let a : isNobody (d .answer) ≡ true = ap isNobody (taken-shows .answer) ∙ ap (λ (o : Option ℕ). isNobody (as-taken o)) e in
-        let l = nobody-left ts cs donor (rqFront (queueAt cs donor) (not (eqb recipient donor))) a in
-        let k : Shows limits topology known active (d .threads) (d .cpus) (g .world) =
-        subst (λ (o : Option ℕ). Shows limits topology known (active-with active o) (d .threads) (d .cpus) (g .world)) e (taken-shows .left) in
+        let a : tookFrom ts cs donor front-there .answer ≡ taken.Nobody = own-answer ∙ ap as-taken e in
+        let l = nobody-left ts cs donor front-there a in
+        let k = subst (λ (t : Took). Shows limits topology known active (t .threads) (t .cpus) (g .world)) (nobody-moved recipient (tookFrom ts cs donor front-there) a) (left-shows none e) in
         subst (λ (r : List (List ℕ)). Shows limits topology known active ts r (g .world)) (l .1)
-        (subst (λ (r : List Thread). Shows limits topology known active r (d .cpus) (g .world)) (l .0) k)
+        (subst (λ (r : List Thread). Shows limits topology known active r (tookFrom ts cs donor front-there .cpus) (g .world)) (l .0) k)
 
     module _ (x : ℕ) (e : g .got ≡ some x) where
-      abbrev moved-world : World
-      moved-world = with-thread (g .world) x (times.moving-to-queue (g .world .threads x) recipient)
-
       answered : d .answer ≡ taken.Thread x
       unfolding as-taken
       answered = taken-shows .answer ∙ ap as-taken e
 
-      moved-shows : Shows limits topology known (at active x true) (set (d .threads) x (moving-to-queue (recordAt (d .threads) x) recipient)) (d .cpus) moved-world
+      moved-shows : Shows limits topology known (at active x true) (d .threads) (d .cpus) (g .world)
       unfolding active-with
-      moved-shows =
-          shows-moving-to-queue limits topology tick us known numbered small early
-          (subst (λ (o : Option ℕ). Shows limits topology known (active-with active o) (d .threads) (d .cpus) (g .world)) e (taken-shows .left))
-          recipient recipient-in x (numbered x (taken-safe .handed-known x e))
+      moved-shows = left-shows (some x) e
 
-      moved-new : New limits known nobody-but moved-world recipient x
-      unfolding with-thread
+      moved-new : New limits known nobody-but (g .world) recipient x
       moved-new = record {
         nowhere = taken-safe .handed-free x e;
         is-known = taken-safe .handed-known x e;
@@ -239,8 +214,8 @@ module _ (limits : Limits) (topology : Topology) (tick us : ℕ) (known : ℕ �
       }
 
       was-waiting : waits w donor x ≡ true
-      unfolding sched.take-thread
-      was-waiting = handed-waited w donor (not (eqb recipient donor)) x safe (asked (pinned-in w) (w .cpus donor .queue) (not (eqb recipient donor))) refl e
+      unfolding sched.take-a-thread-from-cpu sched.take-thread
+      was-waiting = handed-waited w donor (not (eqb recipient donor)) x safe (asked (pinned-in w) (w .cpus donor .queue) (not (eqb recipient donor))) refl (sym (moved-got recipient _ _) ∙ e)
 
       was-idle : active x ≡ false
       was-idle = not-true-is (active x) (λ t.
@@ -249,26 +224,24 @@ module _ (limits : Limits) (topology : Topology) (tick us : ℕ) (known : ℕ �
           let z : _≡_ {A = ℕ} 0 1 = cc in omega arith)
 
       abbrev left : ℕ → code.World
-      left n = scheduleThreadOnCpu (set (d .threads) x (moving-to-queue (recordAt (d .threads) x) recipient)) (d .cpus) k recipient x n
+      left n = scheduleThreadOnCpu (d .threads) (d .cpus) k recipient x n
 
-      put-shows : (n : ℕ) → Shows limits topology known active (left n .threads) (left n .cpus) (sched.schedule-thread-on-cpu limits topology tick us moved-world recipient x)
-      unfolding scheduleThreadOnCpu movedIn
+      put-shows : (n : ℕ) → Shows limits topology known active (left n .threads) (left n .cpus) (sched.schedule-thread-on-cpu limits topology tick us (g .world) recipient x)
       put-shows n =
-          subst (λ (f : ℕ → Bool). Shows limits topology known f (left n .threads) (left n .cpus) (sched.schedule-thread-on-cpu limits topology tick us moved-world recipient x)) (active-again x was-idle)
-          (shows-put limits topology tick us known numbered small early moved-shows recipient x moved-new)
+          subst (λ (f : ℕ → Bool). Shows limits topology known f (left n .threads) (left n .cpus) (sched.schedule-thread-on-cpu limits topology tick us (g .world) recipient x)) (active-again x was-idle)
+          (shows-scheduled limits topology tick us known numbered small early us-in H moved-shows recipient x moved-new n)
 
-      put-wakeups : (n : ℕ) → n ≡ w .wakeups → w .wakeups < NONE → left n .wakeups ≡ sched.schedule-thread-on-cpu limits topology tick us moved-world recipient x .wakeups
-      unfolding scheduleThreadOnCpu with-thread
+      put-wakeups : (n : ℕ) → n ≡ w .wakeups → w .wakeups < NONE → left n .wakeups ≡ sched.schedule-thread-on-cpu limits topology tick us (g .world) recipient x .wakeups
       put-wakeups n c h =
-          put-counts limits topology tick us known numbered small early moved-shows recipient x moved-new n (c ∙ sym (take-counts w donor (not (eqb recipient donor)))) (rw (take-counts w donor (not (eqb recipient donor))) h)
+          let same = from-wakeups limits topology tick us w donor recipient in
+          counts-scheduled limits topology tick us known numbered small early us-in H moved-shows recipient x moved-new n (c ∙ sym same) (rw same h)
 
-      put-safely : OK (sched.schedule-thread-on-cpu limits topology tick us moved-world recipient x)
-      put-safely = put-safe moved-world recipient x (sound-same (same-thread-changed limits (g .world) x _ (alike-queue limits (g .world .threads x) recipient)) (taken-safe .sound)) moved-new
+      put-safely : OK (sched.schedule-thread-on-cpu limits topology tick us (g .world) recipient x)
+      put-safely = ok-put limits topology tick us known numbered H us-in nobody-but (g .world) recipient x (taken-safe .sound) moved-new
 
-      put-wakeups-few : sched.schedule-thread-on-cpu limits topology tick us moved-world recipient x .wakeups ≤ w .wakeups + 1
-      unfolding with-thread
+      put-wakeups-few : sched.schedule-thread-on-cpu limits topology tick us (g .world) recipient x .wakeups ≤ w .wakeups + 1
       put-wakeups-few =
-          subst (λ i. sched.schedule-thread-on-cpu limits topology tick us moved-world recipient x .wakeups ≤ i + 1) (take-counts w donor (not (eqb recipient donor))) (put-few moved-world recipient x)
+          subst (λ i. sched.schedule-thread-on-cpu limits topology tick us (g .world) recipient x .wakeups ≤ i + 1) (from-wakeups limits topology tick us w donor recipient) (put-few (g .world) recipient x)
 
   -- ---- one choice
 
@@ -315,10 +288,10 @@ module _ (limits : Limits) (topology : Topology) (tick us : ℕ) (known : ℕ �
       v-counts = refl
 
       abbrev got : Got
-      got = sched.take-thread limits topology tick us v donor (not (eqb recipient donor))
+      got = taken-from v donor recipient
 
       got-counts : got .world .wakeups ≡ w .wakeups
-      got-counts = take-counts v donor (not (eqb recipient donor)) ∙ v-counts
+      got-counts = from-wakeups limits topology tick us v donor recipient ∙ v-counts
 
       hands-now : handsOut cs donor recipient ≡ is-some (got .got)
       unfolding handsOut
@@ -333,7 +306,7 @@ module _ (limits : Limits) (topology : Topology) (tick us : ℕ) (known : ℕ �
       move-nobody : got .got ≡ none → Stepped ts n (record { balancing = without b recipient; cpus = marked }) (B .steps) moved-B
       unfolding without
       move-nobody e =
-          let r : moved-B ≡ record { world = got .world; allowed = at (B .allowed) recipient false; steps = B .steps + 1; goes-on = true } = rules-none v (B .allowed) (B .steps) donor recipient got refl e in
+          let r : moved-B ≡ record { world = got .world; allowed = at (B .allowed) recipient false; steps = B .steps + 1; goes-on = true } = rules-none v (B .allowed) (B .steps) donor recipient e in
           still (record { balancing = without b recipient; cpus = marked }) (B .steps) moved-B stays
           (subst (λ (C : Balancing). Meets ts marked n (without b recipient) C) (sym r) (record {
             shows = none-shows marked-shows marked-safe donor recipient donor-in recipient-in e;
@@ -351,13 +324,13 @@ module _ (limits : Limits) (topology : Topology) (tick us : ℕ) (known : ℕ �
       unfolding moving
       move-somebody x e =
           let r : moved-B ≡ record {
-            world = sched.schedule-thread-on-cpu limits topology tick us (with-thread (got .world) x (times.moving-to-queue (got .world .threads x) recipient)) recipient x;
+            world = sched.schedule-thread-on-cpu limits topology tick us (got .world) recipient x;
             allowed = at (B .allowed) recipient false;
             steps = B .steps + 11;
             goes-on = true;
-          } = rules-some v (B .allowed) (B .steps) donor recipient x got refl e in
+          } = rules-some v (B .allowed) (B .steps) donor recipient x e in
           let t : moveOne ts marked k (moving b donor recipient) n ≡ left marked-shows marked-safe donor recipient donor-in recipient-in x e n =
-          move-some ts marked k (moving b donor recipient) n refl ∙ taken-received ts marked k donor recipient n x (answered marked-shows marked-safe donor recipient donor-in recipient-in x e) in
+          move-some ts marked k (moving b donor recipient) n refl ∙ received-some k recipient n (takeFrom ts marked donor recipient) x (answered marked-shows marked-safe donor recipient donor-in recipient-in x e) in
           record {
             meets = subst (λ (u : code.World). Meets (u .threads) (u .cpus) (u .wakeups) (moving b donor recipient) moved-B) (sym t)
                 (subst (λ (C : Balancing). Meets (left marked-shows marked-safe donor recipient donor-in recipient-in x e n .threads) (left marked-shows marked-safe donor recipient donor-in recipient-in x e n .cpus)

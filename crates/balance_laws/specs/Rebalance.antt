@@ -1,7 +1,7 @@
 -- `schedule_maybe_rebalance` and `schedule_stattick` over records and words, where `balance` is the rules'. Assumes nothing.
 use Prim.Native.Nat.{ℕ, _+_, _≤_, _<_}
 use mathlib.Core.Path.{_≡_, refl, sym, subst, _∙_}
-use mathlib.Core.Bool.{Bool, true, false, _&&_, true≢false, false≢true}
+use mathlib.Core.Bool.{Bool, true, false, _&&_, true≢false}
 use mathlib.Core.List.{List}
 use lib.Dec.{eqb, ltb}
 use Rattle.rules.specs.Line.{both}
@@ -11,6 +11,7 @@ use Rattle.rules.specs.Schedule as sched
 use Rattle.rules.specs.Schedule.{World, with-cpu, with-draws, with-rebalance-time}
 use Rattle.rules.specs.Sound.{at-keeps, same-cpu-changed, sound-same, Sound}
 use Rattle.rules.specs.Steps.{nobody-but}
+use Rattle.rules.specs.Effect.{and-left, and-right}
 use Rattle.thread.specs.declared.Thread.{Thread}
 use Rattle.thread.specs.Thread.{NONE}
 use Rattle.memory.specs.Shows.{Small, Shows}
@@ -23,10 +24,6 @@ use Rattle.sched_laws.specs.Ticked.{context}
 use Rattle.sched_laws.specs.Picks.{Settled, no-one}
 use Rattle.sched_laws.specs.Scheduled.{Leaves}
 use Rattle.sched_laws.specs.Commands.{settled-same}
-
-and-both : (a b : Bool) → (a && b) ≡ true → (a ≡ true) × (b ≡ true)
-and-both true b e = (refl, e)
-and-both false b e = absurd (false≢true e)
 
 module _ (limits : Limits) (topology : Topology) (tick us : ℕ) (known : ℕ → Bool) (numbered : (x : ℕ) → known x ≡ true → x < limits .threads) (small : Small limits)
     (early : tick ≤ 4611686018427387904) (us-in : us < limits .cpus) (H : ℕ → List PutOrTake) (ns : List (List ℕ)) where
@@ -49,7 +46,7 @@ module _ (limits : Limits) (topology : Topology) (tick us : ℕ) (known : ℕ �
 
     balances-now : due ≡ true → sched.maybe-rebalance limits topology tick us w dt ≡ sched.balance limits topology tick us next
     unfolding sched.maybe-rebalance
-    balances-now e = let f = and-both (eqb us 0) (ltb (w .cpus us .rebalance-time) dt) e in rw (f .0, f .1)
+    balances-now e = rw (and-left (eqb us 0) _ e, and-right (eqb us 0) _ e)
 
     not-now : due ≡ false → (c : ℕ) → sched.maybe-rebalance limits topology tick us w dt .cpus c .running ≡ w .cpus c .running
     unfolding sched.maybe-rebalance with-cpu with-rebalance-time

@@ -19,8 +19,8 @@ use Rattle.sched_laws.specs.Ticked.{context}
 use Rattle.sched_laws.specs.Picks.{Settled, no-one}
 use Rattle.sched_laws.specs.Scheduled.{Leaves}
 use Rattle.sched_laws.specs.Commands.{settled-same}
+use Rattle.sched_laws.specs.Spared.{balance-running}
 use Rattle.balance_laws.specs.Rebalance.{Balances, shows-maybe-rebalance, shows-stattick}
-use Rattle.balance_laws.specs.Runs.{balance-runs}
 use Rattle.balance_laws.specs.Balance.{balance-shown}
 
 module _ (limits : Limits) (topology : Topology) (tick us : ℕ) (known : ℕ → Bool) (numbered : (x : ℕ) → known x ≡ true → x < limits .threads) (small : Small limits)
@@ -28,7 +28,7 @@ module _ (limits : Limits) (topology : Topology) (tick us : ℕ) (known : ℕ �
   balances : Balances limits topology tick us known numbered small early us-in H ns
   balances active ts cs w s safe st wakeups count few =
       let m = balance-shown limits topology tick us known numbered small early H us-in active ns tree wakeups s safe count few in
-      record { ends = record { active = active; shows = m .shows; settled = settled-same w _ (balance-runs limits topology tick us w) st }; counted = m .counted }
+      record { ends = record { active = active; shows = m .shows; settled = settled-same w _ (balance-running limits topology tick us w) st }; counted = m .counted }
 
   module _ {active : ℕ → Bool} {ts : List Thread} {cs : List (List ℕ)} {w : World} (s : Shows limits topology known active ts cs w) (safe : Sound limits known H nobody-but w) (st : Settled no-one active w)
       (wakeups : ℕ) (count : wakeups ≡ w .wakeups) (few : w .wakeups + 2 ≤ NONE) where

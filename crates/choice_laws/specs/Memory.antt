@@ -1,5 +1,5 @@
 -- On lent memory that shows a world of the rules: what a choice reads of it, and what it leaves. Assumes nothing.
-use Prim.Native.Nat.{ℕ, _%_, _<_}
+use Prim.Native.Nat.{ℕ, _<_}
 use mathlib.Core.Path.{_≡_, refl, ap, _∙_}
 use mathlib.Core.Bool.{Bool}
 use mathlib.Core.Option.{Option, some}
@@ -11,11 +11,11 @@ use Rattle.rules.specs.State.{Limits, Topology}
 use Rattle.rules.specs.Topology.{cpus-of}
 use Rattle.rules.specs.Choice.{may-steal-from, first-that, choose-cpu-balance}
 use Rattle.rules.specs.Schedule as sched
-use Rattle.rules.specs.Schedule.{World, with-draws}
+use Rattle.rules.specs.Schedule.{World}
 use Rattle.thread.specs.declared.Thread.{Thread}
-use Rattle.processor.specs.Words.{word, put-word, word-put-same, word-put-other}
-use Rattle.memory.specs.Shows.{reading-of, number-or-none, Words-show, Small, Shows}
-use Rattle.memory.specs.Frames.{beside-put, in-rows, shows-beside}
+use Rattle.processor.specs.Words.{word, put-word}
+use Rattle.memory.specs.Shows.{number-or-none, Small, Shows}
+use Rattle.memory.specs.Frames.{shows-draws}
 use Rattle.memory.specs.Numbers.{word-load, word-movable, load-shown, movable-shown, current-load-shown, current-load-most, priority-shown}
 use Rattle.nodes.specs.Walk.{cpus-at, nearest-at}
 use Rattle.choice.specs.Reads.{load-at, weight-at, queue-load-at, movable-at, draw-word}
@@ -40,39 +40,10 @@ module _ {limits : Limits} {topology : Topology} {known active : ℕ → Bool} {
     pub draws-shown : word cs us draw-word ≡ w .cpus us .draw-state
     draws-shown = shows .words us us-in .draw-state
 
-    module _ (d : ℕ) where
-      abbrev after : List (List ℕ)
-      after = put-word cs us draw-word d
-
-      word-kept : (u : ℕ) → (u % 96 ≡ 79 → ⊥) → word after us u ≡ word cs us u
-      word-kept u n = word-put-other cs us us draw-word u d (λ e q. n e)
-
-      reading-kept : reading-of (with-draws (w .cpus us) d) ≡ reading-of (w .cpus us)
-      unfolding reading-of with-draws
-      reading-kept = refl
-
-      words-drawn : Words-show topology after us (with-draws (w .cpus us) d)
-      unfolding with-draws
-      words-drawn =
-          let s : Words-show topology cs us (w .cpus us) = shows .words us us-in in
-          record {
-            declared = rw (word-kept 72 (λ r. let e : 72 ≡ 79 = r in omega arith)) (s .declared);
-            placed = word-kept 73 (λ r. let e : 73 ≡ 79 = r in omega arith) ∙ s .placed;
-            running = word-kept 74 (λ r. let e : 74 ≡ 79 = r in omega arith) ∙ s .running;
-            own-priority = rw (word-kept 75 (λ r. let e : 75 ≡ 79 = r in omega arith)) (s .own-priority);
-            is-idle = rw (word-kept 76 (λ r. let e : 76 ≡ 79 = r in omega arith)) (s .is-idle);
-            must-rebalance = rw (word-kept 77 (λ r. let e : 77 ≡ 79 = r in omega arith)) (s .must-rebalance);
-            preempt = rw (word-kept 78 (λ r. let e : 78 ≡ 79 = r in omega arith)) (s .preempt);
-            draw-state = word-put-same cs us draw-word d (in-rows shows us us-in) (rw (shows .rows us us-in) (omega arith));
-            rebalance-time = word-kept 80 (λ r. let e : 80 ≡ 79 = r in omega arith) ∙ s .rebalance-time;
-            idle-timeslice = word-kept 81 (λ r. let e : 81 ≡ 79 = r in omega arith) ∙ s .idle-timeslice;
-          }
-
-      -- ITS DRAW STATE WRITTEN
-      pub shows-drawn : Shows limits topology known active ts after (drawn us w d)
-      unfolding drawn
-      shows-drawn =
-          shows-beside shows after us (with-draws (w .cpus us) d) (beside-put cs us draw-word d (in-rows shows us us-in) (omega arith) (omega arith)) reading-kept words-drawn
+    -- ITS DRAW STATE WRITTEN
+    pub shows-drawn : (d : ℕ) → Shows limits topology known active ts (put-word cs us draw-word d) (drawn us w d)
+    unfolding drawn
+    shows-drawn d = shows-draws shows us us-in d
 
     -- `select_cpu`: THE CPU THAT THE RULES CHOOSE, AND MEMORY THAT SHOWS THE WORLD AFTER IT
     pub select-memory : (nodes : List (List ℕ)) → Tree limits nodes topology → (tick x : ℕ) (avoid : Option ℕ) → ((c : ℕ) → preferred-cpu (w .threads x) ≡ some c → c < limits .cpus)

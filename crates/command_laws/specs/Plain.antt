@@ -2,36 +2,29 @@
 use Prim.Native.Nat.{ℕ, _+_, _%_, _^_, _<_}
 use mathlib.Core.Path.{_≡_, refl, sym, ap, subst, _∙_}
 use mathlib.Core.Bool.{true}
-use mathlib.Core.Option.{Option, none, some}
+use mathlib.Core.Option.{Option}
 use mathlib.Core.List.{List}
 use native.Mathlib.Omega.{arith}
-use lib.ListN.{length, set}
+use lib.ListN.{length}
 use borrow.Author.Tests.{ltb-true}
 use Rattle.rules.specs.Puts.{PutOrTake}
 use Rattle.rules.specs.State as rules
-use Rattle.rules.specs.Priority.{priority, class-at}
 use Rattle.rules.specs.Requests.{declare-cpu, add-node, place-cpu, seal, declare-thread, set-tick, remove-donation, set-critical, asks}
 use Rattle.rules.specs.Questions.{refusal, concerning, open-yet, at-most, node-exists, parent-without-cpus, node-fits}
 use Rattle.rules.specs.Commands as ruled
 use Rattle.rules.specs.Commands.{obeys}
 use Rattle.rules.specs.Reached.{yes}
 use Rattle.thread.specs.declared.Thread.{Thread}
-use Rattle.thread.specs.Place.{new}
 use Rattle.lines.specs.Lines.{refusal-number, shown-option, running-option, answer-of}
 use Rattle.questions.specs.declared.state.State.{State}
 use Rattle.sched.specs.Donate.{removeDonated, setCritical}
 use Rattle.command.specs.Answer.{accepted, nothing-shown, changed}
-use Rattle.command.specs.Call.{pin-number, call-of, priority-in, ticked, sealed-now, one-node-more}
+use Rattle.command.specs.Call.{call-of, priority-in, ticked, sealed-now, one-node-more}
 use Rattle.command.specs.Command.{prepares, declareThread, removeDonation, criticalDef, obeyDef}
 use Rattle.question_laws.specs.Stands.{limits-in, Stands}
-use Rattle.question_laws.specs.Changes.{Counted, pin-of, stands-declare-cpu, stands-add-node, stands-place-cpu, stands-seal, stands-declare-thread, stands-set-tick, stands-remove-donation, stands-set-critical}
+use Rattle.question_laws.specs.Changes.{Counted, stands-declare-cpu, stands-add-node, stands-place-cpu, stands-seal, stands-declare-thread, stands-set-tick, stands-remove-donation, stands-set-critical}
 use Rattle.command_laws.specs.Law.{Reachable, As-ruled}
 use Rattle.command_laws.specs.Numbers.{few-accepted}
-
-pin-same : (pin : Option ℕ) → pin-of pin ≡ pin-number pin
-unfolding pin-of pin-number
-pin-same none = refl
-pin-same (some c) = refl
 
 -- one command more does not wrap
 pub one-more : (n : ℕ) → n < 4294967295 → (n + 1) % 2 ^ 64 ≡ n + 1
@@ -103,8 +96,7 @@ module _ {H : ℕ → List PutOrTake} {ts : List Thread} {cs ns : List (List ℕ
       → As-ruled (obeyDef ts cs ns a (call-of (declare-thread x k v pin) used)) (obeys s (declare-thread x k v pin))
   unfolding obeyDef declareThread call-of priority-in changed nothing-shown answer-of refusal-number shown-option running-option obeys ruled.changed ruled.nothing-shown
   plain-declare-thread x k v pin used e = record {
-    stands = subst (λ (n : ℕ). Stands (set ts x (new (priority (class-at k) v) n)) cs ns (accepted a) (obeys s (declare-thread x k v pin) .state)) (pin-same pin)
-        (stands-declare-thread m (reachable .reached) x k v used pin (accepted a) (counted (few-accepted s (declare-thread x k v pin) used e)) e);
+    stands = stands-declare-thread m (reachable .reached) x k v used pin (accepted a) (counted (few-accepted s (declare-thread x k v pin) used e)) e;
     answer = refl;
   }
 

@@ -2,21 +2,20 @@
 -- Assumes nothing.
 use Prim.Native.Nat.{ℕ, _+_, _%_, _^_, _≤_, _<_}
 use mathlib.Core.Path.{_≡_, refl, sym, ap, subst, _∙_}
-use mathlib.Core.Bool.{Bool, true, false, not, _&&_, false≢true}
+use mathlib.Core.Bool.{Bool, true, false, false≢true}
 use mathlib.Core.Option.{Option, none, some}
 use mathlib.Core.List.{List}
 use native.Mathlib.Omega.{arith}
 use borrow.Author.Tests.{ne-eqb}
 use Rattle.rules.specs.declared.Priority.{Priority}
-use Rattle.rules.specs.Line.{both}
-use Rattle.rules.specs.Priority.{nr-values, priority, class-at, less, donation-accepted}
-use Rattle.rules.specs.Times.{effective-priority, is-some}
+use Rattle.rules.specs.Priority.{nr-values, priority, class-at}
+use Rattle.rules.specs.Times.{is-some}
 use Rattle.rules.specs.Queue.{load}
 use Rattle.rules.specs.Puts.{PutOrTake}
 use Rattle.rules.specs.State as rules
 use Rattle.rules.specs.State.{Limits, runs-on, blocked}
 use Rattle.rules.specs.Schedule as sched
-use Rattle.rules.specs.Schedule.{World, Got, with-cpu, with-thread, wakeup}
+use Rattle.rules.specs.Schedule.{World, Got, with-cpu, with-thread}
 use Rattle.rules.specs.Requests.{schedule-thread, schedule, hardtick, stattick, resched, maybe-preempt, donate, asks, flags-of}
 use Rattle.rules.specs.Questions.{refusal, concerning, thread-declared, thread-blocked}
 use Rattle.rules.specs.Commands as rule
@@ -47,6 +46,7 @@ use Rattle.sched_laws.specs.Scheduled as law
 use Rattle.sched_laws.specs.Scheduled.{Leaves, shows-schedule}
 use Rattle.sched_laws.specs.Commands.{settled-same, runs-somewhere, settled-runs, ends-runs, shows-maybe-preempt, ends-resched, ends-hardtick, woken-on, wakes, scheduled-thread}
 use Rattle.sched_laws.specs.Donates.{shows-donated, counts-donated}
+use Rattle.sched_laws.specs.Spared.{donate-running}
 use Rattle.balance_laws.specs.Stattick.{stattick-law}
 use Rattle.question_laws.specs.Stands.{limits-in, runs, Stands}
 use Rattle.command_laws.specs.Law.{Reachable, As-ruled}
@@ -81,19 +81,6 @@ module _ (limits : Limits) (topology : rules.Topology) (tick us : ℕ) where
   resched-wakeups : (w : World) → sched.schedule-resched limits topology tick us w .wakeups ≡ w .wakeups
   unfolding sched.schedule-resched
   resched-wakeups w = mark-wakeups w _
-
-  wakeup-running : (w : World) (x : ℕ) (o : Option ℕ) (c : ℕ) → sched.maybe-wakeup limits topology tick us w x o .cpus c .running ≡ w .cpus c .running
-  unfolding sched.maybe-wakeup wakeup
-  wakeup-running w x none c = refl
-  wakeup-running w x (some d) c = refl
-
-  donate-running : (w : World) (x : ℕ) (p : Priority) (c : ℕ) → sched.donate-priority limits topology tick us w x p .cpus c .running ≡ w .cpus c .running
-  unfolding sched.donate-priority
-  donate-running w x p c =
-      both (donation-accepted (w .threads x .donated) p)
-      (λ e. rw e (both (less (effective-priority (w .threads x)) p && not (sched.same-cpu x (w .cpus us .running)))
-      (λ f. rw f (wakeup-running _ x _ c ∙ (unfold with-thread in refl))) (λ f. rw f (unfold with-thread in refl))))
-      (λ e. rw e)
 
 module _ {H : ℕ → List PutOrTake} {ts : List Thread} {cs ns : List (List ℕ)} {a : State} {s : rules.State} (m : Stands ts cs ns a s) (r : Reachable H s) where
   abbrev Soundly : World → Type 0

@@ -1,4 +1,5 @@
--- A STREAM FED BLOCK BY BLOCK: lists of calls of `feed`. A reader reads all of this file, and then Output. Assumes nothing.
+-- A STREAM FED BLOCK BY BLOCK: lists of calls of `feed`, over the definition that its contract (feed/src/feed.rt) cites. A reader reads all of this file, after
+-- demands' Calls, and then Output. Assumes nothing.
 use Prim.Native.Nat.{ℕ, _+_, _*_, _^_, _≤_, _<_}
 use mathlib.Core.Path.{_≡_}
 use mathlib.Core.Bool.{Bool, true, false}
@@ -6,7 +7,7 @@ use mathlib.Core.List.{List, [], _∷_, _++_}
 use lib.ListN.{length, take, drop}
 use Rattle.thread.specs.declared.Thread.{Thread}
 use Rattle.feed.specs.declared.fed.Fed.{Fed}
-use Rattle.feed.specs.Fed.{begin}
+use Rattle.feed.specs.Fed.{ENDED, begin}
 use Rattle.feed.specs.Feed.{World, worldOf, feedDef}
 use Rattle.demands.specs.Calls.{Held}
 
@@ -73,6 +74,11 @@ unfoldable pub says-last : List Call → Bool
 says-last [] = false
 says-last (c ∷ []) = c .last
 says-last (c ∷ d ∷ calls) = says-last (d ∷ calls)
+
+-- the end line is written, or at most eight bytes are left over
+pub data Settled (r : Run) : Type 0 where
+  over : r .fed .phase ≡ ENDED → Settled r
+  few : length (r .left-over) ≤ 8 → Settled r
 
 -- ---- the start
 

@@ -16,7 +16,7 @@ use Rattle.demands.specs.Calls.{Held, Ready}
 use Rattle.demands.specs.Kept.{ready-stands}
 use Rattle.feed_laws.specs.Going.{left-at, left, left-ended, Going}
 use Rattle.feed_laws.specs.Block.{Called, called, Leaves, run-ended, run-waits, leaves, stays-ended}
-use Rattle.feed_laws.specs.Calls.{Call, Run, in-hand, fed-by, after, output-of, after-all, outputs, stream, Proper, Roomy, says-last, begun}
+use Rattle.feed_laws.specs.Calls.{Call, Run, in-hand, fed-by, after, output-of, after-all, outputs, stream, Proper, Roomy, says-last, Settled, over, few, begun}
 
 abbrev Goes : Run → State → Type 0
 Goes r s = Going (r .threads) (r .cpus) (r .nodes) (r .fed) s
@@ -141,13 +141,9 @@ module _ (h : Held) (r : Ready h) (calls : List Call) (to-come : List ℕ) (p : 
 
 -- ---- with large buffers the run ends
 
-data Fine (r : Run) : Type 0 where
-  over : r .fed .phase ≡ ENDED → Fine r
-  few : length (r .left-over) ≤ 8 → Fine r
-
-fine-after : (r : Run) (c : Call) → Leaves (c .last) (after r c .fed) (after r c .left-over) → Fine (after r c)
-fine-after r c (run-ended e) = over e
-fine-after r c (run-waits e l h) = few h
+settled-after : (r : Run) (c : Call) → Leaves (c .last) (after r c .fed) (after r c .left-over) → Settled (after r c)
+settled-after r c (run-ended e) = over e
+settled-after r c (run-waits e l h) = few h
 
 last-over : (r : Run) (c : Call) → c .last ≡ true → Leaves (c .last) (after r c .fed) (after r c .left-over) → after r c .fed .phase ≡ ENDED
 last-over r c l (run-ended e) = e
@@ -185,28 +181,39 @@ says-none : says-last [] ≡ true → ⊥
 unfolding says-last
 says-none e = false≢true e
 
-leaves-after : (r : Run) (c : Call) (calls : List Call) (s : State) → Goes r s → Proper (c ∷ calls) [] → Roomy (c ∷ calls) → Fine r
+leaves-after : (to-come : List ℕ) (r : Run) (c : Call) (calls : List Call) (s : State) → Goes r s → Proper (c ∷ calls) to-come → Roomy (c ∷ calls) → Settled r
     → Leaves (c .last) (after r c .fed) (after r c .left-over)
 unfolding in-hand
-leaves-after r c calls s g p m (over e) = run-ended (ended-stays r c e)
-leaves-after r c calls s g p m (few h) =
-    one-leaves r c s g (proper-small c calls [] p) (stream calls ++ []) (proper-last c calls [] p)
+leaves-after to-come r c calls s g p m (over e) = run-ended (ended-stays r c e)
+leaves-after to-come r c calls s g p m (few h) =
+    one-leaves r c s g (proper-small c calls to-come p) (stream calls ++ to-come) (proper-last c calls to-come p)
     (omega (arith, roomy-first c calls m, length-append (r .left-over) (c .block)))
 
-all-end : (calls : List Call) (r : Run) (s : State) → Goes r s → Proper calls [] → Roomy calls → Fine r → says-last calls ≡ true → after-all r calls .fed .phase ≡ ENDED
+all-settled : (to-come : List ℕ) (calls : List Call) (r : Run) (s : State) → Goes r s → Proper calls to-come → Roomy calls → Settled r → Settled (after-all r calls)
+unfolding after-all
+all-settled to-come [] r s g p m h = h
+all-settled to-come (c ∷ calls) r s g p m h =
+    let o : One r c s (stream calls ++ to-come) = here to-come r c calls s g p in
+    all-settled to-come calls (after r c) (o .state) (o .going) (proper-rest c calls to-come p) (roomy-rest c calls m)
+    (settled-after r c (leaves-after to-come r c calls s g p m h))
+
+all-end : (calls : List Call) (r : Run) (s : State) → Goes r s → Proper calls [] → Roomy calls → Settled r → says-last calls ≡ true → after-all r calls .fed .phase ≡ ENDED
 all-end [] r s g p m h e = absurd (says-none e)
-all-end (c ∷ []) r s g p m h e = ap (λ (q : Run). q .fed .phase) (all-one r c) ∙ last-over r c (says-one c e) (leaves-after r c [] s g p m h)
+all-end (c ∷ []) r s g p m h e = ap (λ (q : Run). q .fed .phase) (all-one r c) ∙ last-over r c (says-one c e) (leaves-after [] r c [] s g p m h)
 all-end (c ∷ d ∷ calls) r s g p m h e =
     let o : One r c s (stream (d ∷ calls) ++ []) = here [] r c (d ∷ calls) s g p in
     ap (λ (q : Run). q .fed .phase) (all-more r c (d ∷ calls))
-    ∙ all-end (d ∷ calls) (after r c) (o .state) (o .going) (proper-rest c (d ∷ calls) [] p) (roomy-rest c (d ∷ calls) m) (fine-after r c (leaves-after r c (d ∷ calls) s g p m h)) (says-more c d calls e)
+    ∙ all-end (d ∷ calls) (after r c) (o .state) (o .going) (proper-rest c (d ∷ calls) [] p) (roomy-rest c (d ∷ calls) m) (settled-after r c (leaves-after [] r c (d ∷ calls) s g p m h)) (says-more c d calls e)
 
-begun-fine : (h : Held) → Fine (begun h)
+begun-settled : (h : Held) → Settled (begun h)
 unfolding begun
-begun-fine h = few (omega arith)
+begun-settled h = few (omega arith)
 
 pub from-start-whole : (h : Held) → Ready h → (calls : List Call) → Proper calls [] → Roomy calls → says-last calls ≡ true
     → outputs (begun h) calls ≡ output base-limits (stream calls)
 from-start-whole h r calls p m e =
-    from-start-ended h r calls [] p (all-end calls (begun h) (start base-limits) (begun-goes h r) p m (begun-fine h) e)
+    from-start-ended h r calls [] p (all-end calls (begun h) (start base-limits) (begun-goes h r) p m (begun-settled h) e)
     ∙ ap (output base-limits) (append-nil (stream calls))
+
+pub from-start-settled : (h : Held) → Ready h → (calls : List Call) (to-come : List ℕ) → Proper calls to-come → Roomy calls → Settled (after-all (begun h) calls)
+from-start-settled h r calls to-come p m = all-settled to-come calls (begun h) (start base-limits) (begun-goes h r) p m (begun-settled h)

@@ -1,15 +1,15 @@
 -- A STREAM'S OUTPUT. "The replay program takes every byte stream to an end line": `feed` over any cutting of a stream into blocks gives the rules' output of
 -- the stream. A reader reads all of this file, after Calls. Assumes nothing.
+use Prim.Native.Nat.{ℕ}
 use mathlib.Core.Path.{_≡_, sym, subst}
 use mathlib.Core.Bool.{true}
 use mathlib.Core.List.{List, [], _++_}
-use Prim.Native.Nat.{ℕ}
 use Rattle.rules.specs.State.{base-limits}
 use Rattle.rules.specs.Lines.{output}
 use Rattle.feed.specs.Fed.{ENDED}
 use Rattle.demands.specs.Calls.{Held, Ready}
-use Rattle.feed_laws.specs.Calls.{Call, after-all, outputs, stream, Proper, Roomy, says-last, begun}
-use Rattle.feed_laws.specs.Fold.{from-start, from-start-ended, from-start-whole}
+use Rattle.feed_laws.specs.Calls.{Call, after-all, outputs, stream, Proper, Roomy, says-last, Settled, begun}
+use Rattle.feed_laws.specs.Fold.{from-start, from-start-ended, from-start-whole, from-start-settled}
 use Rattle.feed_laws.specs.EndLine.{Ends-with-end-line, output-ends}
 
 -- h is what `start` left when it answered Ready; the calls are any list.
@@ -30,3 +30,7 @@ module _ (h : Held) (ready : Ready h) (calls : List Call) where
   -- and so end with an end line.
   pub feed-ends : Proper calls [] → Roomy calls → says-last calls ≡ true → Ends-with-end-line (outputs (begun h) calls)
   feed-ends p m e = subst Ends-with-end-line (sym (feed-output p m e)) (output-ends base-limits (stream calls))
+
+  -- After such calls at most eight bytes are left over, for which the next block's buffer has room.
+  pub feed-left-over : (to-come : List ℕ) → Proper calls to-come → Roomy calls → Settled (after-all (begun h) calls)
+  feed-left-over to-come p m = from-start-settled h ready calls to-come p m

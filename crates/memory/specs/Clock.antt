@@ -16,24 +16,9 @@ use Rattle.processor.specs.Queue.{queueAt}
 use Rattle.represent.specs.Well.{Reading, clock-reading, hardtick-reading}
 use Rattle.represent.specs.System.{clock-law, hardtick-law, ticks-law}
 use Rattle.lent.specs.Rq.{clockDef, hardtickDef}
-use Rattle.memory.specs.Shows.{reading-of, Words-show, Small, Shows}
-use Rattle.memory.specs.Frames.{places-same}
+use Rattle.memory.specs.Shows.{reading-of, Small, Shows}
+use Rattle.memory.specs.Frames.{places-same, words-alike}
 use Rattle.memory.specs.Queues.{fits, words-queue, shows-stored}
-
-words-ticked : {topology : Topology} (cs : List (List ℕ)) (c : ℕ) (p : Cpu) (last : ℕ) → Words-show topology cs c p → Words-show topology cs c (with-ticks p last (p .idle-timeslice))
-unfolding with-ticks
-words-ticked cs c p last s = record {
-  declared = s .declared;
-  placed = s .placed;
-  running = s .running;
-  own-priority = s .own-priority;
-  is-idle = s .is-idle;
-  must-rebalance = s .must-rebalance;
-  preempt = s .preempt;
-  draw-state = s .draw-state;
-  rebalance-time = s .rebalance-time;
-  idle-timeslice = s .idle-timeslice;
-}
 
 module _ {limits : Limits} {topology : Topology} {known active : ℕ → Bool} {ts : List Thread} {cs : List (List ℕ)} {w : World} (s : Shows limits topology known active ts cs w) (small : Small limits) (c : ℕ) (near : c < limits .cpus) where
   abbrev Rs : ℕ → Reading
@@ -56,7 +41,7 @@ module _ {limits : Limits} {topology : Topology} {known active : ℕ → Bool} {
       let p : Cpu = with-ticks (w .cpus c) now (w .cpus c .idle-timeslice) in
       shows-stored s c ts (rqHardtick (queueAt cs c) now .queue) p (with-cpu w c p) refl refl
       (hardtick-law (limits .threads) (limits .cpus) ts cs Rs (s .queues) c near (fits small) now)
-      (words-ticked cs c (w .cpus c) now (s .words c near)) (s .threads) (s .queue-cpus)
+      (words-alike (w .cpus c) p refl refl refl refl refl refl refl refl refl (s .words c near)) (s .threads) (s .queue-cpus)
       (places-same w (with-cpu w c p) (λ d x. at-keeps (λ (u : Cpu). has x (order (u .queue))) (w .cpus) c p refl d) (s .places))
 
   pub ticks-shown : (now : ℕ) → now < 2 ^ 64 → w .cpus c .last-tick ≤ now → hardtickDef cs c now .ticks ≡ now - w .cpus c .last-tick

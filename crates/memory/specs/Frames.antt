@@ -4,28 +4,32 @@ use mathlib.Core.Path.{_≡_, refl, sym, ap, subst, _∙_}
 use mathlib.Core.Logic.{_≢_}
 use mathlib.Core.Bool.{Bool, cond}
 use mathlib.Core.List.{List, []}
+use mathlib.Core.Option.{none}
 use lib.ListN.{length, getD, set, length-set}
 use lib.Seq.{getD-set-same, set-out}
 use lib.Dec.{eqb, ltb}
-use borrow.Author.Tests.{eqb-true, eqb-false, ltb-true, ltb-false}
+use borrow.Author.Tests.{eqb-true, eqb-false, ltb-true, ltb-false, ne-eqb}
 use native.Mathlib.Omega.{arith}
 use Rattle.rules.specs.Line.{has, both}
 use Rattle.rules.specs.Queue.{Queue, order}
 use Rattle.rules.specs.Times as times
-use Rattle.rules.specs.Times.{pinned}
+use Rattle.rules.specs.Times.{pinned, is-some, donated-to, critical-at}
 use Rattle.rules.specs.State.{at, Limits, Topology, Cpu}
 use Rattle.rules.specs.Schedule.{World, with-cpu, with-thread, set-rebalance, with-preempt, with-draws, with-rebalance-time, with-ticks}
 use Rattle.rules.specs.Sound.{at-here, at-there, at-keeps, Under, waits}
 use Rattle.thread.specs.declared.Thread.{Thread}
-use Rattle.thread.specs.Reads.{reads}
-use Rattle.thread.specs.Place.{place-in}
+use Rattle.thread.specs.Reads.{reads, critical-in}
+use Rattle.thread.specs.Place.{place-in, reads-critical}
+use Rattle.thread.specs.Thread.{with-donated, with-critical}
+use Rattle.thread.specs.Flags.{has-donated-priority}
+use Rattle.thread.specs.Priority.{remove-donated-priority, reads-removed}
 use Rattle.processor.specs.Words.{width, word, put-word, word-put-same, word-put-other, row-put-other, length-put}
 use Rattle.processor.specs.Queue.{queueAt, queueIn, queue-same}
 use Rattle.represent.specs.Well.{Reading}
 use Rattle.lent.specs.Rq.{recordAt}
 use Rattle.represent.specs.Records.{marks, read-set}
 use Rattle.represent.specs.System.{Good, good-frame}
-use Rattle.memory.specs.Shows.{reading-of, mark-in, Words-show, place-at, Places, Shows}
+use Rattle.memory.specs.Shows.{reading-of, mark-in, Words-say, Words-show, place-at, Places, Shows, number-or-none}
 
 -- ---- the words of a CPU
 
@@ -97,8 +101,8 @@ written-put {cs} {cs′} {c} {f} u v h l a b w =
     }
 
 -- what a CPU's words show depends on these alone
-pub words-same : {topology : Topology} (cs cs′ : List (List ℕ)) (c : ℕ) (p : Cpu) → ((u : ℕ) → 72 ≤ u → u < width → word cs′ c u ≡ word cs c u) → Words-show topology cs c p → Words-show topology cs′ c p
-words-same cs cs′ c p same s = record {
+pub words-same : {topology : Topology} {c : ℕ} {p : Cpu} {f g : ℕ → ℕ} → ((u : ℕ) → 72 ≤ u → u < width → g u ≡ f u) → Words-say topology c f p → Words-say topology c g p
+words-same same s = record {
   declared = rw (same 72 (omega arith) (omega arith)) (s .declared);
   placed = rw (same 73 (omega arith) (omega arith)) (s .placed);
   running = rw (same 74 (omega arith) (omega arith)) (s .running);
@@ -111,6 +115,23 @@ words-same cs cs′ c p same s = record {
   idle-timeslice = rw (same 81 (omega arith) (omega arith)) (s .idle-timeslice);
 }
 
+-- and on the fields that they are about
+pub words-alike : {t u : Topology} {c : ℕ} {f : ℕ → ℕ} (p q : Cpu) → u .declared c ≡ t .declared c → u .placed c ≡ t .placed c → q .running ≡ p .running → q .own-priority ≡ p .own-priority
+    → q .must-rebalance ≡ p .must-rebalance → q .preempt ≡ p .preempt → q .draw-state ≡ p .draw-state → q .rebalance-time ≡ p .rebalance-time → q .idle-timeslice ≡ p .idle-timeslice
+    → Words-say t c f p → Words-say u c f q
+words-alike p q d l r o m e a b i s = record {
+  declared = s .declared ∙ sym d;
+  placed = s .placed ∙ ap number-or-none (sym l);
+  running = s .running ∙ ap number-or-none (sym r);
+  own-priority = s .own-priority ∙ sym o;
+  is-idle = s .is-idle ∙ ap is-some (sym r);
+  must-rebalance = s .must-rebalance ∙ sym m;
+  preempt = s .preempt ∙ sym e;
+  draw-state = s .draw-state ∙ sym a;
+  rebalance-time = s .rebalance-time ∙ sym b;
+  idle-timeslice = s .idle-timeslice ∙ sym i;
+}
+
 -- ---- the records
 
 -- a write that keeps a field, wherever it goes
@@ -119,6 +140,14 @@ kept f ts x t z e =
     both (ltb x (length ts))
     (λ l. rw (read-set ts x t z (ltb-true _ _ l)) (both (eqb z x) (λ k. rw (k, eqb-true z x k) e) (λ k. rw k)))
     (λ l. rw (set-out ts x t (ltb-false _ _ l)))
+
+removed-next : (t : Thread) → remove-donated-priority t .next ≡ t .next
+unfolding remove-donated-priority with-donated
+removed-next t = both (has-donated-priority (t .flags)) (λ e. rw e) (λ e. rw e)
+
+removed-place : (t : Thread) → remove-donated-priority t .place ≡ t .place
+unfolding remove-donated-priority with-donated
+removed-place t = both (has-donated-priority (t .flags)) (λ e. rw e) (λ e. rw e)
 
 -- ---- the queues
 
@@ -156,19 +185,6 @@ places-kept {ts = ts} x t e p =
 
 -- ---- the frames
 
--- the same CPUs and threads
-pub shows-alike : {limits : Limits} {topology : Topology} {known active : ℕ → Bool} {ts : List Thread} {cs : List (List ℕ)} (w v : World)
-    → ((c : ℕ) → v .cpus c ≡ w .cpus c) → ((x : ℕ) → v .threads x ≡ w .threads x) → Shows limits topology known active ts cs w → Shows limits topology known active ts cs v
-shows-alike {limits} {topology} {ts = ts} {cs = cs} w v e f s = record {
-  queues = subst (λ (Rs : ℕ → Reading). Good (limits .threads) (limits .cpus) ts cs Rs) (λ i c. ap reading-of (sym (e c)) i) (s .queues);
-  none-past = s .none-past;
-  rows = s .rows;
-  threads = λ x h. s .threads x h ∙ sym (f x);
-  queue-cpus = λ x h. subst (λ (t : times.Thread). Under (limits .cpus) (t .queue-cpu)) (sym (f x)) (s .queue-cpus x h);
-  words = λ c h. subst (Words-show topology cs c) (sym (e c)) (s .words c h);
-  places = places-same w v (λ d x. ap (λ (p : Cpu). has x (order (p .queue))) (e d)) (s .places);
-}
-
 module _ {limits : Limits} {topology : Topology} {known active : ℕ → Bool} {ts : List Thread} {cs : List (List ℕ)} {w : World} (s : Shows limits topology known active ts cs w) where
   pub in-records : (x : ℕ) → x < limits .threads → x < length ts
   in-records x h = omega (arith, s .queues .records)
@@ -176,25 +192,34 @@ module _ {limits : Limits} {topology : Topology} {known active : ℕ → Bool} {
   pub in-rows : (c : ℕ) → c < limits .cpus → c < length cs
   in-rows c h = omega (arith, s .queues .cpus)
 
-  -- WORDS OF ONE CPU
+  -- WORDS OF ONE CPU, and a world and a topology of which they speak
+  pub shows-words : (u : Topology) (cs′ : List (List ℕ)) (c : ℕ) (v : World) → Beside cs cs′ c → ((d : ℕ) → reading-of (v .cpus d) ≡ reading-of (w .cpus d)) → ((x : ℕ) → v .threads x ≡ w .threads x)
+      → ((d : ℕ) → d < limits .cpus → Words-show u cs′ d (v .cpus d)) → Shows limits u known active ts cs′ v
+  shows-words u cs′ c v b same f k = record {
+    queues = subst (λ (Rs : ℕ → Reading). Good (limits .threads) (limits .cpus) ts cs′ Rs) (λ i d. sym (same d) i)
+        (good-frame (limits .threads) (limits .cpus) ts cs (λ d. reading-of (w .cpus d)) (s .queues) ts cs′ (s .queues .records) (rw (b .as-many) (s .queues .cpus))
+        (λ d h. rw (b .as-long d) (s .queues .rows d h)) (λ d h. record { links = λ z a. refl; pins = λ z a. refl; values = λ z a. refl }) (λ d h. b .queue d));
+    none-past = s .none-past;
+    rows = λ d h. b .as-long d ∙ s .rows d h;
+    threads = λ x h. s .threads x h ∙ sym (f x);
+    queue-cpus = λ x h. subst (λ (t : times.Thread). Under (limits .cpus) (t .queue-cpu)) (sym (f x)) (s .queue-cpus x h);
+    words = k;
+    places = places-same w v (λ d x. ap (λ (q : Queue). has x (order q)) (reading-queue (v .cpus d) (w .cpus d) (same d))) (s .places);
+  }
+
   pub shows-beside : (cs′ : List (List ℕ)) (c : ℕ) (p : Cpu) → Beside cs cs′ c → reading-of p ≡ reading-of (w .cpus c) → Words-show topology cs′ c p
       → Shows limits topology known active ts cs′ (with-cpu w c p)
   unfolding with-cpu
   shows-beside cs′ c p b r k =
-      let same : (d : ℕ) → reading-of (at (w .cpus) c p d) ≡ reading-of (w .cpus d) = at-keeps reading-of (w .cpus) c p r in
-      let g = good-frame (limits .threads) (limits .cpus) ts cs (λ d. reading-of (w .cpus d)) (s .queues) ts cs′ (s .queues .records) (rw (b .as-many) (s .queues .cpus))
-      (λ d h. rw (b .as-long d) (s .queues .rows d h)) (λ d h. record { links = λ z a. refl; pins = λ z a. refl; values = λ z a. refl }) (λ d h. b .queue d) in
-      record {
-        queues = subst (λ (Rs : ℕ → Reading). Good (limits .threads) (limits .cpus) ts cs′ Rs) (λ i d. sym (same d) i) g;
-        none-past = s .none-past;
-        rows = λ d h. b .as-long d ∙ s .rows d h;
-        threads = s .threads;
-        queue-cpus = s .queue-cpus;
-        words = λ d h. both (eqb d c)
-            (λ e. rw (eqb-true d c e, at-here (w .cpus) c p) k)
-            (λ e. rw (at-there (w .cpus) c p d (eqb-false d c e)) (words-same cs cs′ d (w .cpus d) (λ u l m. b .others d u (eqb-false d c e)) (s .words d h)));
-        places = places-same w (with-cpu w c p) (λ d x. ap (λ (q : Queue). has x (order q)) (reading-queue (at (w .cpus) c p d) (w .cpus d) (same d))) (s .places);
-      }
+      shows-words topology cs′ c (with-cpu w c p) b (at-keeps reading-of (w .cpus) c p r) (λ x. refl)
+      (λ d h. both (eqb d c)
+      (λ e. rw (eqb-true d c e, at-here (w .cpus) c p) k)
+      (λ e. rw (at-there (w .cpus) c p d (eqb-false d c e)) (words-same (λ u l m. b .others d u (eqb-false d c e)) (s .words d h))))
+
+  -- its words are what f says
+  pub shows-written : {cs′ : List (List ℕ)} {f : ℕ → ℕ} (c : ℕ) (p : Cpu) → Written cs cs′ c f → reading-of p ≡ reading-of (w .cpus c) → Words-say topology c f p
+      → Shows limits topology known active ts cs′ (with-cpu w c p)
+  shows-written {cs′} c p b r k = shows-beside cs′ c p (b .beside) r (words-same (λ u l m. b .words u m) k)
 
   -- THE RECORD OF ONE THREAD
   pub shows-record : {active′ : ℕ → Bool} (x : ℕ) (t : Thread) (u : times.Thread) → x < limits .threads → reads t ≡ u → t .next ≡ recordAt ts x .next
@@ -225,102 +250,72 @@ module _ {limits : Limits} {topology : Topology} {known active : ℕ → Bool} {
       → pinned u ≡ pinned (w .threads x) → u .stable .value ≡ w .threads x .stable .value → Under (limits .cpus) (u .queue-cpu) → Shows limits topology known active (set ts x t) cs (with-thread w x u)
   shows-fields x t u h r n l p v q = shows-record x t u h r n p v q (places-kept x t l (s .places))
 
+  -- 19: `remove_donated_priority`
+  pub shows-removed : (x : ℕ) → x < limits .threads → Shows limits topology known active (set ts x (remove-donated-priority (recordAt ts x))) cs (with-thread w x (donated-to (w .threads x) none))
+  unfolding donated-to pinned
+  shows-removed x h =
+      shows-fields x (remove-donated-priority (recordAt ts x)) _ h (reads-removed (recordAt ts x) ∙ ap (λ (t : times.Thread). donated-to t none) (s .threads x h))
+      (removed-next (recordAt ts x)) (removed-place (recordAt ts x)) refl refl (s .queue-cpus x h)
+
+  -- 1A: the critical mark
+  pub shows-critical : (x m : ℕ) → x < limits .threads → Shows limits topology known active (set ts x (with-critical (recordAt ts x) m)) cs (with-thread w x (critical-at (w .threads x) (critical-in m)))
+  unfolding critical-at pinned with-critical
+  shows-critical x m h =
+      shows-fields x (with-critical (recordAt ts x) m) _ h (reads-critical (recordAt ts x) m ∙ ap (λ (t : times.Thread). critical-at t (critical-in m)) (s .threads x h)) refl refl refl refl (s .queue-cpus x h)
+
   -- ONE WORD OF A CPU
   module _ (c : ℕ) (near : c < limits .cpus) where
-    pub word-written : (u v i : ℕ) → u < width → i < width → word (put-word cs c u v) c i ≡ cond (eqb i u) v (word cs c i)
-    word-written u v i h k = word-here cs c u i v (in-rows c near) (s .rows c near) h k
-
-    beside-one : (u v : ℕ) → 72 ≤ u → u < width → Beside cs (put-word cs c u v) c
-    beside-one u v h k = beside-put cs c u v (in-rows c near) h k
-
     abbrev was : Words-show topology cs c (w .cpus c)
     was = s .words c near
 
-    abbrev now-at : ℕ → ℕ → ℕ → Type 0
-    now-at u v i = word (put-word cs c u v) c i ≡ cond (eqb i u) v (word cs c i)
+    -- one of those from 77 on, and a CPU p of which they speak
+    one-word : (u v : ℕ) (p : Cpu) → 77 ≤ u → u < width → reading-of p ≡ reading-of (w .cpus c) → p .running ≡ w .cpus c .running → p .own-priority ≡ w .cpus c .own-priority
+        → (let now : ℕ → ℕ = λ i. cond (eqb i u) v (word cs c i) in
+        mark-in (now 77) ≡ p .must-rebalance → mark-in (now 78) ≡ p .preempt → now 79 ≡ p .draw-state → now 80 ≡ p .rebalance-time → now 81 ≡ p .idle-timeslice
+        → Shows limits topology known active ts (put-word cs c u v) (with-cpu w c p))
+    one-word u v p h k r runs own m e d t i =
+        let other : (j : ℕ) → j < 77 → cond (eqb j u) v (word cs c j) ≡ word cs c j = λ j l. rw (ne-eqb j u (λ q. omega arith)) in
+        shows-written c p (written-put u v (in-rows c near) (s .rows c near) (omega arith) k (written-none cs c)) r (record {
+          declared = rw (other 72 (omega arith)) (was .declared);
+          placed = rw (other 73 (omega arith)) (was .placed);
+          running = rw (other 74 (omega arith), runs) (was .running);
+          own-priority = rw (other 75 (omega arith), own) (was .own-priority);
+          is-idle = rw (other 76 (omega arith), runs) (was .is-idle);
+          must-rebalance = m;
+          preempt = e;
+          draw-state = d;
+          rebalance-time = t;
+          idle-timeslice = i;
+        })
 
     pub shows-must-rebalance : Shows limits topology known active ts (put-word cs c 77 1) (with-cpu w c (set-rebalance (w .cpus c)))
     unfolding set-rebalance reading-of mark-in
     shows-must-rebalance =
-        let f : (i : ℕ) → i < width → now-at 77 1 i = λ i k. word-written 77 1 i (omega arith) k in
-        shows-beside (put-word cs c 77 1) c (set-rebalance (w .cpus c)) (beside-one 77 1 (omega arith) (omega arith)) refl (record {
-          declared = rw (f 72 (omega arith)) (was .declared);
-          placed = rw (f 73 (omega arith)) (was .placed);
-          running = rw (f 74 (omega arith)) (was .running);
-          own-priority = rw (f 75 (omega arith)) (was .own-priority);
-          is-idle = rw (f 76 (omega arith)) (was .is-idle);
-          must-rebalance = rw (f 77 (omega arith));
-          preempt = rw (f 78 (omega arith)) (was .preempt);
-          draw-state = rw (f 79 (omega arith)) (was .draw-state);
-          rebalance-time = rw (f 80 (omega arith)) (was .rebalance-time);
-          idle-timeslice = rw (f 81 (omega arith)) (was .idle-timeslice);
-        })
+        one-word 77 1 (set-rebalance (w .cpus c)) (omega arith) (omega arith) refl refl refl refl (was .preempt) (was .draw-state) (was .rebalance-time) (was .idle-timeslice)
 
     pub shows-preempt : (v : ℕ) (m : Bool) → mark-in v ≡ m → Shows limits topology known active ts (put-word cs c 78 v) (with-cpu w c (with-preempt (w .cpus c) m))
     unfolding with-preempt reading-of
     shows-preempt v m e =
-        let f : (i : ℕ) → i < width → now-at 78 v i = λ i k. word-written 78 v i (omega arith) k in
-        shows-beside (put-word cs c 78 v) c (with-preempt (w .cpus c) m) (beside-one 78 v (omega arith) (omega arith)) refl (record {
-          declared = rw (f 72 (omega arith)) (was .declared);
-          placed = rw (f 73 (omega arith)) (was .placed);
-          running = rw (f 74 (omega arith)) (was .running);
-          own-priority = rw (f 75 (omega arith)) (was .own-priority);
-          is-idle = rw (f 76 (omega arith)) (was .is-idle);
-          must-rebalance = rw (f 77 (omega arith)) (was .must-rebalance);
-          preempt = rw (f 78 (omega arith)) e;
-          draw-state = rw (f 79 (omega arith)) (was .draw-state);
-          rebalance-time = rw (f 80 (omega arith)) (was .rebalance-time);
-          idle-timeslice = rw (f 81 (omega arith)) (was .idle-timeslice);
-        })
+        one-word 78 v (with-preempt (w .cpus c) m) (omega arith) (omega arith) refl refl refl (was .must-rebalance) e (was .draw-state) (was .rebalance-time) (was .idle-timeslice)
 
     pub shows-draws : (v : ℕ) → Shows limits topology known active ts (put-word cs c 79 v) (with-cpu w c (with-draws (w .cpus c) v))
     unfolding with-draws reading-of
     shows-draws v =
-        let f : (i : ℕ) → i < width → now-at 79 v i = λ i k. word-written 79 v i (omega arith) k in
-        shows-beside (put-word cs c 79 v) c (with-draws (w .cpus c) v) (beside-one 79 v (omega arith) (omega arith)) refl (record {
-          declared = rw (f 72 (omega arith)) (was .declared);
-          placed = rw (f 73 (omega arith)) (was .placed);
-          running = rw (f 74 (omega arith)) (was .running);
-          own-priority = rw (f 75 (omega arith)) (was .own-priority);
-          is-idle = rw (f 76 (omega arith)) (was .is-idle);
-          must-rebalance = rw (f 77 (omega arith)) (was .must-rebalance);
-          preempt = rw (f 78 (omega arith)) (was .preempt);
-          draw-state = rw (f 79 (omega arith));
-          rebalance-time = rw (f 80 (omega arith)) (was .rebalance-time);
-          idle-timeslice = rw (f 81 (omega arith)) (was .idle-timeslice);
-        })
+        one-word 79 v (with-draws (w .cpus c) v) (omega arith) (omega arith) refl refl refl (was .must-rebalance) (was .preempt) refl (was .rebalance-time) (was .idle-timeslice)
 
     pub shows-rebalance-time : (v : ℕ) → Shows limits topology known active ts (put-word cs c 80 v) (with-cpu w c (with-rebalance-time (w .cpus c) v))
     unfolding with-rebalance-time reading-of
     shows-rebalance-time v =
-        let f : (i : ℕ) → i < width → now-at 80 v i = λ i k. word-written 80 v i (omega arith) k in
-        shows-beside (put-word cs c 80 v) c (with-rebalance-time (w .cpus c) v) (beside-one 80 v (omega arith) (omega arith)) refl (record {
-          declared = rw (f 72 (omega arith)) (was .declared);
-          placed = rw (f 73 (omega arith)) (was .placed);
-          running = rw (f 74 (omega arith)) (was .running);
-          own-priority = rw (f 75 (omega arith)) (was .own-priority);
-          is-idle = rw (f 76 (omega arith)) (was .is-idle);
-          must-rebalance = rw (f 77 (omega arith)) (was .must-rebalance);
-          preempt = rw (f 78 (omega arith)) (was .preempt);
-          draw-state = rw (f 79 (omega arith)) (was .draw-state);
-          rebalance-time = rw (f 80 (omega arith));
-          idle-timeslice = rw (f 81 (omega arith)) (was .idle-timeslice);
-        })
+        one-word 80 v (with-rebalance-time (w .cpus c) v) (omega arith) (omega arith) refl refl refl (was .must-rebalance) (was .preempt) (was .draw-state) refl (was .idle-timeslice)
 
     -- what the idle thread has paid; the tick of the last hard tick stays
     pub shows-idle-timeslice : (v : ℕ) → Shows limits topology known active ts (put-word cs c 81 v) (with-cpu w c (with-ticks (w .cpus c) (w .cpus c .last-tick) v))
     unfolding with-ticks reading-of
     shows-idle-timeslice v =
-        let f : (i : ℕ) → i < width → now-at 81 v i = λ i k. word-written 81 v i (omega arith) k in
-        shows-beside (put-word cs c 81 v) c (with-ticks (w .cpus c) (w .cpus c .last-tick) v) (beside-one 81 v (omega arith) (omega arith)) refl (record {
-          declared = rw (f 72 (omega arith)) (was .declared);
-          placed = rw (f 73 (omega arith)) (was .placed);
-          running = rw (f 74 (omega arith)) (was .running);
-          own-priority = rw (f 75 (omega arith)) (was .own-priority);
-          is-idle = rw (f 76 (omega arith)) (was .is-idle);
-          must-rebalance = rw (f 77 (omega arith)) (was .must-rebalance);
-          preempt = rw (f 78 (omega arith)) (was .preempt);
-          draw-state = rw (f 79 (omega arith)) (was .draw-state);
-          rebalance-time = rw (f 80 (omega arith)) (was .rebalance-time);
-          idle-timeslice = rw (f 81 (omega arith));
-        })
+        one-word 81 v (with-ticks (w .cpus c) (w .cpus c .last-tick) v) (omega arith) (omega arith) refl refl refl (was .must-rebalance) (was .preempt) (was .draw-state) (was .rebalance-time) refl
+
+-- the same CPUs and threads
+pub shows-alike : {limits : Limits} {topology : Topology} {known active : ℕ → Bool} {ts : List Thread} {cs : List (List ℕ)} (w v : World)
+    → ((c : ℕ) → v .cpus c ≡ w .cpus c) → ((x : ℕ) → v .threads x ≡ w .threads x) → Shows limits topology known active ts cs w → Shows limits topology known active ts cs v
+shows-alike {topology = topology} {cs = cs} w v e f s =
+    shows-words s topology cs 0 v (written-none cs 0 .beside) (λ c. ap reading-of (e c)) f (λ c h. subst (Words-show topology cs c) (sym (e c)) (s .words c h))

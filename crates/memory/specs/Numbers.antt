@@ -1,22 +1,22 @@
 -- WHAT IS READ: each number that the scheduler asks of the words is the rules'. Assumes nothing.
-use Prim.Native.Nat.{ℕ, _+_, _*_, _/_, _%_, _^_, _≤_, _<_}
+use Prim.Native.Nat.{ℕ, _+_, _*_, _%_, _^_, _≤_, _<_}
 use mathlib.Core.Path.{_≡_, refl, sym, ap, _∙_}
 use mathlib.Core.Bool.{Bool, cond, not}
 use mathlib.Core.Option.{Option, none, some}
 use mathlib.Core.List.{List, []}
 use lib.ListN.{getD}
-use lib.Dec.{eqb, ltb}
+use lib.Dec.{eqb}
 use native.Mathlib.Omega.{arith}
-use native.Mathlib.Nat.{mul-le-mul, mod-eq-of-lt, div-le-self}
+use native.Mathlib.Nat.{mul-le-mul}
 use Rattle.rules.specs.declared.PriorityClass.{PriorityClass}
-use Rattle.rules.specs.declared.PriorityClass.the-variants as class
-use Rattle.rules.specs.Line.{both, distinct-length}
+use Rattle.rules.specs.Line.{distinct-length}
 use Rattle.rules.specs.Priority.{from-raw}
 use Rattle.rules.specs.Times.{timeslice, deadline-distance, is-some, pinned}
 use Rattle.rules.specs.Queue.{Queue, order, load, timeshare-load, movable}
 use Rattle.rules.specs.State.{Limits, Topology}
 use Rattle.rules.specs.Schedule.{World, one-unless-idle, current-load, current-priority, is-empty, movable-on}
 use Rattle.thread.specs.declared.Thread.{Thread}
+use Rattle.thread.specs.Thread.{NONE}
 use Rattle.queue.specs.Num.{sum, sum-exact}
 use Rattle.runqueue.specs.RunQueue.{rqEmpty}
 use Rattle.processor.specs.Words.{word}
@@ -25,10 +25,11 @@ use Rattle.processor.specs.Queue.{queueAt, queueIn, queueFrom, builtOf}
 use Rattle.processor.specs.Cpu as cpu
 use Rattle.represent.specs.Linked.{below-has}
 use Rattle.represent.specs.Well.{Well}
-use Rattle.represent.specs.Operations.{empty-is}
+use Rattle.represent.specs.Operations.{empty-is, movable-same, slice-most, deadline-exact}
 use Rattle.represent.specs.Records.{marks}
 use Rattle.memory.specs.Shows.{reading-of, number-or-none, Small, Shows}
-use Rattle.memory.specs.Queues.{movable-same, fits}
+use Rattle.memory.specs.Queues.{fits}
+use borrow.Author.Tests.{ne-eqb}
 
 -- ---- words that are read by themselves
 
@@ -44,22 +45,19 @@ pub word-movable : (cs : List (List ℕ)) (c : ℕ) → word cs c 64 ≡ queueAt
 unfolding word queueAt queueIn queueFrom builtOf
 word-movable cs c = sym (load-at (getD cs c []) 64 8 8 0 (omega arith) (omega arith))
 
--- ---- bounds
+-- the word for none
+pub none-number : (o : Option ℕ) → ((x : ℕ) → o ≡ some x → x < NONE) → eqb (number-or-none o) NONE ≡ not (is-some o)
+unfolding number-or-none is-some
+none-number none h = refl
+none-number (some x) h = let l : x < NONE = h x refl in ne-eqb x NONE (λ e. omega arith)
 
-slice-most : (shortest : ℕ) (c : PriorityClass) (l : ℕ) → shortest ≤ 2147483648 → timeslice shortest c l ≤ 2147483648
-unfolding timeslice
-slice-most shortest class.User l h =
-    both (eqb l 0) (λ e. rw e (omega arith)) (λ e. rw e
-    (both (ltb (32 / l) shortest) (λ f. rw f h) (λ f. rw f (omega (arith, div-le-self 32 l)))))
-slice-most shortest class.Realtime l h = omega arith
-slice-most shortest class.Background l h = omega arith
-slice-most shortest class.Idle l h = omega arith
+-- ---- bounds
 
 -- the sum of a tick and a deadline distance does not wrap
 distance-most : (shortest : ℕ) (c : PriorityClass) (l n : ℕ) → shortest ≤ 2147483648 → n ≤ 2147483648 → deadline-distance shortest c l n ≤ 4611686018427387904
 unfolding deadline-distance
 distance-most shortest c l n h k =
-    let m : timeslice shortest c l * n ≤ 2147483648 * 2147483648 = mul-le-mul (slice-most shortest c l h) k in omega arith
+    let m : timeslice shortest c l * n ≤ 2147483648 * 2147483648 = mul-le-mul (slice-most 2147483648 shortest c l (omega arith) h) k in omega arith
 
 one-more : (n : ℕ) (o : Option ℕ) → n ≤ 2147483648 → cond (is-some o) ((n + 1) % 2 ^ 64) n ≡ n + one-unless-idle o
 unfolding is-some one-unless-idle
@@ -124,12 +122,13 @@ module _ {limits : Limits} {topology : Topology} {known active : ℕ → Bool} {
   pub deadline-shown : (tick : ℕ) (k : PriorityClass) → tick ≤ 4611686018427387904
       → sum tick (deadline-distance (limits .shortest) k (queueAt cs c .«timeshare_load») (queueAt cs c .load) % 2 ^ 64)
       ≡ tick + deadline-distance (limits .shortest) k (timeshare-load (w .cpus c .queue)) (load (w .cpus c .queue))
+  unfolding reading-of
   deadline-shown tick k h =
       let Q : Queue = w .cpus c .queue in
       let d : ℕ = deadline-distance (limits .shortest) k (timeshare-load Q) (load Q) in
       let m : d ≤ 4611686018427387904 = distance-most (limits .shortest) k (timeshare-load Q) (load Q) (small .shortest) (omega (arith, load-most, small .threads)) in
-      ap (λ n. sum tick (n % 2 ^ 64)) (ap (λ l. deadline-distance (limits .shortest) k l (queueAt cs c .load)) timeshare-load-shown ∙ ap (λ l. deadline-distance (limits .shortest) k (timeshare-load Q) l) load-shown)
-      ∙ ap (λ n. sum tick n) (mod-eq-of-lt (omega arith)) ∙ sum-exact tick d (omega arith)
+      ap (sum tick) (deadline-exact (limits .threads) (fits small) (marks ts) (queueAt cs c) (reading-of (w .cpus c)) well (limits .shortest) k (omega (arith, small .shortest)) (omega (arith, small .threads)))
+      ∙ sum-exact tick d (omega arith)
 
   -- what it runs
   pub running-shown : word cs c 74 ≡ number-or-none (w .cpus c .running)

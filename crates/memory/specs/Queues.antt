@@ -5,10 +5,9 @@ use mathlib.Core.Logic.{_≢_}
 use mathlib.Core.Bool.{Bool, true, false, cond, _||_, true≢false, false≢true}
 use mathlib.Core.Option.{Option, none, some}
 use mathlib.Core.List.{List, [], _∷_}
-use lib.ListN.{length, getD, set, length-set}
-use lib.Seq.{getD-set-same, set-out}
-use lib.Dec.{eqb, ltb}
-use borrow.Author.Tests.{eqb-true, eqb-false, eq-eqb, ne-eqb, ltb-true, ltb-false}
+use lib.ListN.{length, set, length-set}
+use lib.Dec.{eqb}
+use borrow.Author.Tests.{eqb-true, eqb-false, eq-eqb, ne-eqb}
 use native.Mathlib.Omega.{arith}
 use Rattle.rules.specs.declared.Part.{Part}
 use Rattle.rules.specs.declared.Part.the-variants as part
@@ -17,12 +16,13 @@ use Rattle.rules.specs.Times as times
 use Rattle.rules.specs.Times.{pinned, effective-priority, steadied}
 use Rattle.rules.specs.declared.Priority.{Priority}
 use Rattle.rules.specs.Puts.{PutOrTake, a-take}
-use Rattle.rules.specs.Queue.{Queue, order, timeshare-line, movable, highest-value, said-timeshare, said-after-take, Next, nobody, next-in, asked, leave, insert, is-timeshare, part-of, part-for, said-after-put}
+use Rattle.rules.specs.Queue.{Queue, order, timeshare-line, highest-value, said-timeshare, said-after-take, Next, nobody, next-in, asked, leave, insert, is-timeshare, part-of, part-for, said-after-put}
 use Rattle.rules.specs.State.{at, Limits, Topology, Cpu}
 use Rattle.rules.specs.Schedule.{World, Got, with-cpu, with-thread, with-queue, noted, pinned-in, arrival, insert-thread, take-thread, handed-out}
 use Rattle.rules.specs.Sound.{at-here, at-there, Under, waits, New, Sound, take-taken}
 use Rattle.rules.specs.Sound as sound
 use Rattle.rules.specs.Kept.{asked-head}
+use Rattle.rules.specs.Held.{has-head}
 use Rattle.thread.specs.declared.Thread.{Thread}
 use Rattle.thread.specs.declared.place.Place.the-variants as place
 use Rattle.thread.specs.Reads.{reads}
@@ -34,53 +34,31 @@ use Rattle.runqueue.specs.declared.rq.Arrival.{Arrival}
 use Rattle.runqueue.specs.declared.rq.Front.{Front}
 use Rattle.runqueue.specs.declared.rq.Front.the-variants as front
 use Rattle.runqueue.specs.RunQueue.{rqFront, rqInsert, rqInsertInto, rqInsertRealtime, rqInsertTimeshare, rqInsertIdle}
-use Rattle.processor.specs.Words.{word}
-use Rattle.processor.specs.Window.{length-place}
-use Rattle.processor.specs.Queue.{queueAt, queueStored, queueInto, storedFrom, length-lists, queue-elsewhere, word-after-store}
+use Rattle.processor.specs.Queue.{queueAt, queueStored, word-after-store, row-length-store}
 use Rattle.represent.specs.Well.{Reading, Well, put-reading, as-arrival, take-reading}
-use Rattle.represent.specs.Linked.{has-first, has-later}
-use Rattle.represent.specs.Operations.{put-has, in-ts}
+use Rattle.represent.specs.Linked.{has-later}
+use Rattle.represent.specs.Operations.{put-has, in-ts, movable-same}
 use Rattle.lent.specs.declared.rq.Taken.{Taken}
 use Rattle.lent.specs.declared.rq.Taken.the-variants as taken
 use Rattle.lent.specs.Rq.{recordAt, arrivalOf, steadyIn, putIn, linkBehind, putOf, insertDef, leftBy, Took, tookFrom, takeDef}
 use Rattle.represent.specs.Records.{marks, read-set, length-put}
 use Rattle.represent.specs.System.{Good, arriving, put-law, Taken-as, take-law}
 use Rattle.memory.specs.Shows.{reading-of, Words-show, place-at, Places, Small, Shows}
-use Rattle.memory.specs.Frames.{kept, words-same, at-map, places-same, in-records}
+use Rattle.memory.specs.Frames.{kept, words-same, at-map, in-records, shows-alike, words-alike}
 
 pub fits : {limits : Limits} → Small limits → limits .threads ≤ NONE
 fits small = omega (arith, small .threads)
 
 -- ---- a queue is stored
 
-row-stored : (cs : List (List ℕ)) (c d : ℕ) (q : RunQueue) → length (getD (queueStored cs c q) d []) ≡ length (getD cs d [])
-unfolding queueStored queueInto storedFrom
-row-stored cs c d q =
-    both (eqb d c)
-    (λ e. both (ltb c (length cs))
-    (λ l. rw (eqb-true d c e, getD-set-same cs c (storedFrom (getD cs c []) 0 q) [] (ltb-true _ _ l)) (simp (length-place, length-lists)))
-    (λ l. rw (set-out cs c (storedFrom (getD cs c []) 0 q) (ltb-false _ _ l))))
-    (λ e. unfold queueStored queueInto in rw (queue-elsewhere cs c d q (eqb-false d c e)))
-
 -- what the words of a CPU show beside its queue stays
 pub words-stored : {topology : Topology} (cs : List (List ℕ)) (c d : ℕ) (q : RunQueue) (p : Cpu) → Words-show topology cs d p → Words-show topology (queueStored cs c q) d p
-words-stored cs c d q p s = words-same cs (queueStored cs c q) d p (λ u h l. word-after-store cs c d q u (omega arith)) s
+words-stored cs c d q p s = words-same (λ u h l. word-after-store cs c d q u (omega arith)) s
 
 -- a CPU with another queue has the same other fields
 pub words-queue : {topology : Topology} (cs : List (List ℕ)) (c : ℕ) (p : Cpu) (q : Queue) (said : _) → Words-show topology cs c p → Words-show topology cs c (with-queue p q said)
 unfolding with-queue
-words-queue cs c p q said s = record {
-  declared = s .declared;
-  placed = s .placed;
-  running = s .running;
-  own-priority = s .own-priority;
-  is-idle = s .is-idle;
-  must-rebalance = s .must-rebalance;
-  preempt = s .preempt;
-  draw-state = s .draw-state;
-  rebalance-time = s .rebalance-time;
-  idle-timeslice = s .idle-timeslice;
-}
+words-queue cs c p q said s = words-alike p (with-queue p q said) refl refl refl refl refl refl refl refl refl s
 
 -- the queue of one CPU is stored, and with it records may have changed
 module _ {limits : Limits} {topology : Topology} {known active : ℕ → Bool} {ts : List Thread} {cs : List (List ℕ)} {w : World} (s : Shows limits topology known active ts cs w) where
@@ -93,7 +71,7 @@ module _ {limits : Limits} {topology : Topology} {known active : ℕ → Bool} {
     queues = subst (λ (Rs : ℕ → Reading). Good (limits .threads) (limits .cpus) ts′ (queueStored cs c q) Rs)
         (λ i d. (at-map reading-of (w .cpus) c p d ∙ ap (λ (f : ℕ → Cpu). reading-of (f d)) (sym e)) i) g;
     none-past = rw n (s .none-past);
-    rows = λ d h. row-stored cs c d q ∙ s .rows d h;
+    rows = λ d h. row-length-store cs c d q ∙ s .rows d h;
     threads = t;
     queue-cpus = u;
     words = λ d h. subst (λ (f : ℕ → Cpu). Words-show topology (queueStored cs c q) d (f d)) (sym e) (both (eqb d c)
@@ -234,15 +212,10 @@ module _ (limits : Limits) (topology : Topology) (tick us : ℕ) (known : ℕ �
 -- ---- what a take asks of the records
 
 -- only of those who wait
-pub movable-same : (f g : ℕ → Bool) (l : List ℕ) → ((z : ℕ) → has z l ≡ true → f z ≡ g z) → movable f l ≡ movable g l
-unfolding movable
-movable-same f g [] h = refl
-movable-same f g (x ∷ l) h = rw (h x (has-first x l), movable-same f g l (λ z k. h z (has-later z x l k)))
-
 highest-same : (f g : ℕ → ℕ) (l : List ℕ) → ((z : ℕ) → has z l ≡ true → f z ≡ g z) → highest-value f l ≡ highest-value g l
 unfolding highest-value
 highest-same f g [] h = refl
-highest-same f g (x ∷ l) h = rw (h x (has-first x l), highest-same f g l (λ z k. h z (has-later z x l k)))
+highest-same f g (x ∷ l) h = rw (h x (has-head x l), highest-same f g l (λ z k. h z (has-later z x l k)))
 
 asked-same : (f g : ℕ → Bool) (Q : Queue) (stealing : Bool) → ((z : ℕ) → has z (order Q) ≡ true → f z ≡ g z) → asked f Q stealing ≡ asked g Q stealing
 unfolding asked
@@ -371,7 +344,7 @@ module _ (limits : Limits) (topology : Topology) (tick us : ℕ) (known : ℕ �
       unfolding tookFrom handed-out active-with as-taken noted
       none-shows = record {
         answer = refl;
-        left = record { queues = s .queues; none-past = s .none-past; rows = s .rows; threads = s .threads; queue-cpus = s .queue-cpus; words = s .words; places = places-same w (noted w c (a-take stealing none)) (λ d x. refl) (s .places) };
+        left = shows-alike w (noted w c (a-take stealing none)) (λ d. refl) (λ x. refl) s;
       }
 
       go : (f : Front) (n : Next) → asked (pinned-in w) Q stealing ≡ n → Taken-as (limits .threads) (limits .cpus) ts cs (λ d. reading-of (w .cpus d)) c (tookFrom ts cs c f) n

@@ -38,18 +38,21 @@ number-or-none (some x) = x
 unfoldable pub mark-in : ℕ → Bool
 mark-in n = not (eqb n 0)
 
--- Its words beside those of the run queue, by the numbers that they have in processor's words.rt: of the first two the topology speaks.
-pub record Words-show (topology : Topology) (cs : List (List ℕ)) (c : ℕ) (p : Cpu) : Type 0 where
-  pub declared : mark-in (word cs c 72) ≡ topology .declared c
-  pub placed : word cs c 73 ≡ number-or-none (topology .placed c)
-  pub running : word cs c 74 ≡ number-or-none (p .running)
-  pub own-priority : from-raw (word cs c 75) ≡ p .own-priority
-  pub is-idle : eqb (word cs c 76) 0 ≡ is-some (p .running)
-  pub must-rebalance : mark-in (word cs c 77) ≡ p .must-rebalance
-  pub preempt : mark-in (word cs c 78) ≡ p .preempt
-  pub draw-state : word cs c 79 ≡ p .draw-state
-  pub rebalance-time : word cs c 80 ≡ p .rebalance-time
-  pub idle-timeslice : word cs c 81 ≡ p .idle-timeslice
+-- Its words beside those of the run queue, said by the numbers that they have in processor's words.rt: of the first two the topology speaks.
+pub record Words-say (topology : Topology) (c : ℕ) (said : ℕ → ℕ) (p : Cpu) : Type 0 where
+  pub declared : mark-in (said 72) ≡ topology .declared c
+  pub placed : said 73 ≡ number-or-none (topology .placed c)
+  pub running : said 74 ≡ number-or-none (p .running)
+  pub own-priority : from-raw (said 75) ≡ p .own-priority
+  pub is-idle : eqb (said 76) 0 ≡ is-some (p .running)
+  pub must-rebalance : mark-in (said 77) ≡ p .must-rebalance
+  pub preempt : mark-in (said 78) ≡ p .preempt
+  pub draw-state : said 79 ≡ p .draw-state
+  pub rebalance-time : said 80 ≡ p .rebalance-time
+  pub idle-timeslice : said 81 ≡ p .idle-timeslice
+
+abbrev pub Words-show : Topology → List (List ℕ) → ℕ → Cpu → Type 0
+Words-show topology cs c p = Words-say topology c (word cs c) p
 
 -- ---- the places of threads
 

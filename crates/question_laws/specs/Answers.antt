@@ -2,13 +2,13 @@
 -- is that of the rules. Assumes nothing.
 use Prim.Native.Nat.{ℕ, zero, suc, min, _<_}
 use mathlib.Core.Path.{_≡_, refl, sym, ap, _∙_}
-use mathlib.Core.Bool.{Bool, true, false, not, _&&_, _||_, true≢false, false≢true}
+use mathlib.Core.Bool.{Bool, true, false, not, _&&_, _||_, true≢false, Bool·not-not, or-true}
 use mathlib.Core.Option.{Option, none, some}
 use mathlib.Core.List.{List, [], _∷_, _++_}
 use native.Mathlib.Omega.{arith}
 use lib.ListN.{length}
 use lib.Dec.{eqb, ltb, leb}
-use borrow.Author.Tests.{ne-eqb, lt-ltb, lt-leb, ltb-true, ltb-false}
+use borrow.Author.Tests.{ne-eqb, lt-ltb, lt-leb, ltb-true}
 use Rattle.rules.specs.Line.{has, both}
 use Rattle.rules.specs.Times.{is-some}
 use Rattle.rules.specs.Queue.{order}
@@ -29,8 +29,9 @@ use Rattle.thread.specs.Thread.{NONE, BLOCKED, RUNNING, WAITING}
 use Rattle.thread.specs.Place.{place-in, is-declared}
 use Rattle.processor.specs.Words.{word}
 use Rattle.lent.specs.Rq.{recordAt}
-use Rattle.memory.specs.Shows.{number-or-none, mark-in, place-at}
-use Rattle.tree.specs.Lists.{any-true, any-none}
+use Rattle.memory.specs.Shows.{mark-in, place-at}
+use Rattle.memory.specs.Numbers.{none-number}
+use Rattle.tree.specs.Lists.{any-true, any-none, any-at}
 use Rattle.tree.specs.Tree.{own-same}
 use Rattle.request.specs.Request.{limits-of}
 use Rattle.questions.specs.declared.state.State.{State}
@@ -72,15 +73,6 @@ unfolding mark-in
 zero-test zero = refl
 zero-test (suc n) = rw (lt-leb (suc n) 0 (omega arith), ne-eqb (suc n) 0 (λ e. omega arith))
 
-none-test : (o : Option ℕ) → ((x : ℕ) → o ≡ some x → x < NONE) → eqb (number-or-none o) NONE ≡ not (is-some o)
-unfolding number-or-none is-some
-none-test none h = refl
-none-test (some x) h = let l : x < NONE = h x refl in ne-eqb x NONE (λ e. omega arith)
-
-not-not : (b : Bool) → not (not b) ≡ b
-not-not true = refl
-not-not false = refl
-
 pub all-same : (n : ℕ) (f g : ℕ → Bool) → ((c : ℕ) → c < n → f c ≡ g c) → all-below n f ≡ all-below n g
 unfolding all-below
 all-same zero f g h = refl
@@ -90,17 +82,6 @@ all-same (suc n) f g h = rw (all-same n f g (λ c l. h c (omega arith)), h n (om
 first-then : (p q : Question) (l m : List Question) → p ≡ q → (q .answer ≡ true → first-no l ≡ first-no m) → first-no (p ∷ l) ≡ first-no (q ∷ m)
 unfolding first-no
 first-then p q l m e f = rw e (both (q .answer) (λ t. rw t (f t)) (λ t. rw t))
-
-any-at {ℓ} : {A : Type ℓ} (n : ℕ) (f : ℕ → Bool) → any-below n f ≡ true → ((c : ℕ) → c < n → f c ≡ true → A) → A
-unfolding any-below
-any-at zero f e k = absurd (false≢true e)
-any-at (suc n) f e k =
-    both (any-below n f) (λ t. any-at n f t (λ c h u. k c (omega arith) u))
-    (λ t. k n (omega arith) (rw t at e))
-
-or-right : (b : Bool) → (b || true) ≡ true
-or-right true = refl
-or-right false = refl
 
 unfoldable is-blocked : Place → Bool
 is-blocked place.Undeclared = false
@@ -178,7 +159,7 @@ module _ {H : ℕ → List PutOrTake} {ts : List Thread} {cs ns : List (List ℕ
   unfolding nr-nodes
   unplaced-word c h =
       rw (m .shows .words c h .placed)
-      (none-test (s .topology .placed c)
+      (none-number (s .topology .placed c)
       (λ x e. let l : x < length (s .topology .nodes) = m .tree .sound .placed-there c x e .1 .0 in omega (arith, m .nodes-fit, m .few-nodes)))
 
   pub declared-same : (c : ℕ) → ask.declared cs a c ≡ rules-ask.declared s c
@@ -234,7 +215,7 @@ module _ {H : ℕ → List PutOrTake} {ts : List Thread} {cs ns : List (List ℕ
       (λ c h t. rw (m .shows .places .running x r, any-true n (λ d. runs-on s d x || waits-on s d x) c h (rw t)) (refl, refl)))
       (λ r. both (any-below n (λ c. waits-on s c x))
       (λ w. any-at n (λ c. waits-on s c x) w
-      (λ c h t. rw (waiting-place x c t, any-true n (λ d. runs-on s d x || waits-on s d x) c h (rw t (or-right (runs-on s c x)))) (refl, refl)))
+      (λ c h t. rw (waiting-place x c t, any-true n (λ d. runs-on s d x || waits-on s d x) c h (rw t (or-true (runs-on s c x)))) (refl, refl)))
       (λ w.
       rw (
         m .shows .places .blocked x (reached .numbered x k) k r (idle-free x w),
@@ -274,7 +255,7 @@ module _ {H : ℕ → List PutOrTake} {ts : List Thread} {cs ns : List (List ℕ
 
   pub childless-same : (n : ℕ) → n < length (s .topology .nodes) → ask.node-childless ns n ≡ rules-ask.node-childless s n
   unfolding ask.node-childless rules-ask.node-childless nr-nodes
-  childless-same n h = ap (question 6) (ap not (m .tree .children-is n h) ∙ not-not (leaf (s .limits) (s .topology) n))
+  childless-same n h = ap (question 6) (ap not (m .tree .children-is n h) ∙ Bool·not-not (leaf (s .limits) (s .topology) n))
 
   -- 8
   pub tick-fits-same : (t : ℕ) → ask.tick-fits a t ≡ rules-ask.tick-fits s t
@@ -285,7 +266,7 @@ module _ {H : ℕ → List PutOrTake} {ts : List Thread} {cs ns : List (List ℕ
   pub placed-if-declared-same : (c : ℕ) → c < s .limits .cpus → ask.placed-if-declared cs c ≡ rules-ask.placed-if-declared s c
   unfolding ask.placed-if-declared rules-ask.placed-if-declared
   placed-if-declared-same c h =
-      rw (mark-test (word cs c 72), declared-word c h, unplaced-word c h, not-not (is-some (s .topology .placed c)))
+      rw (mark-test (word cs c 72), declared-word c h, unplaced-word c h, Bool·not-not (is-some (s .topology .placed c)))
       (both (s .topology .declared c) (λ e. rw e) (λ e. rw e))
 
   pub all-placed-same : ask.all-placed cs a ≡ rules-ask.all-placed s

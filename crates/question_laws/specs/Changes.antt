@@ -8,44 +8,44 @@ use mathlib.Core.List.{List, [], _∷_, _++_}
 use native.Mathlib.Omega.{arith}
 use lib.ListN.{length, set, length-set, length-append}
 use lib.Dec.{eqb, ltb, leb}
-use borrow.Author.Tests.{eqb-true, eqb-false, eq-eqb, ne-eqb, leb-true, ltb-true, not-true}
+use borrow.Author.Tests.{eqb-true, eqb-false, ne-eqb, leb-true, ltb-true, not-true}
 use Rattle.rules.specs.Line.{both}
 use Rattle.rules.specs.Priority.{nr-values, priority, class-at}
 use Rattle.rules.specs.Times as times
 use Rattle.rules.specs.Times.{is-some, pinned, donated-to, critical-at}
 use Rattle.rules.specs.Puts.{PutOrTake}
 use Rattle.rules.specs.State as rules
-use Rattle.rules.specs.State.{at, Limits, Topology, Cpu, is-number, runs-on, new-thread}
+use Rattle.rules.specs.State.{at, Limits, Topology, is-number, runs-on, new-thread}
 use Rattle.rules.specs.Topology.{nr-nodes}
 use Rattle.rules.specs.Schedule.{World, with-thread}
 use Rattle.rules.specs.Requests.{declare-cpu, add-node, place-cpu, seal, declare-thread, set-tick, remove-donation, set-critical, asks}
-use Rattle.rules.specs.Questions.{Question, question, first-no, refusal, concerning, open-yet, sealed-now, declared, cpu-declared, cpu-new, cpu-unplaced, pin-declared, thread-declared, thread-new, priority-in-range, at-most, node-exists, parent-without-cpus, node-fits, node-childless, tick-fits}
+use Rattle.rules.specs.Questions.{Question, first-no, refusal, concerning, open-yet, sealed-now, declared, cpu-declared, cpu-new, cpu-unplaced, pin-declared, thread-declared, thread-new, priority-in-range, at-most, node-exists, parent-without-cpus, node-fits, node-childless, tick-fits}
 use Rattle.rules.specs.Commands.{no-log, changed, world-of, with-cpu-declared, with-node, with-placed, obeys}
 use Rattle.rules.specs.Effect.{and-left, and-right}
 use Rattle.rules.specs.Sound.{Under, Free, waits, at-here, at-there}
 use Rattle.rules.specs.Reached.{Reached, yes}
 use Rattle.thread.specs.declared.Thread.{Thread}
 use Rattle.thread.specs.declared.place.Place.the-variants as place
-use Rattle.thread.specs.Thread.{NONE, BLOCKED, with-donated, with-critical}
-use Rattle.thread.specs.Priority.{remove-donated-priority, reads-removed}
+use Rattle.thread.specs.Thread.{NONE, BLOCKED, with-critical}
+use Rattle.thread.specs.Priority.{remove-donated-priority}
 use Rattle.thread.specs.Time.{field-of, named-field, named-none}
 use Rattle.thread.specs.Reads.{reads, named, cpu-in}
-use Rattle.thread.specs.Place.{place-in, new, reads-new, reads-critical, critical-mark}
+use Rattle.thread.specs.Place.{place-in, new, reads-new, critical-mark}
 use Rattle.processor.specs.Words.{width, word, put-word, word-put-other}
 use Rattle.nodes.specs.Node.{put-node, linked, add-child, put-cpu, set-cpu-up, set-cpu, length-put-cpu}
 use Rattle.nodes.specs.Words.{length-put as length-node}
-use Rattle.thread.specs.Flags.{has-donated-priority}
 use Rattle.lent.specs.Rq.{recordAt}
 use Rattle.represent.specs.Records.{marks, read-set}
 use Rattle.represent.specs.System.{good-frame}
 use Rattle.memory.specs.Shows.{reading-of, number-or-none, mark-in, Words-show, place-at, Shows}
-use Rattle.memory.specs.Frames.{Beside, beside-put, word-here, in-records, in-rows, shows-fields}
+use Rattle.memory.specs.Frames.{beside-put, word-here, in-records, in-rows, words-same, words-alike, written-none, shows-words, shows-removed, shows-critical}
 use Rattle.tree.specs.Lists.{any-none}
 use Rattle.tree.specs.Tree.{Tree, number-is}
 use Rattle.tree.specs.Grown.{tree-child}
 use Rattle.tree.specs.Placed.{tree-declared, tree-placed}
 use Rattle.questions.specs.declared.state.State.{State}
 use Rattle.question_laws.specs.Stands.{limits-in, runs, Stands}
+use Rattle.command.specs.Call.{pin-number}
 
 -- The state by value after a command: the limits stay, and one command more is accepted.
 pub record Counted (a b : State) (sealed : Bool) (tick node-count : ℕ) : Type 0 where
@@ -54,11 +54,6 @@ pub record Counted (a b : State) (sealed : Bool) (tick node-count : ℕ) : Type 
   pub tick-is : b .tick ≡ tick
   pub count-is : b .«node_count» ≡ node-count
   pub accepted-is : b .accepted ≡ a .accepted + 1
-
--- the number of a pin, NONE for none
-unfoldable pub pin-of : Option ℕ → ℕ
-pin-of none = NONE
-pin-of (some c) = c
 
 -- ---- questions answered yes
 
@@ -79,107 +74,54 @@ length-placed zero ns n c = refl
 length-placed (suc k) ns n c =
     both (eqb n 0) (λ e. rw e (length-put-cpu ns n c)) (λ e. rw e (length-placed k (put-cpu ns n c) _ c ∙ length-put-cpu ns n c))
 
-removed-next : (t : Thread) → remove-donated-priority t .next ≡ t .next
-unfolding remove-donated-priority with-donated
-removed-next t = both (has-donated-priority (t .flags)) (λ e. rw e) (λ e. rw e)
-
-removed-place : (t : Thread) → remove-donated-priority t .place ≡ t .place
-unfolding remove-donated-priority with-donated
-removed-place t = both (has-donated-priority (t .flags)) (λ e. rw e) (λ e. rw e)
-
--- ---- the words of the CPUs under another topology
-
-words-topology : (t u : Topology) (cs : List (List ℕ)) (c : ℕ) (p : Cpu) → u .declared c ≡ t .declared c → u .placed c ≡ t .placed c → Words-show t cs c p → Words-show u cs c p
-words-topology t u cs c p d l s = record {
-  declared = s .declared ∙ sym d;
-  placed = s .placed ∙ ap number-or-none (sym l);
-  running = s .running;
-  own-priority = s .own-priority;
-  is-idle = s .is-idle;
-  must-rebalance = s .must-rebalance;
-  preempt = s .preempt;
-  draw-state = s .draw-state;
-  rebalance-time = s .rebalance-time;
-  idle-timeslice = s .idle-timeslice;
-}
-
 module _ {limits : Limits} {topology : Topology} {known active : ℕ → Bool} {ts : List Thread} {cs : List (List ℕ)} {w : World} (s : Shows limits topology known active ts cs w) where
-  -- the words of the CPUs under another topology
-  shows-topology : (u : Topology) → ((c : ℕ) → c < limits .cpus → Words-show u cs c (w .cpus c)) → Shows limits u known active ts cs w
-  shows-topology u k = record {
-    queues = s .queues;
-    none-past = s .none-past;
-    rows = s .rows;
-    threads = s .threads;
-    queue-cpus = s .queue-cpus;
-    words = k;
-    places = s .places;
-  }
-
-  -- with words of one CPU that are none of its queue's written
-  shows-written : (u : Topology) (cs′ : List (List ℕ)) (c : ℕ) → Beside cs cs′ c → ((d : ℕ) → d < limits .cpus → Words-show u cs′ d (w .cpus d)) → Shows limits u known active ts cs′ w
-  shows-written u cs′ c b k = record {
-    queues = good-frame (limits .threads) (limits .cpus) ts cs (λ d. reading-of (w .cpus d)) (s .queues) ts cs′ (s .queues .records) (rw (b .as-many) (s .queues .cpus))
-        (λ d h. rw (b .as-long d) (s .queues .rows d h)) (λ d h. record { links = λ z a. refl; pins = λ z a. refl; values = λ z a. refl }) (λ d h. b .queue d);
-    none-past = s .none-past;
-    rows = λ d h. b .as-long d ∙ s .rows d h;
-    threads = s .threads;
-    queue-cpus = s .queue-cpus;
-    words = k;
-    places = s .places;
-  }
-
   module _ (c : ℕ) (near : c < limits .cpus) where
-    word-else : (u v d i : ℕ) → u < width → i < width → (i ≡ u → ⊥) → word (put-word cs c u v) d i ≡ word cs d i
-    word-else u v d i h l n = word-put-other cs c d u i v (λ r e. n (omega arith))
-
-    word-at : (u v d : ℕ) → u < width → word (put-word cs c u v) d u ≡ cond (eqb d c) v (word cs d u)
-    word-at u v d h =
+    -- the words of CPU d once word u of CPU c is v
+    word-now : (u v d i : ℕ) → u < width → i < width → word (put-word cs c u v) d i ≡ cond (eqb i u) (cond (eqb d c) v (word cs d u)) (word cs d i)
+    word-now u v d i h l =
         both (eqb d c)
-        (λ e. rw (e, eqb-true d c e) (word-here cs c u u v (in-rows s c near) (s .rows c near) h h ∙ rw (eq-eqb u u refl)))
-        (λ e. rw e (word-put-other cs c d u u v (λ r q. eqb-false d c e q)))
+        (λ e. rw (e, eqb-true d c e) (word-here cs c u i v (in-rows s c near) (s .rows c near) h l))
+        (λ e. rw (e, word-put-other cs c d u i v (λ r q. eqb-false d c e q)) (both (eqb i u) (λ q. rw (q, eqb-true i u q)) (λ q. rw q)))
 
     declared-words : (d : ℕ) → d < limits .cpus → Words-show (with-cpu-declared topology c) (put-word cs c 72 1) d (w .cpus d)
     unfolding with-cpu-declared at mark-in
     declared-words d h =
-        let f : (i : ℕ) → i < width → (i ≡ 72 → ⊥) → word (put-word cs c 72 1) d i ≡ word cs d i = λ i l n. word-else 72 1 d i (omega arith) l n in
         let was : Words-show topology cs d (w .cpus d) = s .words d h in
-        record {
-          declared = rw (word-at 72 1 d (omega arith)) (both (eqb d c) (λ e. rw e) (λ e. rw e (was .declared)));
-          placed = rw (f 73 (omega arith) (λ e. omega arith)) (was .placed);
-          running = rw (f 74 (omega arith) (λ e. omega arith)) (was .running);
-          own-priority = rw (f 75 (omega arith) (λ e. omega arith)) (was .own-priority);
-          is-idle = rw (f 76 (omega arith) (λ e. omega arith)) (was .is-idle);
-          must-rebalance = rw (f 77 (omega arith) (λ e. omega arith)) (was .must-rebalance);
-          preempt = rw (f 78 (omega arith) (λ e. omega arith)) (was .preempt);
-          draw-state = rw (f 79 (omega arith) (λ e. omega arith)) (was .draw-state);
-          rebalance-time = rw (f 80 (omega arith) (λ e. omega arith)) (was .rebalance-time);
-          idle-timeslice = rw (f 81 (omega arith) (λ e. omega arith)) (was .idle-timeslice);
-        }
+        words-same (λ i k l. word-now 72 1 d i (omega arith) l) (record {
+          declared = both (eqb d c) (λ e. rw e) (λ e. rw e (was .declared));
+          placed = was .placed;
+          running = was .running;
+          own-priority = was .own-priority;
+          is-idle = was .is-idle;
+          must-rebalance = was .must-rebalance;
+          preempt = was .preempt;
+          draw-state = was .draw-state;
+          rebalance-time = was .rebalance-time;
+          idle-timeslice = was .idle-timeslice;
+        })
 
     placed-words : (n d : ℕ) → d < limits .cpus → Words-show (with-placed topology n c) (put-word cs c 73 n) d (w .cpus d)
     unfolding with-placed at number-or-none
     placed-words n d h =
-        let f : (i : ℕ) → i < width → (i ≡ 73 → ⊥) → word (put-word cs c 73 n) d i ≡ word cs d i = λ i l m. word-else 73 n d i (omega arith) l m in
         let was : Words-show topology cs d (w .cpus d) = s .words d h in
-        record {
-          declared = rw (f 72 (omega arith) (λ e. omega arith)) (was .declared);
-          placed = rw (word-at 73 n d (omega arith)) (both (eqb d c) (λ e. rw e) (λ e. rw e (was .placed)));
-          running = rw (f 74 (omega arith) (λ e. omega arith)) (was .running);
-          own-priority = rw (f 75 (omega arith) (λ e. omega arith)) (was .own-priority);
-          is-idle = rw (f 76 (omega arith) (λ e. omega arith)) (was .is-idle);
-          must-rebalance = rw (f 77 (omega arith) (λ e. omega arith)) (was .must-rebalance);
-          preempt = rw (f 78 (omega arith) (λ e. omega arith)) (was .preempt);
-          draw-state = rw (f 79 (omega arith) (λ e. omega arith)) (was .draw-state);
-          rebalance-time = rw (f 80 (omega arith) (λ e. omega arith)) (was .rebalance-time);
-          idle-timeslice = rw (f 81 (omega arith) (λ e. omega arith)) (was .idle-timeslice);
-        }
+        words-same (λ i k l. word-now 73 n d i (omega arith) l) (record {
+          declared = was .declared;
+          placed = both (eqb d c) (λ e. rw e) (λ e. rw e (was .placed));
+          running = was .running;
+          own-priority = was .own-priority;
+          is-idle = was .is-idle;
+          must-rebalance = was .must-rebalance;
+          preempt = was .preempt;
+          draw-state = was .draw-state;
+          rebalance-time = was .rebalance-time;
+          idle-timeslice = was .idle-timeslice;
+        })
 
     shows-declared : Shows limits (with-cpu-declared topology c) known active ts (put-word cs c 72 1) w
-    shows-declared = shows-written _ _ c (beside-put cs c 72 1 (in-rows s c near) (omega arith) (omega arith)) declared-words
+    shows-declared = shows-words s _ _ c w (beside-put cs c 72 1 (in-rows s c near) (omega arith) (omega arith)) (λ d. refl) (λ x. refl) declared-words
 
     shows-placed : (n : ℕ) → Shows limits (with-placed topology n c) known active ts (put-word cs c 73 n) w
-    shows-placed n = shows-written _ _ c (beside-put cs c 73 n (in-rows s c near) (omega arith) (omega arith)) (placed-words n)
+    shows-placed n = shows-words s _ _ c w (beside-put cs c 73 n (in-rows s c near) (omega arith) (omega arith)) (λ d. refl) (λ x. refl) (placed-words n)
 
   -- the record of a thread that is not known, and so neither runs nor waits, is written as that of one declared
   shows-new : (x : ℕ) (t : Thread) (u : times.Thread) → x < limits .threads → Free w x → active x ≡ false → reads t ≡ u → u .queue-cpu ≡ none → t .place ≡ BLOCKED
@@ -217,10 +159,13 @@ module _ {limits : Limits} {topology : Topology} {known active : ℕ → Bool} {
 -- ---- memory that stands for a state
 
 module _ {H : ℕ → List PutOrTake} {ts : List Thread} {cs ns : List (List ℕ)} {a : State} {s : rules.State} (m : Stands ts cs ns a s) (reached : Reached H s) where
+  abbrev world-with : (ℕ → times.Thread) → World
+  world-with threads = record { cpus = s .cpus; threads = threads; log = no-log; wakeups = 0 }
+
   -- what a command leaves that changes the topology, the seal, the tick or the threads
   stands-changed : (ts′ : List Thread) (cs′ ns′ : List (List ℕ)) (b : State) (topology : Topology) (sealed : Bool) (tick : ℕ) (known : ℕ → Bool) (threads : ℕ → times.Thread)
       → Counted a b sealed tick (length (topology .nodes)) → Tree (s .limits) ns′ topology → s .limits .nodes ≤ length ns′
-      → Shows (s .limits) topology known (runs s) ts′ cs′ (record { cpus = s .cpus; threads = threads; log = no-log; wakeups = 0 })
+      → Shows (s .limits) topology known (runs s) ts′ cs′ (world-with threads)
       → length (topology .nodes) ≤ s .limits .nodes → tick ≤ 2 ^ 62
       → Stands ts′ cs′ ns′ b (changed s topology sealed tick known threads .state)
   unfolding changed world-of runs runs-on
@@ -239,7 +184,7 @@ module _ {H : ℕ → List PutOrTake} {ts : List Thread} {cs ns : List (List ℕ
     tick-fits = k;
   }
 
-  shows-now : Shows (s .limits) (s .topology) (s .known) (runs s) ts cs (record { cpus = s .cpus; threads = s .threads; log = no-log; wakeups = 0 })
+  shows-now : Shows (s .limits) (s .topology) (s .known) (runs s) ts cs (world-with (s .threads))
   unfolding world-of
   shows-now = m .shows
 
@@ -270,7 +215,7 @@ module _ {H : ℕ → List PutOrTake} {ts : List Thread} {cs ns : List (List ℕ
       subst (λ (i : ℕ). Stands ts cs (add-child ns i p k) b (obeys s (add-node p k) .state)) (sym (m .node-count))
       (stands-changed ts cs (add-child ns (length (s .topology .nodes)) p k) b (with-node (s .topology) p k) (s .sealed) (s .tick) (s .known) (s .threads)
       (subst (Counted a b (s .sealed) (s .tick)) (sym one-more) n) tree (rw (length-child ns (length (s .topology .nodes)) p k) (m .rows))
-      (shows-topology shows-now (with-node (s .topology) p k) (λ c h. words-topology (s .topology) (with-node (s .topology) p k) cs c (s .cpus c) refl refl (shows-now .words c h)))
+      (shows-words shows-now (with-node (s .topology) p k) cs 0 _ (written-none cs 0 .beside) (λ d. refl) (λ x. refl) (λ c h. words-alike (s .cpus c) (s .cpus c) refl refl refl refl refl refl refl refl refl (shows-now .words c h)))
       (omega (arith, one-more)) (m .tick-fits))
 
   -- 03
@@ -303,36 +248,33 @@ module _ {H : ℕ → List PutOrTake} {ts : List Thread} {cs ns : List (List ℕ
       let most : t ≤ 2 ^ 62 = leb-true _ _ (and-right (leb (s .tick) t) (leb t (2 ^ 62)) (fits .0)) in
       stands-changed ts cs ns b (s .topology) (s .sealed) t (s .known) (s .threads) n (m .tree) (m .rows) shows-now (m .nodes-fit) most
 
-  -- fields of a record that no queue asks for
-  stands-fields : (x : ℕ) (t : Thread) (u : times.Thread) (b : State) → Counted a b (s .sealed) (s .tick) (length (s .topology .nodes)) → x < s .limits .threads → reads t ≡ u
-      → t .next ≡ recordAt ts x .next → t .place ≡ recordAt ts x .place → pinned u ≡ pinned (s .threads x) → u .stable .value ≡ s .threads x .stable .value
-      → u .queue-cpu ≡ s .threads x .queue-cpu → Stands (set ts x t) cs ns b (changed s (s .topology) (s .sealed) (s .tick) (s .known) (at (s .threads) x u) .state)
+  -- the record of one thread
+  stands-record : (x : ℕ) (t : Thread) (u : times.Thread) (known : ℕ → Bool) (b : State) → Counted a b (s .sealed) (s .tick) (length (s .topology .nodes))
+      → Shows (s .limits) (s .topology) known (runs s) (set ts x t) cs (with-thread (world-with (s .threads)) x u)
+      → Stands (set ts x t) cs ns b (changed s (s .topology) (s .sealed) (s .tick) known (at (s .threads) x u) .state)
   unfolding with-thread
-  stands-fields x t u b n h r l p i v q =
-      stands-changed (set ts x t) cs ns b (s .topology) (s .sealed) (s .tick) (s .known) (at (s .threads) x u) n (m .tree) (m .rows)
-      (shows-fields shows-now x t u h r l p i v (subst (Under (s .limits .cpus)) (sym q) (shows-now .queue-cpus x h))) (m .nodes-fit) (m .tick-fits)
+  stands-record x t u known b n w = stands-changed (set ts x t) cs ns b (s .topology) (s .sealed) (s .tick) known (at (s .threads) x u) n (m .tree) (m .rows) w (m .nodes-fit) (m .tick-fits)
 
   -- 1A
   pub stands-set-critical : (x k used : ℕ) (b : State) → Counted a b (s .sealed) (s .tick) (length (s .topology .nodes)) → refusal s (asks (set-critical x k) used) ≡ 0
       → Stands (set ts x (with-critical (recordAt ts x) k)) cs ns b (obeys s (set-critical x k) .state)
-  unfolding obeys refusal concerning sealed-now thread-declared at-most with-critical critical-at pinned
+  unfolding obeys refusal concerning sealed-now thread-declared at-most
   stands-set-critical x k used b n e =
       let known = yes 4 _ _ (yes 2 _ _ e .1) in
       let mark = yes 5 _ _ (known .1) in
       let low : k < 2 = let l : k ≤ 1 = leb-true _ _ (mark .0) in omega arith in
-      let h : x < s .limits .threads = reached .numbered x (known .0) in
-      stands-fields x (with-critical (recordAt ts x) k) (critical-at (s .threads x) (eqb k 1)) b n h
-      (reads-critical (recordAt ts x) k ∙ λ i. critical-at (shows-now .threads x h i) (critical-mark k low i)) refl refl refl refl refl
+      stands-record x (with-critical (recordAt ts x) k) (critical-at (s .threads x) (eqb k 1)) (s .known) b n
+      (subst (λ (m : Bool). Shows (s .limits) (s .topology) (s .known) (runs s) (set ts x (with-critical (recordAt ts x) k)) cs
+      (with-thread (world-with (s .threads)) x (critical-at (s .threads x) m))) (critical-mark k low)
+      (shows-critical shows-now x k (reached .numbered x (known .0))))
 
   -- 19
   pub stands-remove-donation : (x used : ℕ) (b : State) → Counted a b (s .sealed) (s .tick) (length (s .topology .nodes)) → refusal s (asks (remove-donation x) used) ≡ 0
       → Stands (set ts x (remove-donated-priority (recordAt ts x))) cs ns b (obeys s (remove-donation x) .state)
-  unfolding obeys refusal concerning sealed-now thread-declared donated-to pinned
+  unfolding obeys refusal concerning sealed-now thread-declared
   stands-remove-donation x used b n e =
       let known = yes 4 _ _ (yes 2 _ _ e .1) in
-      let h : x < s .limits .threads = reached .numbered x (known .0) in
-      stands-fields x (remove-donated-priority (recordAt ts x)) (donated-to (s .threads x) none) b n h
-      (reads-removed (recordAt ts x) ∙ ap (λ (t : times.Thread). donated-to t none) (shows-now .threads x h)) (removed-next (recordAt ts x)) (removed-place (recordAt ts x)) refl refl refl
+      stands-record x (remove-donated-priority (recordAt ts x)) (donated-to (s .threads x) none) (s .known) b n (shows-removed shows-now x (reached .numbered x (known .0)))
 
   -- a thread that is not known neither runs nor waits
   unknown-free : (x : ℕ) → s .known x ≡ false → Free (world-of s) x
@@ -344,8 +286,8 @@ module _ {H : ℕ → List PutOrTake} {ts : List Thread} {cs ns : List (List ℕ
       any-none (s .limits .cpus) (λ c. is-number x (s .cpus c .running))
       (λ c h. both (is-number x (s .cpus c .running)) (λ t. absurd (true≢false (sym (reached .sound .runs c x (number-is x (s .cpus c .running) t) .1) ∙ e))) (λ t. t))
 
-  pin-yes : (pin : Option ℕ) (l : List Question) → first-no (pin-declared s pin ∷ l) ≡ 0 → (named (cpu-in (field-of (pin-of pin))) ≡ pin) × (first-no l ≡ 0)
-  unfolding pin-declared cpu-declared declared pin-of
+  pin-yes : (pin : Option ℕ) (l : List Question) → first-no (pin-declared s pin ∷ l) ≡ 0 → (named (cpu-in (field-of (pin-number pin))) ≡ pin) × (first-no l ≡ 0)
+  unfolding pin-declared cpu-declared declared pin-number
   pin-yes none l e = (named-none NONE (omega arith), yes 3 true l e .1)
   pin-yes (some c) l e =
       let y = yes 3 (ltb c (s .limits .cpus) && s .topology .declared c) l e in
@@ -354,7 +296,7 @@ module _ {H : ℕ → List PutOrTake} {ts : List Thread} {cs ns : List (List ℕ
 
   -- 10
   pub stands-declare-thread : (x k v used : ℕ) (pin : Option ℕ) (b : State) → Counted a b (s .sealed) (s .tick) (length (s .topology .nodes)) → refusal s (asks (declare-thread x k v pin) used) ≡ 0
-      → Stands (set ts x (new (priority (class-at k) v) (pin-of pin))) cs ns b (obeys s (declare-thread x k v pin) .state)
+      → Stands (set ts x (new (priority (class-at k) v) (pin-number pin))) cs ns b (obeys s (declare-thread x k v pin) .state)
   unfolding obeys refusal concerning sealed-now thread-new priority-in-range with-thread world-of new new-thread nr-values
   stands-declare-thread x k v used pin b n e =
       let pinning = pin-yes pin _ (yes 2 _ _ e .1) in
@@ -363,8 +305,7 @@ module _ {H : ℕ → List PutOrTake} {ts : List Thread} {cs ns : List (List ℕ
       let h : x < s .limits .threads = ltb-true _ _ (and-left (ltb x (s .limits .threads)) (not (s .known x)) (fresh .0)) in
       let unknown : s .known x ≡ false = not-true _ (and-right (ltb x (s .limits .threads)) (not (s .known x)) (fresh .0)) in
       let low : v ≤ 127 = leb-true _ _ (and-right (leb k 3) (leb v 127) (range .0)) in
-      let t : Thread = new (priority (class-at k) v) (pin-of pin) in
+      let t : Thread = new (priority (class-at k) v) (pin-number pin) in
       let u : times.Thread = new-thread (priority (class-at k) v) pin in
-      let r : reads t ≡ u = reads-new (priority (class-at k) v) (pin-of pin) (omega arith) ∙ ap (new-thread (priority (class-at k) v)) (pinning .0) in
-      stands-changed (set ts x t) cs ns b (s .topology) (s .sealed) (s .tick) (at (s .known) x true) (at (s .threads) x u) n (m .tree) (m .rows)
-      (shows-new shows-now x t u h (unknown-free x unknown) (unknown-runs x unknown) r refl refl) (m .nodes-fit) (m .tick-fits)
+      let r : reads t ≡ u = reads-new (priority (class-at k) v) (pin-number pin) (omega arith) ∙ ap (new-thread (priority (class-at k) v)) (pinning .0) in
+      stands-record x t u (at (s .known) x true) b n (shows-new shows-now x t u h (unknown-free x unknown) (unknown-runs x unknown) r refl refl)

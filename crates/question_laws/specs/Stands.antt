@@ -9,8 +9,7 @@ use Rattle.rules.specs.State as rules
 use Rattle.rules.specs.State.{Limits, any-below, runs-on}
 use Rattle.rules.specs.Commands.{world-of}
 use Rattle.thread.specs.declared.Thread.{Thread}
-use Rattle.thread.specs.declared.place.Place.the-variants as place
-use Rattle.memory.specs.Shows.{place-at, Small, Shows}
+use Rattle.memory.specs.Shows.{Small, Shows}
 use Rattle.tree.specs.Tree.{Tree}
 use Rattle.request.specs.Request.{width}
 use Rattle.questions.specs.declared.state.State.{State}

@@ -2,7 +2,7 @@
 use Prim.Native.Nat.{ℕ, zero, suc, _≤_, _<_}
 use mathlib.Core.Path.{_≡_, refl, sym, _∙_}
 use mathlib.Core.Logic.{_≢_}
-use mathlib.Core.Bool.{true, false, cond, false≢true}
+use mathlib.Core.Bool.{false, cond, false≢true}
 use mathlib.Core.List.{List, []}
 use native.Mathlib.Omega.{arith}
 use lib.ListN.{length, getD, length-set, replicate, length-replicate, getD-replicate, List·getD-eq-default}
@@ -17,13 +17,12 @@ use Rattle.rules.specs.Commands.{world-of}
 use Rattle.rules.specs.Effect.{start-order}
 use Rattle.rules.specs.Sound.{Under, waits}
 use Rattle.thread.specs.Thread.{NONE, blank}
-use Rattle.thread.specs.Reads.{reads}
 use Rattle.thread.specs.Place.{place-in, reads-blank}
 use Rattle.queue.specs.Lists.{noLists}
 use Rattle.queue.specs.PriorityQueue.{noPriority}
 use Rattle.queue.specs.Timeshare.{noTimeshare}
 use Rattle.runqueue.specs.RunQueue.{noRunQueue}
-use Rattle.processor.specs.Words.{width, word, put-word}
+use Rattle.processor.specs.Words.{width, word}
 use Rattle.processor.specs.Queue.{queueAt, queueStored, Eights, queue-after-store, queue-elsewhere, row-length-store, length-store}
 use Rattle.topology.specs.CpuSet.{max-cpu-id}
 use Rattle.nodes.specs.Node.{new-root, put-node}
@@ -31,39 +30,21 @@ use Rattle.lent.specs.Rq.{recordAt}
 use Rattle.represent.specs.Well.{new-reading}
 use Rattle.represent.specs.System.{new-law}
 use Rattle.memory.specs.Shows.{reading-of, number-or-none, mark-in, Words-show, Small, Shows}
-use Rattle.memory.specs.Frames.{Written, written-none, written-put}
+use Rattle.memory.specs.Frames.{Written, written-none, written-put, words-same}
 use Rattle.tree.specs.Lists.{any-none}
 use Rattle.tree.specs.Rows.{Sized}
 use Rattle.tree.specs.Grown.{tree-start}
 use Rattle.questions.specs.declared.state.State.{State}
 use Rattle.question_laws.specs.Stands.{limits-in, runs, Stands}
+use Rattle.feed.specs.Start.{newMarks, newNumbers, newCpu, newCpus}
 
 -- what a reader reads
 
--- The words of a CPU as the start leaves them: no queue, undeclared, on no node, its idle thread running with priority (Idle, 0), no mark, no number.
-pub record New (cs : List (List ℕ)) (c : ℕ) : Type 0 where
+-- A CPU as the start leaves it: no queue, and words that show a new CPU of the rules, undeclared and on no node.
+pub record New (limits : Limits) (cs : List (List ℕ)) (c : ℕ) : Type 0 where
   pub row : length (getD cs c []) ≡ width
   pub queue : queueAt cs c ≡ noRunQueue
-  pub declared : word cs c 72 ≡ 0
-  pub placed : word cs c 73 ≡ NONE
-  pub running : word cs c 74 ≡ NONE
-  pub own-priority : word cs c 75 ≡ 0
-  pub is-idle : word cs c 76 ≡ 1
-  pub must-rebalance : word cs c 77 ≡ 0
-  pub preempt : word cs c 78 ≡ 0
-  pub draw-state : word cs c 79 ≡ 0
-  pub rebalance-time : word cs c 80 ≡ 0
-  pub idle-timeslice : word cs c 81 ≡ 0
-
--- the writes that make CPU c new
-abbrev pub marks-written : List (List ℕ) → ℕ → List (List ℕ)
-marks-written cs c = put-word (put-word (put-word (put-word (put-word cs c 72 0) c 73 NONE) c 74 NONE) c 75 0) c 76 1
-
-abbrev pub numbers-written : List (List ℕ) → ℕ → List (List ℕ)
-numbers-written cs c = put-word (put-word (put-word (put-word (put-word cs c 77 0) c 78 0) c 79 0) c 80 0) c 81 0
-
-abbrev pub cpu-written : List (List ℕ) → ℕ → List (List ℕ)
-cpu-written cs c = numbers-written (marks-written (queueStored cs c noRunQueue) c) c
+  pub words : Words-show (start limits .topology) cs c new-cpu
 
 -- ---- a CPU made new
 
@@ -86,9 +67,10 @@ module _ (cs : List (List ℕ)) (c : ℕ) (h : c < length cs) (l : length (getD 
   long-stored : length (getD stored c []) ≡ width
   long-stored = row-length-store cs c c noRunQueue ∙ l
 
-  all-written : Written stored (cpu-written cs c) c
+  all-written : Written stored (newCpu cs c) c
       (λ i. cond (eqb i 81) 0 (cond (eqb i 80) 0 (cond (eqb i 79) 0 (cond (eqb i 78) 0 (cond (eqb i 77) 0
       (cond (eqb i 76) 1 (cond (eqb i 75) 0 (cond (eqb i 74) NONE (cond (eqb i 73) NONE (cond (eqb i 72) 0 (word stored c i)))))))))))
+  unfolding newCpu newMarks newNumbers
   all-written =
       written-put 81 0 in-stored long-stored (omega arith) (omega arith)
       (written-put 80 0 in-stored long-stored (omega arith) (omega arith)
@@ -101,79 +83,69 @@ module _ (cs : List (List ℕ)) (c : ℕ) (h : c < length cs) (l : length (getD 
       (written-put 73 NONE in-stored long-stored (omega arith) (omega arith)
       (written-put 72 0 in-stored long-stored (omega arith) (omega arith) (written-none stored c))))))))))
 
-  pub new-here : New (cpu-written cs c) c
-  new-here = record {
+  pub new-here : (limits : Limits) → New limits (newCpu cs c) c
+  unfolding start new-cpu number-or-none mark-in idle-priority from-raw class-at cut nr-values is-some
+  new-here limits = record {
     row = all-written .beside .as-long c ∙ long-stored;
     queue = all-written .beside .queue c ∙ queue-after-store cs c noRunQueue h (omega (arith, l)) no-eights;
-    declared = all-written .words 72 (omega arith);
-    placed = all-written .words 73 (omega arith);
-    running = all-written .words 74 (omega arith);
-    own-priority = all-written .words 75 (omega arith);
-    is-idle = all-written .words 76 (omega arith);
-    must-rebalance = all-written .words 77 (omega arith);
-    preempt = all-written .words 78 (omega arith);
-    draw-state = all-written .words 79 (omega arith);
-    rebalance-time = all-written .words 80 (omega arith);
-    idle-timeslice = all-written .words 81 (omega arith);
+    words = words-same (λ u m k. all-written .words u k) (record {
+      declared = refl;
+      placed = refl;
+      running = refl;
+      own-priority = refl;
+      is-idle = refl;
+      must-rebalance = refl;
+      preempt = refl;
+      draw-state = refl;
+      rebalance-time = refl;
+      idle-timeslice = refl;
+    });
   }
 
-  as-many : length (cpu-written cs c) ≡ length cs
+  as-many : length (newCpu cs c) ≡ length cs
   as-many = all-written .beside .as-many ∙ length-store cs c noRunQueue
 
-  as-long : (d : ℕ) → length (getD (cpu-written cs c) d []) ≡ length (getD cs d [])
+  as-long : (d : ℕ) → length (getD (newCpu cs c) d []) ≡ length (getD cs d [])
   as-long d = all-written .beside .as-long d ∙ row-length-store cs c d noRunQueue
 
-  other-word : (d u : ℕ) → d ≢ c → word (cpu-written cs c) d u ≡ word cs d u
+  other-word : (d u : ℕ) → d ≢ c → word (newCpu cs c) d u ≡ word cs d u
   other-word d u n = all-written .beside .others d u n ∙ (unfold word in rw (queue-elsewhere cs c d noRunQueue n))
 
-  other-queue : (d : ℕ) → d ≢ c → queueAt (cpu-written cs c) d ≡ queueAt cs d
+  other-queue : (d : ℕ) → d ≢ c → queueAt (newCpu cs c) d ≡ queueAt cs d
   other-queue d n = all-written .beside .queue d ∙ (unfold queueAt in rw (queue-elsewhere cs c d noRunQueue n))
 
-  pub new-there : (d : ℕ) → d ≢ c → New cs d → New (cpu-written cs c) d
-  new-there d n w = record {
-    row = as-long d ∙ w .row;
-    queue = other-queue d n ∙ w .queue;
-    declared = other-word d 72 n ∙ w .declared;
-    placed = other-word d 73 n ∙ w .placed;
-    running = other-word d 74 n ∙ w .running;
-    own-priority = other-word d 75 n ∙ w .own-priority;
-    is-idle = other-word d 76 n ∙ w .is-idle;
-    must-rebalance = other-word d 77 n ∙ w .must-rebalance;
-    preempt = other-word d 78 n ∙ w .preempt;
-    draw-state = other-word d 79 n ∙ w .draw-state;
-    rebalance-time = other-word d 80 n ∙ w .rebalance-time;
-    idle-timeslice = other-word d 81 n ∙ w .idle-timeslice;
-  }
+  pub new-there : (limits : Limits) (d : ℕ) → d ≢ c → New limits cs d → New limits (newCpu cs c) d
+  new-there limits d n w = record { row = as-long d ∙ w .row; queue = other-queue d n ∙ w .queue; words = words-same (λ u m k. other-word d u n) (w .words) }
 
--- one CPU after the other is made new, g k the words once k of them are
-record So-far (g : ℕ → List (List ℕ)) (n k : ℕ) : Type 0 where
-  many : n ≤ length (g k)
-  long : (c : ℕ) → c < n → length (getD (g k) c []) ≡ width
-  news : (c : ℕ) → c < k → New (g k) c
+-- the first n CPUs are made new, one after the other
+module _ (limits : Limits) (cs : List (List ℕ)) (n : ℕ) (m : n ≤ length cs) (l : (c : ℕ) → c < n → length (getD cs c []) ≡ width) where
+  record So-far (k : ℕ) : Type 0 where
+    many : n ≤ length (newCpus k cs)
+    long : (c : ℕ) → c < n → length (getD (newCpus k cs) c []) ≡ width
+    news : (c : ℕ) → c < k → New limits (newCpus k cs) c
 
-so-far : (g : ℕ → List (List ℕ)) (n : ℕ) → ((k : ℕ) → k < n → g (suc k) ≡ cpu-written (g k) k) → n ≤ length (g 0) → ((c : ℕ) → c < n → length (getD (g 0) c []) ≡ width)
-    → (k : ℕ) → k ≤ n → So-far g n k
-so-far g n step m l zero h = record { many = m; long = l; news = λ c i. absurd (omega arith) }
-so-far g n step m l (suc k) h =
-    let p : So-far g n k = so-far g n step m l k (omega arith) in
-    let there : k < length (g k) = omega (arith, p .many) in
-    let row : length (getD (g k) k []) ≡ width = p .long k (omega arith) in
-    record {
-      many = rw (step k (omega arith), as-many (g k) k there row) (p .many);
-      long = λ c i. rw (step k (omega arith)) (as-long (g k) k there row c ∙ p .long c i);
-      news = λ c i. rw (step k (omega arith)) (both (eqb c k)
-          (λ e. rw (eqb-true c k e) (new-here (g k) k there row))
-          (λ e. new-there (g k) k there row c (eqb-false c k e) (p .news c (let q : c ≡ k → ⊥ = eqb-false c k e in omega arith))));
-    }
+  so-far : (k : ℕ) → k ≤ n → So-far k
+  unfolding newCpus
+  so-far zero h = record { many = m; long = l; news = λ c i. absurd (omega arith) }
+  so-far (suc k) h =
+      let g : List (List ℕ) = newCpus k cs in
+      let p : So-far k = so-far k (omega arith) in
+      let there : k < length g = omega (arith, p .many) in
+      let row : length (getD g k []) ≡ width = p .long k (omega arith) in
+      record {
+        many = rw (as-many g k there row) (p .many);
+        long = λ c i. as-long g k there row c ∙ p .long c i;
+        news = λ c i. both (eqb c k)
+            (λ e. rw (eqb-true c k e) (new-here g k there row limits))
+            (λ e. new-there g k there row limits c (eqb-false c k e) (p .news c (let q : c ≡ k → ⊥ = eqb-false c k e in omega arith)));
+      }
 
--- ALL CPUS ARE NEW
-pub new-all : (g : ℕ → List (List ℕ)) (n : ℕ) → ((k : ℕ) → k < n → g (suc k) ≡ cpu-written (g k) k) → n ≤ length (g 0) → ((c : ℕ) → c < n → length (getD (g 0) c []) ≡ width)
-    → (c : ℕ) → c < n → New (g n) c
-new-all g n step m l c h = so-far g n step m l n (omega arith) .news c h
+  -- ALL CPUS ARE NEW
+  pub new-all : (c : ℕ) → c < n → New limits (newCpus n cs) c
+  new-all c h = so-far n (omega arith) .news c h
 
-pub as-many-cpus : (g : ℕ → List (List ℕ)) (n : ℕ) → ((k : ℕ) → k < n → g (suc k) ≡ cpu-written (g k) k) → n ≤ length (g 0) → ((c : ℕ) → c < n → length (getD (g 0) c []) ≡ width)
-    → n ≤ length (g n)
-as-many-cpus g n step m l = so-far g n step m l n (omega arith) .many
+  pub as-many-cpus : n ≤ length (newCpus n cs)
+  as-many-cpus = so-far n (omega arith) .many
 
 -- ---- the start stands
 
@@ -181,21 +153,6 @@ blank-at : (n x : ℕ) → recordAt (replicate n blank) x ≡ blank
 blank-at n x =
     both (ltb x n) (λ e. getD-replicate n x blank blank (ltb-true _ _ e))
     (λ e. List·getD-eq-default (replicate n blank) blank {n = x} (rw (length-replicate n blank) (ltb-false _ _ e)))
-
-new-shows : (limits : Limits) (cs : List (List ℕ)) (c : ℕ) → New cs c → Words-show (start limits .topology) cs c new-cpu
-unfolding start new-cpu number-or-none mark-in idle-priority from-raw class-at cut nr-values is-some
-new-shows limits cs c w = record {
-  declared = rw (w .declared);
-  placed = w .placed;
-  running = w .running;
-  own-priority = rw (w .own-priority);
-  is-idle = rw (w .is-idle);
-  must-rebalance = rw (w .must-rebalance);
-  preempt = rw (w .preempt);
-  draw-state = w .draw-state;
-  rebalance-time = w .rebalance-time;
-  idle-timeslice = w .idle-timeslice;
-}
 
 root-rows : (ns : List (List ℕ)) → length (new-root ns) ≡ length ns
 unfolding new-root put-node
@@ -209,7 +166,7 @@ nobody-waits : (limits : Limits) (c x : ℕ) → waits (world-of (start limits))
 unfolding world-of start new-cpu has
 nobody-waits limits c x = rw start-order
 
-shows-start : (n : ℕ) (cs : List (List ℕ)) (limits : Limits) → limits .threads ≤ n → n ≤ NONE → limits .cpus ≤ length cs → ((c : ℕ) → c < limits .cpus → New cs c)
+shows-start : (n : ℕ) (cs : List (List ℕ)) (limits : Limits) → limits .threads ≤ n → n ≤ NONE → limits .cpus ≤ length cs → ((c : ℕ) → c < limits .cpus → New limits cs c)
     → Shows limits (start limits .topology) (start limits .known) (runs (start limits)) (replicate n blank) cs (world-of (start limits))
 unfolding start world-of new-cpu reading-of new-reading new-thread Under
 shows-start n cs limits t p m w = record {
@@ -218,7 +175,7 @@ shows-start n cs limits t p m w = record {
   rows = λ c h. w c h .row;
   threads = λ x h. rw (blank-at n x) reads-blank;
   queue-cpus = λ x h. tt;
-  words = λ c h. new-shows limits cs c (w c h);
+  words = λ c h. w c h .words;
   places = record {
     waiting = λ c x e. absurd (false≢true (sym (nobody-waits limits c x) ∙ e));
     running = λ x e. absurd (false≢true (sym (nobody-runs limits x) ∙ e));
@@ -230,7 +187,7 @@ shows-start n cs limits t p m w = record {
 -- THE START: n cleared records, new CPUs, the root alone, and a state that says the limits
 pub stands-start : (n : ℕ) (cs ns : List (List ℕ)) (a : State) (limits : Limits) → limits ≡ limits-in a → a .sealed ≡ false → a .tick ≡ 0 → a .accepted ≡ 0 → a .«node_count» ≡ 1
     → Small limits → limits .cpus ≤ max-cpu-id → limits .nodes ≤ 2147483648 → 0 < limits .nodes
-    → limits .threads ≤ n → n ≤ NONE → limits .cpus ≤ length cs → ((c : ℕ) → c < limits .cpus → New cs c) → limits .nodes ≤ length ns → Sized ns
+    → limits .threads ≤ n → n ≤ NONE → limits .cpus ≤ length cs → ((c : ℕ) → c < limits .cpus → New limits cs c) → limits .nodes ≤ length ns → Sized ns
     → Stands (replicate n blank) cs (new-root ns) a (start limits)
 unfolding start
 stands-start n cs ns a limits e sealed tick accepted count small fit few one t p m w r sized = record {

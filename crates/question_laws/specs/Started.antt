@@ -1,5 +1,5 @@
 -- WHAT `start` LEAVES stands for the rules' start with the base's limits. Assumes nothing.
-use Prim.Native.Nat.{ℕ, suc, _≤_, _<_}
+use Prim.Native.Nat.{ℕ, _≤_, _<_}
 use mathlib.Core.Path.{_≡_, refl}
 use mathlib.Core.Bool.{true, false, true≢false}
 use mathlib.Core.List.{List, []}
@@ -16,9 +16,9 @@ use Rattle.topology.specs.CpuSet.{max-cpu-id}
 use Rattle.memory.specs.Shows.{Small}
 use Rattle.tree.specs.Rows.{Sized}
 use Rattle.request.specs.Request as request
-use Rattle.feed.specs.Start.{newMarks, newNumbers, newCpu, newCpus, noRoom, initial, startDef}
+use Rattle.feed.specs.Start.{newCpus, noRoom, initial, startDef}
 use Rattle.question_laws.specs.Stands.{limits-in, Stands}
-use Rattle.question_laws.specs.Start.{cpu-written, new-all, as-many-cpus, stands-start}
+use Rattle.question_laws.specs.Start.{new-all, as-many-cpus, stands-start}
 
 -- records, CPUs and nodes enough
 room-enough : (t c n : ℕ) → noRoom t c n ≡ false → (1024 ≤ t) × ((64 ≤ c) × (128 ≤ n))
@@ -27,14 +27,6 @@ room-enough t c n e =
     both (ltb t 1024) (λ p. absurd (true≢false (rw p at e)))
     (λ p. both (ltb c 64) (λ q. absurd (true≢false (rw (p, q) at e)))
     (λ q. both (ltb n 128) (λ r. absurd (true≢false (rw (p, q, r) at e))) (λ r. (ltb-false _ _ p, (ltb-false _ _ q, ltb-false _ _ r)))))
-
-one-more : (cs : List (List ℕ)) (k : ℕ) → newCpus (suc k) cs ≡ cpu-written (newCpus k cs) k
-unfolding newCpus newCpu newMarks newNumbers
-one-more cs k = refl
-
-none-yet : (cs : List (List ℕ)) → newCpus 0 cs ≡ cs
-unfolding newCpus
-none-yet cs = refl
 
 small-base : Small base-limits
 unfolding base-limits
@@ -46,9 +38,7 @@ pub start-stands : (ts : List Thread) (cs ns : List (List ℕ)) → noRoom (leng
 unfolding startDef base-limits limits-in initial request.width max-cpu-id
 start-stands ts cs ns e most rows sized =
     let r : (1024 ≤ length ts) × ((64 ≤ length cs) × (128 ≤ length ns)) = room-enough (length ts) (length cs) (length ns) e in
-    let many : 64 ≤ length (newCpus 0 cs) = rw (none-yet cs) (r .1 .0) in
-    let long : (c : ℕ) → c < 64 → length (getD (newCpus 0 cs) c []) ≡ width = λ c h. rw (none-yet cs) (rows c (omega (arith, r .1 .0))) in
-    let g : ℕ → List (List ℕ) = λ k. newCpus k cs in
+    let long : (c : ℕ) → c < 64 → length (getD cs c []) ≡ width = λ c h. rows c (omega (arith, r .1 .0)) in
     rw e
     (stands-start (length ts) (newCpus 64 cs) ns initial base-limits refl refl refl refl refl small-base (omega arith) (omega arith) (omega arith) (r .0) most
-    (as-many-cpus g 64 (λ k h. one-more cs k) many long) (new-all g 64 (λ k h. one-more cs k) many long) (r .1 .1) sized)
+    (as-many-cpus base-limits cs 64 (r .1 .0) long) (new-all base-limits cs 64 (r .1 .0) long) (r .1 .1) sized)

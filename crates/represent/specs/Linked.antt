@@ -12,6 +12,7 @@ use native.Mathlib.Omega.{arith}
 use Rattle.rules.specs.Line.{has, both, Distinct, Below}
 use Rattle.rules.specs.Queue.{empty}
 use Rattle.rules.specs.State.{at}
+use Rattle.rules.specs.Held.{has-head}
 use Rattle.thread.specs.Thread.{NONE}
 
 -- ---- what a reader reads
@@ -49,10 +50,6 @@ walk next (suc k) h = cond (eqb h NONE) [] (h ∷ walk next k (next h))
 abbrev pub Alike : (ℕ → ℕ) → (ℕ → ℕ) → List ℕ → Type 0
 Alike g f l = (z : ℕ) → has z l ≡ true → g z ≡ f z
 
-pub has-first : (x : ℕ) (l : List ℕ) → has x (x ∷ l) ≡ true
-unfolding has
-has-first x l = rw (eq-eqb x x refl)
-
 pub has-later : (z x : ℕ) (l : List ℕ) → has z l ≡ true → has z (x ∷ l) ≡ true
 unfolding has
 has-later z x l h = rw h (both (eqb x z) (λ e. rw e) (λ e. rw e))
@@ -64,7 +61,7 @@ below-has n (x ∷ l) b z h = both (eqb x z) (λ e. rw (← eqb-true x z e) (b .
 
 pub last-in : (x : ℕ) (l : List ℕ) → has (last x l) (x ∷ l) ≡ true
 unfolding last
-last-in x [] = has-first x []
+last-in x [] = has-head x []
 last-in x (y ∷ l) = has-later (last y l) x (y ∷ l) (last-in y l)
 
 pub last-push : (x : ℕ) (l : List ℕ) (y : ℕ) → y ≡ last x (l ++ (y ∷ []))
@@ -75,7 +72,7 @@ last-push x (z ∷ l) y = last-push z l y
 pub chain-frame : (f g : ℕ → ℕ) (h : ℕ) (l : List ℕ) → Alike g f l → Chain f h l → Chain g h l
 unfolding Chain
 chain-frame f g h [] a c = c
-chain-frame f g h (x ∷ l) a c = (c .0, chain-frame f g (g x) l (λ z e. a z (has-later z x l e)) (rw (a x (has-first x l)) (c .1)))
+chain-frame f g h (x ∷ l) a c = (c .0, chain-frame f g (g x) l (λ z e. a z (has-later z x l e)) (rw (a x (has-head x l)) (c .1)))
 
 -- y behind a list that is not empty: only its last leads elsewhere
 chain-push : (f g : ℕ → ℕ) (h x : ℕ) (l : List ℕ) (y : ℕ) → Chain f h (x ∷ l) → Distinct (x ∷ l) → g y ≡ NONE → g (last x l) ≡ y
@@ -84,7 +81,7 @@ unfolding Chain last Distinct
 chain-push f g h x [] y c d p q a = (c .0, (q, p))
 chain-push f g h x (w ∷ l) y c d p q a =
     let apart : eqb x (last w l) ≡ false = both (eqb x (last w l)) (λ e. absurd (true≢false (sym (last-in w l) ∙ (rw (eqb-true x (last w l) e) at (d .0))))) (λ e. e) in
-    (c .0, rw (a x (has-first x (w ∷ l)) apart) (chain-push f g (f x) w l y (c .1) (d .1) p q (λ z e n. a z (has-later z x (w ∷ l) e) n)))
+    (c .0, rw (a x (has-head x (w ∷ l)) apart) (chain-push f g (f x) w l y (c .1) (d .1) p q (λ z e n. a z (has-later z x (w ∷ l) e) n)))
 
 pub linked-frame : (f g : ℕ → ℕ) (h t : ℕ) (l : List ℕ) → Alike g f l → Linked f h t l → Linked g h t l
 linked-frame f g h t l a k = record { runs = chain-frame f g h l a (k .runs); ends = k .ends }

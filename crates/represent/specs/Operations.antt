@@ -1,7 +1,7 @@
 -- THE LAWS OF ONE RUN QUEUE: what a put, a look, a take, a clock and a hard tick of the code's run queue do is what the rules' do. Assumes nothing.
 use Prim.Native.Nat.{ℕ, zero, suc, _+_, _-_, _*_, _/_, _%_, _^_, _≤_, _<_}
 use mathlib.Core.Path.{_≡_, refl, sym, ap, _∙_}
-use mathlib.Core.Bool.{Bool, true, false, cond, not, _&&_, _||_, true≢false}
+use mathlib.Core.Bool.{Bool, true, false, cond, _&&_, _||_, true≢false}
 use mathlib.Core.List.{List, [], _∷_, _++_, map}
 use lib.ListN.{length, length-append, getD}
 use lib.Dec.{eqb, ltb}
@@ -22,6 +22,7 @@ use Rattle.rules.specs.Queue.{Next, nobody, next-in, first-in, next-idle, next-
 use Rattle.rules.specs.Times.{timeslice, deadline-distance}
 use Rattle.rules.specs.State.{at, idle-priority}
 use Rattle.rules.specs.Effect.{Shape, start-order, bucket-for-in, class-bucket-in, timeshare-bucket-in, join-comes, NextIs, next-nobody, next-head, next-is}
+use Rattle.rules.specs.Held.{has-head}
 use Rattle.thread.specs.Thread.{NONE}
 use Rattle.queue.specs.declared.lists.Lists.{Lists}
 use Rattle.queue.specs.declared.pq.PriorityQueue.{PriorityQueue}
@@ -36,7 +37,7 @@ use Rattle.queue.specs.Timeshare.{noTimeshare, tsIndex, tsBucket, tsInsert, tsT
 use Rattle.runqueue.specs.RunQueue.{noRunQueue, rqEmpty, raised, saidRealtime, saidTimeshare, counted, withRealtime, withTimeshare, withIdle, advertising, rqInsertRealtime, rqInsertTimeshare, rqInsertIdle, rqInsertInto, rqInsert, firstIn, rqFrontIdle, rqFrontTimeshare, rqFrontRealtime, rqFront}
 use Rattle.runqueue.specs.RunQueue.{uncounted, rqTakenRealtime, rqRecalc, rqTakenTimeshare, rqTakenIdle, rqTakenFrom, rqTaken, rqClock, rqHardtick}
 use Rattle.thread.specs.Priority.{raw-again}
-use Rattle.represent.specs.Linked.{Behind-in, linkAfter, walk, Alike, has-first, has-later, walk-chain}
+use Rattle.represent.specs.Linked.{Behind-in, linkAfter, walk, Alike, has-later, walk-chain}
 use Rattle.represent.specs.Shown.{Shown, as-found, push-in, push-alike, no-bucket, below-bucket, distinct-bucket}
 use Rattle.represent.specs.Counts.{up-one, down-one, movable-comes, movable-most, moved-up, moved-down}
 use Rattle.represent.specs.Parts.{line, Part-well, Share-well, no-part, part-frame, part-front, part-empty, part-highest, part-push, part-taken, no-share, share-frame, share-front, share-empty, share-highest, share-push, share-taken, share-step, share-advance}
@@ -128,7 +129,7 @@ module _ (limit : ℕ) (small : limit ≤ NONE) (Q : Queue) (numbered : Below li
 pub movable-same : (f g : ℕ → Bool) (l : List ℕ) → ((z : ℕ) → has z l ≡ true → f z ≡ g z) → movable f l ≡ movable g l
 unfolding movable has
 movable-same f g [] h = refl
-movable-same f g (x ∷ l) h = rw (h x (has-first x l), movable-same f g l (λ z e. h z (has-later z x l e)))
+movable-same f g (x ∷ l) h = rw (h x (has-head x l), movable-same f g l (λ z e. h z (has-later z x l e)))
 
 -- ---- what is advertised
 
@@ -146,7 +147,7 @@ unfolding highest-value nr-values width
 value-in value [] h = omega arith
 value-in value (x ∷ l) h =
     let i : highest-value value l < 128 = value-in value l (λ z e. h z (has-later z x l e)) in
-    let j : value x < 128 = h x (has-first x l) in
+    let j : value x < 128 = h x (has-head x l) in
     both (ltb (highest-value value l) (value x / 16 * 16)) (λ e. rw e (omega arith)) (λ e. rw e i)
 
 idle-says : (f : ℕ → ℕ) (p : PriorityQueue) (bs : Buckets) → Part-well f p bs → Below NONE (line bs 0)
@@ -186,14 +187,15 @@ put-says : (said : ℕ) (p : Priority) → p .value < nr-values → from-raw (ra
 unfolding raised said-after-put
 put-says said p h = rw (raw-cond, raw-again p h)
 
-slice-most : (shortest : ℕ) (c : PriorityClass) (tl : ℕ) → shortest < 4294967296 → timeslice shortest c tl < 4294967296
+-- a bound on timeslices, which is any that the shortest and 100 keep
+pub slice-most : (most shortest : ℕ) (c : PriorityClass) (tl : ℕ) → 100 ≤ most → shortest ≤ most → timeslice shortest c tl ≤ most
 unfolding timeslice
-slice-most shortest class.User tl h =
-    both (eqb tl 0) (λ e. rw e (omega arith)) (λ e. rw e
+slice-most most shortest class.User tl k h =
+    both (eqb tl 0) (λ e. rw e k) (λ e. rw e
     (both (ltb (32 / tl) shortest) (λ f. rw f h) (λ f. rw f (omega (arith, div-le-self 32 tl)))))
-slice-most shortest class.Realtime tl h = omega arith
-slice-most shortest class.Background tl h = omega arith
-slice-most shortest class.Idle tl h = omega arith
+slice-most most shortest class.Realtime tl k h = k
+slice-most most shortest class.Background tl k h = k
+slice-most most shortest class.Idle tl k h = k
 
 empty-both : (l k : List ℕ) → empty (l ++ k) ≡ (empty l && empty k)
 unfolding empty
@@ -686,7 +688,7 @@ module _ (limit : ℕ) (small : limit ≤ NONE) (m : Marks) (q : RunQueue) (R : 
   unfolding deadline-distance load
   deadline-exact shortest c h l =
       rw (w .load-is, w .timeshare-load-is)
-      (mod-eq-of-lt (half-product (timeslice shortest c (timeshare-load Q)) (length (order Q)) (slice-most shortest c (timeshare-load Q) h) (omega (arith, distinct-length limit (order Q) (w .once) (w .numbered)))))
+      (mod-eq-of-lt (half-product (timeslice shortest c (timeshare-load Q)) (length (order Q)) (omega (arith, slice-most 4294967295 shortest c (timeshare-load Q) (omega arith) (omega arith))) (omega (arith, distinct-length limit (order Q) (w .once) (w .numbered)))))
 
   -- nobody waits exactly as the counts say
   pub empty-is : rqEmpty q ≡ empty (order Q)

@@ -16,6 +16,7 @@ use Rattle.rules.specs.Buckets.{Found as Foundₗ}
 use Rattle.rules.specs.Priority.{nr-values}
 use Rattle.rules.specs.Queue.{nr-buckets, width, empty, next-take-idx, highest-bucket, highest-value}
 use Rattle.rules.specs.Effect.{some-bucket, empty-true, hit-in, next-take-idx-in, around-next-take-idx}
+use Rattle.rules.specs.Held.{has-head}
 use Rattle.thread.specs.Thread.{NONE}
 use Rattle.queue.specs.declared.lists.Lists.{Lists}
 use Rattle.queue.specs.declared.lists.Pushed.{Pushed}
@@ -26,7 +27,7 @@ use Rattle.queue.specs.Num.{sum}
 use Rattle.queue.specs.Lists.{pushBack, firstFrom, highestHeld}
 use Rattle.queue.specs.PriorityQueue.{noPriority, pqEmpty, pqHighest, pqFront, pqTaken}
 use Rattle.queue.specs.Timeshare.{noTimeshare, tsEmpty, topCounts, tsHighest, tsFront, tsNext, slot, lessOne, tsTaken, tsStep, tsAdvance}
-use Rattle.represent.specs.Linked.{linkAfter, Alike, has-first, has-later, linked-none, linked-pop}
+use Rattle.represent.specs.Linked.{linkAfter, Alike, has-later, linked-none, linked-pop}
 use Rattle.represent.specs.Shown.{Shown, as-found, no-lists, shown-frame, shown-push, shown-pop, scan-same, top-same, below-bucket, has-bucket}
 use Rattle.represent.specs.Counts.{tally, up-one, down-one, less-one, tally-comes, tally-same, tally-most}
 
@@ -155,7 +156,7 @@ none-in bs s i h e = go (getD bs i []) refl
   where
     go : (l : List ℕ) → getD bs i [] ≡ l → getD bs i [] ≡ []
     go [] q = q
-    go (x ∷ l) q = absurd (false≢true (unfold has in rw e at (has-bucket nr-buckets bs s i x h (rw q (has-first x l)))))
+    go (x ∷ l) q = absurd (false≢true (unfold has in rw e at (has-bucket nr-buckets bs s i x h (rw q (has-head x l)))))
 
 -- ---- realtime and idle
 
@@ -298,7 +299,7 @@ module _ (f value : ℕ → ℕ) (t : TimeshareQueue) (bs : Buckets) (fl em : �
       let e : getD bs j [] ≡ x ∷ hit .rest = rw (hit .place) (unfold bucket in hit .holds) in
       let g : line bs em ≡ x ∷ line (pop bs j) em = around-pop nr-buckets bs em j x (w .shown .full) hit in
       let k : line (pop bs j) (next-take-idx fl (pop bs j) j) ≡ line (pop bs j) em = around-next-take-idx fl bs em j x (w .shown .full) hit in
-      let xv : value x < nr-values = w .values-in x (rw g (has-first x (line (pop bs j) em))) in
+      let xv : value x < nr-values = w .values-in x (rw g (has-head x (line (pop bs j) em))) in
       record {
         shown = shown-pop f (t .queues) bs em (w .shown) j x (hit .rest) jn e;
         counted = rw (k, w .counted, g) (down-one (length (line (pop bs j) em)) (let n : length (line bs em) ≡ suc (length (line (pop bs j) em)) = ap length g in omega arith));

@@ -7,7 +7,7 @@ use borrow.Author.Tests.{eqb-true, eqb-false, ne-eqb}
 use Rattle.rules.specs.declared.Part.{Part}
 use Rattle.rules.specs.Line.{has, both}
 use Rattle.rules.specs.Priority.{nr-values}
-use Rattle.rules.specs.Queue.{Queue, order, movable, Next, nobody, next-in, leave, asked, next}
+use Rattle.rules.specs.Queue.{Queue, order, movable, Next, nobody, next-in, asked, next}
 use Rattle.rules.specs.State.{at}
 use Rattle.rules.specs.Effect.{advance-order}
 use Rattle.rules.specs.Sound.{at-here, at-there}

@@ -4,7 +4,7 @@
 use Prim.Native.Nat.{ℕ, _-_, _^_, _≤_, _<_}
 use mathlib.Core.Path.{_≡_, refl, sym, subst, _∙_}
 use mathlib.Core.Logic.{inl, inr}
-use mathlib.Core.Bool.{Bool, true, false, false≢true}
+use mathlib.Core.Bool.{Bool, false, false≢true}
 use mathlib.Core.List.{List, []}
 use lib.ListN.{length, getD, set, length-set}
 use lib.Seq.{getD-set-same}
@@ -29,7 +29,7 @@ use Rattle.runqueue.specs.declared.rq.Put.{Put}
 use Rattle.runqueue.specs.declared.rq.Front.{Front}
 use Rattle.runqueue.specs.declared.rq.Front.the-variants as front
 use Rattle.runqueue.specs.RunQueue.{noRunQueue, rqFront, rqTaken, rqClock, rqHardtick}
-use Rattle.processor.specs.Queue.{queueAt, queueStored, queueInto, storedFrom, Eights, length-lists, queue-after-store, queue-elsewhere}
+use Rattle.processor.specs.Queue.{queueAt, queueStored, queueInto, storedFrom, Eights, length-lists, queue-after-store, queue-elsewhere, length-store}
 use Rattle.processor.specs.Window.{length-place}
 use Rattle.represent.specs.Linked.{Behind-in}
 use Rattle.represent.specs.Well.{Marks, Reading, Well, reading, new-reading, put-reading, take-reading, clock-reading, hardtick-reading, marks-after}
@@ -70,10 +70,6 @@ well-eights w = record {
   idle-8 = record { heads-8 = w .idle .shown .heads-full; tails-8 = w .idle .shown .tails-full };
 }
 
-length-stored : (cs : List (List ℕ)) (c : ℕ) (q : RunQueue) → length (queueStored cs c q) ≡ length cs
-unfolding queueStored
-length-stored cs c q = length-set cs c _
-
 length-row : (row : List ℕ) (q : RunQueue) → length (queueInto row q) ≡ length row
 unfolding queueInto storedFrom
 length-row row q = simp (length-place, length-lists)
@@ -113,7 +109,7 @@ module _ (limit n : ℕ) (ts : List Thread) (cs : List (List ℕ)) (Rs : ℕ →
     stored : (ts′ : List Thread) (q′ : RunQueue) (Rs′ : ℕ → Reading) → limit ≤ length ts′ → All-well limit n (marks ts′) (at (queueAt cs) c q′) Rs′ → Good limit n ts′ (queueStored cs c q′) Rs′
     stored ts′ q′ Rs′ r w = record {
       records = r;
-      cpus = rw (length-stored cs c q′) (g .cpus);
+      cpus = rw (length-store cs c q′) (g .cpus);
       rows = λ d h. row d h;
       shows = record { each = λ d h. rw (same d h) (w .each d h); apart = w .apart };
     }

@@ -1,13 +1,12 @@
 -- THE COMMANDS THAT A CPU RUNS, over records and words: hex 12, 14, 16 and 17; 13 is in Scheduled.antt. Assumes nothing.
-use Prim.Native.Nat.{ℕ, zero, suc, _≤_, _<_}
+use Prim.Native.Nat.{ℕ, _≤_, _<_}
 use mathlib.Core.Path.{_≡_, refl, sym, ap, _∙_}
 use mathlib.Core.Logic.{_≢_}
-use mathlib.Core.Bool.{Bool, true, false, true≢false, false≢true}
+use mathlib.Core.Bool.{Bool, true, false, true≢false}
 use mathlib.Core.Option.{Option, none, some}
 use mathlib.Core.List.{List}
 use lib.Dec.{eqb}
-use borrow.Author.Tests.{eqb-true, eqb-false, eq-eqb}
-use native.Mathlib.Omega.{arith}
+use borrow.Author.Tests.{eqb-true, eqb-false}
 use Rattle.rules.specs.Line.{both}
 use Rattle.rules.specs.Times.{is-some}
 use Rattle.rules.specs.Puts.{PutOrTake}
@@ -15,8 +14,8 @@ use Rattle.rules.specs.State.{at, any-below, is-number, Limits, Topology, Cpu}
 use Rattle.rules.specs.Schedule as sched
 use Rattle.rules.specs.Schedule.{World, Got, with-cpu, with-thread, with-preempt}
 use Rattle.rules.specs.Sound.{at-here, at-there, at-keeps, same-cpu-changed, sound-same, New, Sound}
-use Rattle.rules.specs.Steps.{nobody-but, Selected, select-cpu-selected}
-use Rattle.rules.specs.Reached.{any-not}
+use Rattle.rules.specs.Steps.{nobody-but, Selected, select-cpu-selected, new-same}
+use Rattle.rules.specs.Reached.{any-not, number-is as is-number-of}
 use Rattle.thread.specs.declared.Thread.{Thread}
 use Rattle.thread.specs.declared.time.OptionCpu.{OptionCpu}
 use Rattle.thread.specs.declared.time.OptionCpu.the-variants as cpu
@@ -25,6 +24,7 @@ use Rattle.thread.specs.Thread.{NONE}
 use Rattle.lent.specs.Rq.{recordAt}
 use Rattle.memory.specs.Shows.{Small, Shows}
 use Rattle.tree.specs.Tree.{Tree, number-is}
+use Rattle.tree.specs.Lists.{any-at}
 use Rattle.choice.specs.Reads.{as-cpu}
 use Rattle.step.specs.Option.{isNone, cpuOf}
 use Rattle.step.specs.Choose.{selectFor, selectedFor}
@@ -39,8 +39,9 @@ use Rattle.sched_laws.specs.Crowd.{visited-placed}
 use Rattle.sched_laws.specs.Ticked.{context, shows-schedule-hardtick}
 use Rattle.sched_laws.specs.Moves.{shows-scheduled, counts-scheduled}
 use Rattle.sched_laws.specs.Picks.{Settled, no-one, Ends}
-use Rattle.sched_laws.specs.Schedules.{select-finds, new-same, put-running, select-shown, shows-selected}
-use Rattle.sched_laws.specs.Scheduled.{flags-in, Leaves, select-wakeups, shows-schedule}
+use Rattle.sched_laws.specs.Schedules.{select-finds, select-shown, shows-selected}
+use Rattle.sched_laws.specs.Scheduled.{flags-in, Leaves, shows-schedule}
+use Rattle.sched_laws.specs.Spared.{select-wakeups, put-running}
 
 -- ---- the active threads are those that run
 
@@ -69,29 +70,18 @@ shows-active active′ e s = record {
 unfoldable pub runs-somewhere : Limits → World → ℕ → Bool
 runs-somewhere limits w x = any-below (limits .cpus) (λ c. is-number x (w .cpus c .running))
 
-is-the-number : (x : ℕ) (o : Option ℕ) → o ≡ some x → is-number x o ≡ true
-unfolding is-number
-is-the-number x none e = let z : _≡_ {A = ℕ} 0 1 = cc in absurd (omega arith)
-is-the-number x (some y) e = let z : y ≡ x = cc in eq-eqb y x z
-
-some-below : (n : ℕ) (test : ℕ → Bool) (P : Type 0) → any-below n test ≡ true → ((c : ℕ) → c < n → test c ≡ true → P) → P
-unfolding any-below
-some-below zero test P e f = absurd (false≢true e)
-some-below (suc n) test P e f =
-    both (test n) (λ t. f n (omega arith) t) (λ t. some-below n test P (both (any-below n test) (λ u. u) (λ u. absurd (false≢true (rw (t, u) at e)))) (λ c h q. f c (omega arith) q))
-
 pub settled-is : (limits : Limits) (active : ℕ → Bool) (w : World) → ((c x : ℕ) → w .cpus c .running ≡ some x → c < limits .cpus) → Settled no-one active w → (x : ℕ) → runs-somewhere limits w x ≡ active x
 unfolding runs-somewhere
 settled-is limits active w near s x =
     both (any-below (limits .cpus) (λ c. is-number x (w .cpus c .running)))
-    (λ e. e ∙ sym (some-below (limits .cpus) _ (active x ≡ true) e (λ c h t. s .runs c x refl (number-is x (w .cpus c .running) t))))
-    (λ e. e ∙ sym (s .others x (λ c b r. true≢false (sym (is-the-number x (w .cpus c .running) r) ∙ any-not (limits .cpus) _ e c (near c x r)))))
+    (λ e. e ∙ sym (any-at (limits .cpus) _ e (λ c h t. s .runs c x refl (number-is x (w .cpus c .running) t))))
+    (λ e. e ∙ sym (s .others x (λ c b r. true≢false (sym (is-number-of x (w .cpus c .running) r) ∙ any-not (limits .cpus) _ e c (near c x r)))))
 
 pub settled-runs : (limits : Limits) (w : World) → ((c x : ℕ) → w .cpus c .running ≡ some x → c < limits .cpus) → Settled no-one (runs-somewhere limits w) w
 unfolding runs-somewhere
 settled-runs limits w near = record {
-  runs = λ c x b r. both (any-below (limits .cpus) (λ d. is-number x (w .cpus d .running))) (λ e. e) (λ e. absurd (true≢false (sym (is-the-number x (w .cpus c .running) r) ∙ any-not (limits .cpus) _ e c (near c x r))));
-  others = λ x h. both (any-below (limits .cpus) (λ d. is-number x (w .cpus d .running))) (λ e. absurd (some-below (limits .cpus) _ ⊥ e (λ c l t. h c refl (number-is x (w .cpus c .running) t)))) (λ e. e);
+  runs = λ c x b r. both (any-below (limits .cpus) (λ d. is-number x (w .cpus d .running))) (λ e. e) (λ e. absurd (true≢false (sym (is-number-of x (w .cpus c .running) r) ∙ any-not (limits .cpus) _ e c (near c x r))));
+  others = λ x h. both (any-below (limits .cpus) (λ d. is-number x (w .cpus d .running))) (λ e. absurd (any-at (limits .cpus) _ e (λ c l t. h c refl (number-is x (w .cpus c .running) t)))) (λ e. e);
 }
 
 -- WHAT A COMMAND LEFT, with those active that run
@@ -194,13 +184,13 @@ module _ (limits : Limits) (topology : Topology) (tick us : ℕ) (known : ℕ �
           Leaves limits topology known d (sched.schedule-thread-on-cpu limits topology tick us (selected .world) c x))
       unfolding wakeDef
       wakes c g near zero-now =
-          let n : New limits known nobody-but (selected .world) c x = new-same limits topology tick us known numbered small early us-in H ns tree node put-on (selection .same) (new c near) in
+          let n : New limits known nobody-but (selected .world) c x = new-same limits topology tick us known numbered H us-in (selection .same) (new c near) in
           let e : selected .world .wakeups ≡ w .wakeups = select-wakeups limits topology tick us w x none in
           record {
             ends = record {
               active = at active x false;
               shows = shows-scheduled limits topology tick us known numbered small early us-in H shows-selection c x n 0;
-              settled = woken-settled _ (λ d. put-running limits topology tick us known numbered small early us-in H ns tree node put-on (selected .world) c x d ∙ selection .same .running d);
+              settled = woken-settled _ (λ d. put-running limits topology tick us (selected .world) c x d ∙ selection .same .running d);
             };
             counted = counts-scheduled limits topology tick us known numbered small early us-in H shows-selection c x n 0 (zero-now ∙ sym e) (rw e few);
           }

@@ -1,4 +1,4 @@
--- DONATION (hex 18), ITS REMOVAL (19) AND THE CRITICAL MARK (1A), over records and words. Assumes nothing.
+-- DONATION (hex 18) over records and words; its removal (19) and the critical mark (1A) are in memory's Frames.antt. Assumes nothing.
 use Prim.Native.Nat.{ℕ, _≤_, _<_}
 use mathlib.Core.Path.{_≡_, refl, sym, ap, subst, _∙_}
 use mathlib.Core.Bool.{Bool, true, false, cond, not, _&&_}
@@ -11,7 +11,7 @@ use Rattle.rules.specs.declared.Priority.{Priority}
 use Rattle.rules.specs.Line.{both}
 use Rattle.rules.specs.Priority.{nr-values, from-raw, less, donation-accepted}
 use Rattle.rules.specs.Times as times
-use Rattle.rules.specs.Times.{effective-priority, pinned, donated-to, critical-at}
+use Rattle.rules.specs.Times.{effective-priority, pinned, donated-to}
 use Rattle.rules.specs.State.{at, Limits, Topology}
 use Rattle.rules.specs.Schedule as sched
 use Rattle.rules.specs.Schedule.{World, with-thread, wakeup, is-empty}
@@ -19,11 +19,9 @@ use Rattle.rules.specs.Sound.{at-here, Under}
 use Rattle.thread.specs.declared.Thread.{Thread}
 use Rattle.thread.specs.declared.time.OptionCpu.{OptionCpu}
 use Rattle.thread.specs.declared.time.OptionCpu.the-variants as cpu
-use Rattle.thread.specs.Thread.{NONE, with-donated, with-critical}
-use Rattle.thread.specs.Flags.{has-donated-priority}
-use Rattle.thread.specs.Reads.{reads, held, donated-in, named, cpu-in, critical-in}
-use Rattle.thread.specs.Place.{reads-critical}
-use Rattle.thread.specs.Priority.{donate-priority, remove-donated-priority, reads-donated, reads-removed}
+use Rattle.thread.specs.Thread.{NONE, with-donated}
+use Rattle.thread.specs.Reads.{reads, held, donated-in, named, cpu-in}
+use Rattle.thread.specs.Priority.{donate-priority, reads-donated}
 use Rattle.processor.specs.Queue.{queueAt}
 use Rattle.lent.specs.Rq.{recordAt}
 use Rattle.memory.specs.Shows.{Small, Shows}
@@ -31,7 +29,7 @@ use Rattle.memory.specs.Frames.{shows-alike, shows-fields}
 use Rattle.memory.specs.Numbers.{advertised-shown, empty-shown}
 use Rattle.step.specs.Running.{runningAt}
 use Rattle.step.specs.Donate.{wakeupDue, wokenIn, maybeReschedule, donationSignals}
-use Rattle.sched.specs.Donate.{donatePriority, removeDonated, setCritical}
+use Rattle.sched.specs.Donate.{donatePriority}
 use Rattle.sched_laws.specs.Steps.{shows-wakeup, signal-counts, same-at-work}
 
 -- ---- what a donation leaves of a record as it was
@@ -54,14 +52,6 @@ module _ (t : Thread) (p : Priority) where
   unfolding donate-priority reads
   donated-resched = both (donation-accepted (held (donated-in t)) p) (λ e. rw e) (λ e. rw e)
 
-removed-next : (t : Thread) → remove-donated-priority t .next ≡ t .next
-unfolding remove-donated-priority with-donated
-removed-next t = both (has-donated-priority (t .flags)) (λ e. rw e) (λ e. rw e)
-
-removed-place : (t : Thread) → remove-donated-priority t .place ≡ t .place
-unfolding remove-donated-priority with-donated
-removed-place t = both (has-donated-priority (t .flags)) (λ e. rw e) (λ e. rw e)
-
 queue-reads : (t : Thread) → named (cpu-in (t .«current_processor_queue»)) ≡ reads t .queue-cpu
 unfolding reads
 queue-reads t = refl
@@ -78,16 +68,6 @@ module _ (limits : Limits) (topology : Topology) (tick us : ℕ) (known : ℕ �
 
     abbrev u : times.Thread
     u = w .threads x
-
-    -- 19: `remove_donated_priority`
-    pub shows-removed : Shows limits topology known active (removeDonated ts x) cs (with-thread w x (donated-to u none))
-    unfolding removeDonated donated-to pinned
-    shows-removed = shows-fields s x (remove-donated-priority r) _ below (reads-removed r ∙ ap (λ (t : times.Thread). donated-to t none) (s .threads x below)) (removed-next r) (removed-place r) refl refl (s .queue-cpus x below)
-
-    -- 1A: the critical mark
-    pub shows-critical : (m : ℕ) → Shows limits topology known active (setCritical ts x m) cs (with-thread w x (critical-at u (critical-in m)))
-    unfolding setCritical critical-at pinned with-critical
-    shows-critical m = shows-fields s x (with-critical r m) _ below (reads-critical r m ∙ ap (λ (t : times.Thread). critical-at t (critical-in m)) (s .threads x below)) refl refl refl refl (s .queue-cpus x below)
 
     -- 18: `donate_priority`
     module _ (p : Priority) (low : p .value < nr-values) where

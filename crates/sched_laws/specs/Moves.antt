@@ -1,9 +1,9 @@
 -- THREADS GO INTO QUEUES AND COME OUT OF THEM: puts on a CPU, takes for a CPU, steals. Assumes nothing.
-use Prim.Native.Nat.{ℕ, zero, suc, _≤_, _<_}
+use Prim.Native.Nat.{ℕ, _≤_, _<_}
 use mathlib.Core.Path.{_≡_, refl, sym, ap, subst}
 use mathlib.Core.Bool.{Bool, true, false, cond, not}
 use mathlib.Core.Option.{Option, none, some}
-use mathlib.Core.List.{List, [], _∷_, _++_}
+use mathlib.Core.List.{List, [], _∷_}
 use lib.ListN.{set}
 use lib.Dec.{eqb}
 use native.Mathlib.Omega.{arith}
@@ -49,7 +49,7 @@ first-in n test (c ∷ l) b = both (test c) (λ e. rw e (b .0)) (λ e. rw e (fir
 
 -- ---- what a take answers
 
-nobody-moved : (d : ℕ) (D : Took) → D .answer ≡ taken.Nobody → movedFor d D ≡ D
+pub nobody-moved : (d : ℕ) (D : Took) → D .answer ≡ taken.Nobody → movedFor d D ≡ D
 unfolding movedFor isNobody
 nobody-moved d D e = ap (λ (a : lent.Taken). cond (isNobody a) D (record {
   answer = D .answer;

@@ -4,20 +4,17 @@ use mathlib.Core.Path.{_≡_, refl, sym, ap, subst, _∙_}
 use mathlib.Core.Bool.{Bool, true, false, not, _||_, false≢true}
 use mathlib.Core.Option.{Option, none, some}
 use mathlib.Core.List.{List}
-use lib.ListN.{set}
 use lib.Dec.{eqb}
 use borrow.Author.Tests.{eqb-true}
 use native.Mathlib.Omega.{arith}
-use Rattle.rules.specs.declared.Priority.{Priority}
 use Rattle.rules.specs.Line.{both}
 use Rattle.rules.specs.Times.{effective-priority, is-some}
-use Rattle.rules.specs.Queue.{Next, nobody, next-in}
 use Rattle.rules.specs.Puts.{PutOrTake}
 use Rattle.rules.specs.State.{Limits, Topology}
 use Rattle.rules.specs.Schedule as sched
-use Rattle.rules.specs.Schedule.{World, Got, Flags, with-cpu, with-thread, wakeup, noted}
+use Rattle.rules.specs.Schedule.{World, Got, Flags, with-thread}
 use Rattle.rules.specs.Sound.{Under, Same, same-self, sound-same, New, Sound}
-use Rattle.rules.specs.Steps.{nobody-but, Selected, select-cpu-selected}
+use Rattle.rules.specs.Steps.{nobody-but, Selected, select-cpu-selected, weaker, running-new, new-same, ok-put}
 use Rattle.thread.specs.declared.Thread.{Thread}
 use Rattle.thread.specs.declared.time.OptionCpu.{OptionCpu}
 use Rattle.thread.specs.declared.time.OptionCpu.the-variants as cpu
@@ -41,7 +38,8 @@ use Rattle.sched_laws.specs.Crowd.{visited-placed}
 use Rattle.sched_laws.specs.Ticked.{context}
 use Rattle.sched_laws.specs.Moves.{shows-scheduled, counts-scheduled}
 use Rattle.sched_laws.specs.Picks.{Settled, no-one, Ends, some-number, shows-picked}
-use Rattle.sched_laws.specs.Schedules.{unsettle, select-finds, weaker, running-new, new-same, ok-put, put-running, shows-blocked, select-shown, shows-selected}
+use Rattle.sched_laws.specs.Schedules.{unsettle, select-finds, shows-blocked, select-shown, shows-selected}
+use Rattle.sched_laws.specs.Spared.{pick-wakeups, select-wakeups, put-running}
 
 -- the flags as the rules have them
 unfoldable pub flags-in : SchedFlags → Flags
@@ -67,66 +65,6 @@ pub record Leaves (limits : Limits) (topology : Topology) (known : ℕ → Bool)
   pub ends : Ends limits topology known (d .threads) (d .cpus) v
   pub counted : d .wakeups ≡ v .wakeups
 
-module _ (limits : Limits) (topology : Topology) (tick us : ℕ) where
-  -- ---- what wakes nobody
-
-  handed-wakeups : (w : World) (c : ℕ) (b : Bool) (n : Next) → sched.handed-out limits topology tick us w c b n .world .wakeups ≡ w .wakeups
-  unfolding sched.handed-out noted with-cpu
-  handed-wakeups w c b nobody = refl
-  handed-wakeups w c b (next-in p j x) = refl
-
-  moved-wakeups : (d : ℕ) (o : Option ℕ) (w : World) → sched.moved-for limits topology tick us d o w .world .wakeups ≡ w .wakeups
-  unfolding sched.moved-for with-thread
-  moved-wakeups d none w = refl
-  moved-wakeups d (some x) w = refl
-
-  pub from-wakeups : (w : World) (c d : ℕ) → sched.take-a-thread-from-cpu limits topology tick us w c d .world .wakeups ≡ w .wakeups
-  unfolding sched.take-a-thread-from-cpu sched.take-thread
-  from-wakeups w c d = moved-wakeups d _ _ ∙ handed-wakeups w c _ _
-
-  steal-wakeups : (w : World) (o : Option ℕ) → sched.steal-from limits topology tick us w o .world .wakeups ≡ w .wakeups
-  unfolding sched.steal-from
-  steal-wakeups w none = refl
-  steal-wakeups w (some c) = from-wakeups w c us
-
-  switch-wakeups : (w : World) (o : Option ℕ) → sched.switch-to limits topology tick us w o .wakeups ≡ w .wakeups
-  unfolding sched.switch-to sched.activated with-cpu with-thread
-  switch-wakeups w none = refl
-  switch-wakeups w (some x) = refl
-
-  stolen-wakeups : (w : World) (cur o : Option ℕ) → sched.run-stolen limits topology tick us w cur o .wakeups ≡ w .wakeups
-  unfolding sched.run-stolen
-  stolen-wakeups w cur (some y) = switch-wakeups w (some y)
-  stolen-wakeups w none none = refl
-  stolen-wakeups w (some x) none = switch-wakeups w none
-
-  taken-wakeups : (w : World) (cur o : Option ℕ) → sched.run-taken limits topology tick us w cur o .wakeups ≡ w .wakeups
-  unfolding sched.run-taken sched.try-steal
-  taken-wakeups w cur (some y) = both (sched.same-cpu y cur) (λ e. rw e) (λ e. rw e (switch-wakeups w (some y)))
-  taken-wakeups w cur none = stolen-wakeups _ cur _ ∙ steal-wakeups w _
-
-  pub pick-wakeups : (w : World) → sched.pick-next limits topology tick us w .wakeups ≡ w .wakeups
-  unfolding sched.pick-next sched.take-thread
-  pick-wakeups w = taken-wakeups _ _ _ ∙ handed-wakeups w us false _
-
-  topo-wakeups : (w : World) (p : Option Priority) → sched.find-cpu-from-topo limits topology tick us w p .world .wakeups ≡ w .wakeups
-  unfolding sched.find-cpu-from-topo with-cpu
-  topo-wakeups w p = refl
-
-  or-any-wakeups : (w : World) (avoid o : Option ℕ) → sched.found-or-any limits topology tick us w avoid o .world .wakeups ≡ w .wakeups
-  unfolding sched.found-or-any
-  or-any-wakeups w avoid none = topo-wakeups w none
-  or-any-wakeups w avoid (some c) = both (sched.same-cpu c avoid) (λ e. rw e (topo-wakeups w none)) (λ e. rw e)
-
-  select-from-wakeups : (w : World) (x : ℕ) (avoid o : Option ℕ) → sched.select-from limits topology tick us w x avoid o .world .wakeups ≡ w .wakeups
-  unfolding sched.select-from
-  select-from-wakeups w x avoid none = or-any-wakeups _ avoid _ ∙ topo-wakeups w _
-  select-from-wakeups w x avoid (some c) = refl
-
-  pub select-wakeups : (w : World) (x : ℕ) (avoid : Option ℕ) → sched.select-cpu limits topology tick us w x avoid .world .wakeups ≡ w .wakeups
-  unfolding sched.select-cpu
-  select-wakeups w x avoid = select-from-wakeups w x avoid _
-
 module _ (limits : Limits) (topology : Topology) (tick us : ℕ) (known : ℕ → Bool) (numbered : (x : ℕ) → known x ≡ true → x < limits .threads) (small : Small limits)
     (early : tick ≤ 4611686018427387904) (us-in : us < limits .cpus) (H : ℕ → List PutOrTake) (ns : List (List ℕ)) (tree : Tree limits ns topology) (node : ℕ) (put-on : topology .placed us ≡ some node) where
   abbrev k : Context
@@ -142,12 +80,12 @@ module _ (limits : Limits) (topology : Topology) (tick us : ℕ) (known : ℕ �
         → Leaves limits topology known (thenNext ns k x (scheduleThreadOnCpu ts cs₁ k c x wakeups)) (sched.pick-next limits topology tick us (sched.schedule-thread-on-cpu limits topology tick us v c x))
     unfolding thenNext
     put-and-pick cs₁ v c x s₁ same e near r =
-        let n : New limits known (λ d. eqb d us) v c x = new-same limits topology tick us known numbered small early us-in H ns tree node put-on same (running-new limits topology tick us known numbered small early us-in H ns tree node put-on w c x safe r near) in
+        let n : New limits known (λ d. eqb d us) v c x = new-same limits topology tick us known numbered H us-in same (running-new limits topology tick us known numbered H us-in w c x safe r near) in
         let v′ : World = sched.schedule-thread-on-cpu limits topology tick us v c x in
-        let runs : (d : ℕ) → v′ .cpus d .running ≡ w .cpus d .running = λ d. put-running limits topology tick us known numbered small early us-in H ns tree node put-on v c x d ∙ same .running d in
+        let runs : (d : ℕ) → v′ .cpus d .running ≡ w .cpus d .running = λ d. put-running limits topology tick us v c x d ∙ same .running d in
         let st₁ = unsettle us x active w v′ r (safe .one) runs st in
         let s₂ = shows-scheduled limits topology tick us known numbered small early us-in H s₁ c x n wakeups in
-        let ok = ok-put limits topology tick us known numbered small early us-in H ns tree node put-on (λ d. eqb d us) v c x (sound-same same (weaker limits topology tick us known numbered small early us-in H ns tree node put-on w safe)) n in
+        let ok = ok-put limits topology tick us known numbered H us-in (λ d. eqb d us) v c x (sound-same same (weaker limits topology tick us known numbered H us-in w safe)) n in
         let number : number-or-none (v′ .cpus us .running) ≡ x = ap number-or-none (runs us ∙ r) ∙ (unfold number-or-none in refl) in
         record {
           ends = subst (λ m. Ends limits topology known (pickNext (scheduleThreadOnCpu ts cs₁ k c x wakeups .threads) (scheduleThreadOnCpu ts cs₁ k c x wakeups .cpus) ns k m .threads)
@@ -260,7 +198,7 @@ module _ (limits : Limits) (topology : Topology) (tick us : ℕ) (known : ℕ �
                 (λ p. no-some y (sym e ∙ ap (λ d. w .cpus d .running) (sym (eqb-true c us p)) ∙ q))
                 (λ p. h c p q));
           })
-          s (weaker limits topology tick us known numbered small early us-in H ns tree node put-on w safe));
+          s (weaker limits topology tick us known numbered H us-in w safe));
       counted = count ∙ sym (pick-wakeups limits topology tick us w);
     }
 
@@ -269,7 +207,7 @@ module _ (limits : Limits) (topology : Topology) (tick us : ℕ) (known : ℕ �
       ends = subst (Picked (blockDef ts x)) (ap number-or-none r ∙ some-number x)
           (shows-picked limits topology tick us known numbered small early us-in H ns tree node put-on (unsettle us x active w w r (safe .one) (λ c. refl) st)
           (shows-blocked limits topology tick us known numbered small early us-in H ns tree node put-on s x (runs-known x r) (safe .free us x (unfold nobody-but in refl) r))
-          (weaker limits topology tick us known numbered small early us-in H ns tree node put-on w safe));
+          (weaker limits topology tick us known numbered H us-in w safe));
       counted = count ∙ sym (pick-wakeups limits topology tick us w);
     }
 

@@ -2,7 +2,7 @@
 use Prim.Native.Nat.{ℕ, _≤_, _<_}
 use mathlib.Core.Path.{_≡_, refl, sym, ap, subst, _∙_}
 use mathlib.Core.Logic.{_≢_}
-use mathlib.Core.Bool.{Bool, true, false, cond, not, true≢false, false≢true}
+use mathlib.Core.Bool.{Bool, true, false, cond, true≢false, false≢true}
 use mathlib.Core.Option.{Option, none, some}
 use mathlib.Core.List.{List, [], _∷_}
 use lib.ListN.{set}
@@ -13,13 +13,12 @@ use Rattle.rules.specs.Line.{both}
 use Rattle.rules.specs.Times as times
 use Rattle.rules.specs.Times.{effective-priority, is-some, either}
 use Rattle.rules.specs.Puts.{PutOrTake}
-use Rattle.rules.specs.State.{at, Limits, Topology, Cpu}
+use Rattle.rules.specs.State.{at, Limits, Topology}
 use Rattle.rules.specs.Topology.{visited}
 use Rattle.rules.specs.Choice.{Best, none-yet, best, lower, Searched, find-cpu}
 use Rattle.rules.specs.Schedule as sched
-use Rattle.rules.specs.Schedule.{World, Got, with-cpu, with-thread, wakeup}
-use Rattle.rules.specs.Sound.{at-here, at-there, at-keeps, Under, alike-queue, alike-reset, Free, Same, same-then, same-free, same-thread-changed, same-wakeup, sound-same, New, Sound, sound-insert}
-use Rattle.rules.specs.Steps as rules-steps
+use Rattle.rules.specs.Schedule.{World, Got, with-thread}
+use Rattle.rules.specs.Sound.{at-here, at-there, Under, Free, Sound}
 use Rattle.rules.specs.Steps.{nobody-but}
 use Rattle.thread.specs.declared.Thread.{Thread}
 use Rattle.thread.specs.declared.place.Place.the-variants as place
@@ -132,25 +131,6 @@ module _ (limits : Limits) (topology : Topology) (tick us : ℕ) (known : ℕ �
     pub select-finds : (w : World) (x : ℕ) (avoid : Option ℕ) → is-some (sched.select-cpu limits topology tick us w x avoid .got) ≡ true
     unfolding sched.select-cpu
     select-finds w x avoid = select-from-finds w x avoid _
-
-  -- ---- what is kept, as in the rules' Steps.antt
-
-  pub weaker : (w : World) → OK nobody-but w → OK (λ c. eqb c us) w
-  weaker = rules-steps.weaker limits topology tick us known numbered H us-in
-
-  pub running-new : (w : World) (c x : ℕ) → OK nobody-but w → w .cpus us .running ≡ some x → c < limits .cpus → New limits known (λ c. eqb c us) w c x
-  running-new = rules-steps.running-new limits topology tick us known numbered H us-in
-
-  pub new-same : {but : ℕ → Bool} {w v : World} {c x : ℕ} → Same limits w v → New limits known but w c x → New limits known but v c x
-  new-same s n = rules-steps.new-same limits topology tick us known numbered H us-in s n
-
-  pub ok-put : (but : ℕ → Bool) (w : World) (c x : ℕ) → OK but w → New limits known but w c x → OK but (sched.schedule-thread-on-cpu limits topology tick us w c x)
-  ok-put = rules-steps.ok-put limits topology tick us known numbered H us-in
-
-  -- a put changes no thread running
-  pub put-running : (w : World) (c x d : ℕ) → sched.schedule-thread-on-cpu limits topology tick us w c x .cpus d .running ≡ w .cpus d .running
-  unfolding sched.schedule-thread-on-cpu sched.reset-thread-time sched.insert-thread sched.noted with-thread with-cpu wakeup sched.with-queue
-  put-running w c x d = at-keeps (λ (p : Cpu). p .running) (w .cpus) c _ refl d
 
   -- ---- the thread running is blocked
 

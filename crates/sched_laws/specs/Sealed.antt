@@ -1,20 +1,21 @@
 -- ONCE SEALED, EVERY DECLARED CPU IS ON A NODE, whatever calls are made. Assumes nothing.
 use Prim.Native.Nat.{ℕ, zero, suc, _<_}
-use mathlib.Core.Path.{_≡_, refl, sym, _∙_}
-use mathlib.Core.Bool.{Bool, true, false, not, _&&_, _||_, true≢false, false≢true}
+use mathlib.Core.Path.{_≡_, sym, _∙_}
+use mathlib.Core.Bool.{Bool, true, false, not, _||_, true≢false, false≢true}
 use mathlib.Core.Option.{Option, none, some}
 use mathlib.Core.List.{List, [], _∷_, _++_}
 use lib.Dec.{eqb}
-use borrow.Author.Tests.{eqb-true, eqb-false}
+use borrow.Author.Tests.{eqb-true, eqb-false, not-true}
 use native.Mathlib.Omega.{arith}
 use Rattle.rules.specs.Line.{both}
 use Rattle.rules.specs.Times.{is-some}
 use Rattle.rules.specs.State.{Limits, all-below, State, start}
 use Rattle.rules.specs.Schedule.{World}
 use Rattle.rules.specs.Requests.{Request, declare-cpu, add-node, place-cpu, seal, declare-thread, set-tick, schedule-thread, schedule, hardtick, stattick, resched, maybe-preempt, donate, remove-donation, set-critical, Reading, unknown, cut-short, asks, read}
-use Rattle.rules.specs.Questions.{Question, question, open-yet, all-placed, placed-if-declared, declared, concerning, first-no, room, refusal}
+use Rattle.rules.specs.Questions.{Question, open-yet, all-placed, placed-if-declared, declared, concerning, first-no, room, refusal}
 use Rattle.rules.specs.Reached.{yes}
 use Rattle.rules.specs.Commands.{refuses, changed, ran, ran-on, schedules, scheduled-on, obeys, answered, step, after-calls}
+use Rattle.rules.specs.Effect.{and-right}
 
 -- what is asked of a sealed topology
 pub record Sealed (s : State) : Type 0 where
@@ -24,13 +25,9 @@ pub sealed-start : (limits : Limits) → Sealed (start limits)
 unfolding start
 sealed-start limits = record { on-node = λ e c h d. absurd (false≢true e) }
 
-not-yes : (b : Bool) → not b ≡ true → b ≡ false
-not-yes true e = absurd (false≢true e)
-not-yes false e = refl
-
 unsealed : (s : State) (l : List Question) → first-no (open-yet s ∷ l) ≡ 0 → s .sealed ≡ false
 unfolding open-yet
-unsealed s l e = not-yes (s .sealed) (yes 2 (not (s .sealed)) l e .0)
+unsealed s l e = not-true (s .sealed) (yes 2 (not (s .sealed)) l e .0)
 
 open-rest : (s : State) (l : List Question) → first-no (open-yet s ∷ l) ≡ 0 → first-no l ≡ 0
 unfolding open-yet
@@ -48,10 +45,6 @@ or-second : (a b : Bool) → (not a || b) ≡ true → a ≡ true → b ≡ true
 or-second true b e h = e
 or-second false b e h = absurd (false≢true h)
 
-and-second : (a b : Bool) → (a && b) ≡ true → b ≡ true
-and-second true b e = e
-and-second false b e = absurd (false≢true e)
-
 module _ (s : State) (k : Sealed s) where
   on-cpu : (us x : ℕ) (w : World) (o : Option ℕ) → Sealed (scheduled-on s us x w o .state)
   unfolding scheduled-on ran
@@ -66,7 +59,7 @@ module _ (s : State) (k : Sealed s) where
   goes seal e = record {
     on-node = λ t c h d.
         or-second (s .topology .declared c) (is-some (s .topology .placed c))
-        (all-yes (s .limits .cpus) (λ y. not (s .topology .declared y) || is-some (s .topology .placed y)) (and-second (declared s 0) _ (yes 8 _ _ (open-rest s _ e) .0)) c h) d;
+        (all-yes (s .limits .cpus) (λ y. not (s .topology .declared y) || is-some (s .topology .placed y)) (and-right (declared s 0) _ (yes 8 _ _ (open-rest s _ e) .0)) c h) d;
   }
   goes (declare-thread x c v p) e = record { on-node = k .on-node }
   goes (set-tick t) e = record { on-node = k .on-node }

@@ -10,7 +10,7 @@ use lib.Dec.{eqb}
 use borrow.Author.Tests.{ne-eqb}
 use native.Mathlib.Omega.{arith}
 use Rattle.rules.specs.declared.Priority.{Priority}
-use Rattle.rules.specs.Line.{has, both}
+use Rattle.rules.specs.Line.{both}
 use Rattle.rules.specs.Priority.{from-raw, raw, class-at, cut, nr-values, less, at-most, effective}
 use Rattle.rules.specs.Times as times
 use Rattle.rules.specs.Times.{deadline-distance, effective-priority, is-some, pinned, reset-time}
@@ -35,23 +35,15 @@ use Rattle.step.specs.Time.{deadlineAt, resetTime, movedTo, shouldSignal}
 use Rattle.step.specs.Running.{runningAt, mustRebalance, ranBy, ranIdle}
 use Rattle.step.specs.Preempt.{higher, rqHasHigher, needsReschedule, marked, swapped}
 use Rattle.memory.specs.Shows.{reading-of, number-or-none, mark-in, Words-show, Small, Shows}
-use Rattle.memory.specs.Frames.{Written, written-none, written-put, places-same, in-records, in-rows, shows-beside, shows-fields, shows-preempt}
+use Rattle.memory.specs.Frames.{Written, written-none, written-put, in-records, in-rows, shows-fields, shows-preempt, shows-alike, shows-written}
 use Rattle.memory.specs.Queues.{shows-insert}
-use Rattle.memory.specs.Numbers.{advertised-shown, empty-shown, deadline-shown}
+use Rattle.memory.specs.Numbers.{advertised-shown, empty-shown, deadline-shown, none-number}
 
 -- the count of wake-ups is not shown
 pub shows-wakeup : {limits : Limits} {topology : Topology} {known active : ℕ → Bool} {ts : List Thread} {cs : List (List ℕ)} {w : World} (b : Bool)
     → Shows limits topology known active ts cs w → Shows limits topology known active ts cs (wakeup w b)
 unfolding wakeup
-shows-wakeup {w = w} b s = record {
-  queues = s .queues;
-  none-past = s .none-past;
-  rows = s .rows;
-  threads = s .threads;
-  queue-cpus = s .queue-cpus;
-  words = s .words;
-  places = places-same w (wakeup w b) (λ d x. refl) (s .places);
-}
+shows-wakeup {w = w} b s = shows-alike w (wakeup w b) (λ c. refl) (λ x. refl) s
 
 pub signal-counts : (w : World) (wakeups from to : ℕ) (b : Bool) → wakeups ≡ w .wakeups → w .wakeups < NONE → signal wakeups from to b ≡ wakeup w b .wakeups
 unfolding signal wakeup
@@ -73,11 +65,6 @@ raw-idle = refl
 active-effective : (t : times.Thread) (c : ℕ) → effective-priority (times.moving-to-active t c) ≡ effective-priority t
 unfolding effective-priority times.moving-to-active
 active-effective t c = refl
-
-none-number : (o : Option ℕ) → ((x : ℕ) → o ≡ some x → x < NONE) → eqb (number-or-none o) NONE ≡ not (is-some o)
-unfolding number-or-none is-some
-none-number none h = refl
-none-number (some x) h = let l : x < NONE = h x refl in ne-eqb x NONE (λ e. omega arith)
 
 same-number : (x : ℕ) (o : Option ℕ) → x < NONE → eqb (number-or-none o) x ≡ sched.same-cpu x o
 unfolding number-or-none sched.same-cpu
@@ -264,36 +251,34 @@ module _ (limits : Limits) (topology : Topology) (tick us : ℕ) (known : ℕ �
     pub shows-ran-by : (x : ℕ) (t : Thread) → Shows limits topology known active ts (ranBy cs us x t) (with-cpu w us (with-running (w .cpus us) (some x) (effective-priority (reads t))))
     unfolding with-running reading-of mark-in number-or-none is-some
     shows-ran-by x t =
-        let f = ran-by x t in
-        shows-beside s (ranBy cs us x t) us (with-running (w .cpus us) (some x) (effective-priority (reads t))) (f .beside) refl (record {
-          declared = rw (f .words 72 (omega arith)) (was .declared);
-          placed = rw (f .words 73 (omega arith)) (was .placed);
-          running = rw (f .words 74 (omega arith));
-          own-priority = rw (f .words 75 (omega arith)) (raw-again (effective-priority (reads t)) (effective-below t));
-          is-idle = rw (f .words 76 (omega arith));
-          must-rebalance = rw (f .words 77 (omega arith));
-          preempt = rw (f .words 78 (omega arith)) (was .preempt);
-          draw-state = rw (f .words 79 (omega arith)) (was .draw-state);
-          rebalance-time = rw (f .words 80 (omega arith)) (was .rebalance-time);
-          idle-timeslice = rw (f .words 81 (omega arith)) (was .idle-timeslice);
+        shows-written s us (with-running (w .cpus us) (some x) (effective-priority (reads t))) (ran-by x t) refl (record {
+          declared = was .declared;
+          placed = was .placed;
+          running = refl;
+          own-priority = raw-again (effective-priority (reads t)) (effective-below t);
+          is-idle = refl;
+          must-rebalance = refl;
+          preempt = was .preempt;
+          draw-state = was .draw-state;
+          rebalance-time = was .rebalance-time;
+          idle-timeslice = was .idle-timeslice;
         })
 
     -- the idle thread runs now
     pub shows-ran-idle : Shows limits topology known active ts (ranIdle cs us) (sched.switch-to limits topology tick us w none)
     unfolding sched.switch-to sched.activated priority-running with-running reading-of mark-in number-or-none is-some
     shows-ran-idle =
-        let f = ran-idle in
-        shows-beside s (ranIdle cs us) us (with-running (w .cpus us) none idle-priority) (f .beside) refl (record {
-          declared = rw (f .words 72 (omega arith)) (was .declared);
-          placed = rw (f .words 73 (omega arith)) (was .placed);
-          running = rw (f .words 74 (omega arith));
-          own-priority = rw (f .words 75 (omega arith)) raw-idle;
-          is-idle = rw (f .words 76 (omega arith));
-          must-rebalance = rw (f .words 77 (omega arith));
-          preempt = rw (f .words 78 (omega arith)) (was .preempt);
-          draw-state = rw (f .words 79 (omega arith)) (was .draw-state);
-          rebalance-time = rw (f .words 80 (omega arith)) (was .rebalance-time);
-          idle-timeslice = rw (f .words 81 (omega arith)) (was .idle-timeslice);
+        shows-written s us (with-running (w .cpus us) none idle-priority) ran-idle refl (record {
+          declared = was .declared;
+          placed = was .placed;
+          running = refl;
+          own-priority = raw-idle;
+          is-idle = refl;
+          must-rebalance = refl;
+          preempt = was .preempt;
+          draw-state = was .draw-state;
+          rebalance-time = was .rebalance-time;
+          idle-timeslice = was .idle-timeslice;
         })
 
   -- `switch_to` a thread: its record, and the words of the CPU

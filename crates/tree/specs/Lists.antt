@@ -113,6 +113,12 @@ any-true (suc n) f x h e =
     both (eqb x n) (λ p. rw (← eqb-true x n p, e) (both (any-below x f) (λ q. rw q) (λ q. rw q)))
     (λ p. rw (any-true n f x (let m : x ≡ n → ⊥ = eqb-false x n p in omega arith) e))
 
+-- one that passes the test
+pub any-at {ℓ} : {A : Type ℓ} (n : ℕ) (f : ℕ → Bool) → any-below n f ≡ true → ((x : ℕ) → x < n → f x ≡ true → A) → A
+unfolding any-below
+any-at zero f e k = absurd (false≢true e)
+any-at (suc n) f e k = both (any-below n f) (λ t. any-at n f t (λ x h u. k x (omega arith) u)) (λ t. k n (omega arith) (rw t at e))
+
 pub any-none : (n : ℕ) (f : ℕ → Bool) → ((x : ℕ) → x < n → f x ≡ false) → any-below n f ≡ false
 unfolding any-below
 any-none zero f h = refl

@@ -1,7 +1,7 @@
 -- The order in which a search meets the nodes: each after its children. What a new node does to it. Assumes nothing.
 use Prim.Native.Nat.{ℕ, zero, suc, _-_, _≤_, _<_}
 use mathlib.Core.Path.{_≡_, refl, sym, ap, _∙_}
-use mathlib.Core.Bool.{Bool, true, false, cond, _||_, _&&_, false≢true}
+use mathlib.Core.Bool.{Bool, true, false, cond, _||_, _&&_}
 use mathlib.Core.Option.{some}
 use mathlib.Core.List.{List, [], _∷_, _++_, append-assoc, append-nil}
 use native.Mathlib.Omega.{arith}
@@ -13,16 +13,13 @@ use Rattle.rules.specs.Line.{has, both, Distinct, comes-distinct, has-append}
 use Rattle.rules.specs.State.{Limits, Node, Topology, those-below, join-all}
 use Rattle.rules.specs.Topology.{nr-nodes, parent-of, children, no-nodes, leaf, cpus-of, visits, visited}
 use Rattle.rules.specs.Commands.{with-node}
+use Rattle.rules.specs.Effect.{and-left, and-right}
 use Rattle.tree.specs.Lists.{below-same, below-none, below-has, join-append, join-join, join-same, ins, ins-append, ins-join, ins-none, has-ins, distinct-ins}
 
 -- the nodes from n down, at most k deep; ch gives the children of a node
 unfoldable pub met : (ℕ → List ℕ) → ℕ → ℕ → List ℕ
 met ch zero n = []
 met ch (suc k) n = join-all (met ch k) (ch n) ++ (n ∷ [])
-
-pub and-true : (a b : Bool) → (a && b) ≡ true → (a ≡ true) × (b ≡ true)
-and-true true b e = (refl, e)
-and-true false b e = absurd (false≢true e)
 
 one-ins : (n p m : ℕ) → ins n p (m ∷ []) ≡ cond (eqb p m) (n ∷ []) [] ++ (m ∷ [])
 unfolding ins
@@ -104,9 +101,8 @@ module _ (limits : Limits) (t : Topology) (p k : ℕ) where
       unfolding children
       children-after m x h =
           let a : (x < new) × ((ltb 0 x && eqb (parent-of limits t x) m) ≡ true) = below-has new _ x h in
-          let b : (ltb 0 x ≡ true) × (eqb (parent-of limits t x) m ≡ true) = and-true (ltb 0 x) _ (a .1) in
-          let e : parent-of limits t x ≡ m = eqb-true _ m (b .1) in
-          (omega (arith, parents x (ltb-true 0 x (b .0)) (a .0)), a .0)
+          let e : parent-of limits t x ≡ m = eqb-true _ m (and-right (ltb 0 x) _ (a .1)) in
+          (omega (arith, parents x (ltb-true 0 x (and-left (ltb 0 x) _ (a .1))) (a .0)), a .0)
 
       pub children-none : children limits t new ≡ []
       unfolding children

@@ -19,7 +19,7 @@ use Rattle.nodes.specs.Walk.{to-root}
 use Rattle.tree.specs.Links.{linked-same}
 use Rattle.tree.specs.Rows.{Sized, put-same, put-other, put-elsewhere, sized-put}
 use Rattle.tree.specs.Order.{met-first, Sound}
-use Rattle.tree.specs.Tree.{type-of, Ranged, Tree, holds-has, up-within, above-same}
+use Rattle.tree.specs.Tree.{type-of, Ranged, Tree, holds-has, up-within, above-same, lesser-most}
 use Rattle.tree.specs.Grown.{contains-words, ranged-words}
 
 -- ---- a CPU put on one node
@@ -27,10 +27,6 @@ use Rattle.tree.specs.Grown.{contains-words, ranged-words}
 lesser-left : (a b : ℕ) → lesser a b ≤ a
 unfolding lesser
 lesser-left a b = both (ltb a b) (λ e. rw e (omega arith)) (λ e. rw e (ltb-false a b e))
-
-lesser-right : (a b : ℕ) → lesser a b ≤ b
-unfolding lesser
-lesser-right a b = both (ltb a b) (λ e. rw e (omega (arith, ltb-true a b e))) (λ e. rw e (omega arith))
 
 greater-left : (a b : ℕ) → a ≤ greater a b
 unfolding greater
@@ -132,7 +128,7 @@ module _ (rows : List (List ℕ)) (n c : ℕ) (fits : c < max-cpu-id) where
           (λ q.
           let g : eqb c x ≡ true = rw (q, eq-eqb n n refl) at (sym (put-contains n x) ∙ e) in
           let k : c ≡ x = eqb-true c x g in
-          (omega (arith, lesser-right (word rows n first) c), omega (arith, greater-right (word rows n end) (c + 1)))));
+          (omega (arith, lesser-most (word rows n first) c), omega (arith, greater-right (word rows n end) (c + 1)))));
       last = λ h. rw put-end
           (both (ltb (word rows n end) (c + 1))
           (λ q. let m : c + 1 - 1 ≡ c = omega arith in rw (q, m) (l, put-same-cpu))

@@ -45,7 +45,7 @@ pub record Tree (limits : Limits) (rows : List (List ℕ)) (t : Topology) : Type
 
 -- ---- general
 
-lesser-most : (a b : ℕ) → lesser a b ≤ b
+pub lesser-most : (a b : ℕ) → lesser a b ≤ b
 unfolding lesser
 lesser-most a b = both (ltb a b) (λ e. rw e (omega (arith, ltb-true a b e))) (λ e. rw e (omega arith))
 
