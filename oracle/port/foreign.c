@@ -86,10 +86,9 @@ static void fill(void)
         (&before.nodes[0][0])[i] = number();
 }
 
-/* The limits are at most 1,100: a call takes as many steps as they and the node words say. */
 static struct state any_state(void)
 {
-    return (struct state){below(1100), below(1100), number(), below(8) == 0, number(), below(8) != 0, below(4294967296), number()};
+    return (struct state){number(), number(), number(), below(8) == 0, number(), below(8) != 0, below(4294967296), number()};
 }
 
 /* Mostly the bytes of a command. */
