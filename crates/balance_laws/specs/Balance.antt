@@ -17,7 +17,7 @@ use Rattle.rules.specs.Steps.{nobody-but}
 use Rattle.rules.specs.Effect.{and-left, and-right}
 use Rattle.thread.specs.declared.Thread.{Thread}
 use Rattle.thread.specs.Thread.{NONE}
-use Rattle.memory.specs.Shows.{Small, Shows}
+use Rattle.memory.specs.Shows.{Small, Shows, most-tick}
 use Rattle.topology.specs.CpuSet.{sixteen-all, contains-all, max-cpu-id}
 use Rattle.tree.specs.Tree.{Tree}
 use Rattle.step.specs.declared.balance.Balancing as step
@@ -60,7 +60,7 @@ pub record Shown (limits : Limits) (topology : Topology) (known active : ℕ →
   pub counted : m .wakeups ≡ w .wakeups
 
 module _ (limits : Limits) (topology : Topology) (tick us : ℕ) (known : ℕ → Bool) (numbered : (x : ℕ) → known x ≡ true → x < limits .threads) (small : Small limits)
-    (early : tick ≤ 4611686018427387904) (H : ℕ → List PutOrTake) (us-in : us < limits .cpus) (active : ℕ → Bool) (nodes : List (List ℕ)) (tree : Tree limits nodes topology) where
+    (early : tick ≤ most-tick) (H : ℕ → List PutOrTake) (us-in : us < limits .cpus) (active : ℕ → Bool) (nodes : List (List ℕ)) (tree : Tree limits nodes topology) where
   abbrev k : Context
   k = context limits tick us
 

@@ -33,7 +33,7 @@ use Rattle.processor.specs.Cpu as cpu
 use Rattle.lent.specs.declared.rq.Taken as lent
 use Rattle.lent.specs.declared.rq.Taken.the-variants as taken
 use Rattle.lent.specs.Rq.{Took, tookFrom, takeDef}
-use Rattle.memory.specs.Shows.{Small, Shows}
+use Rattle.memory.specs.Shows.{Small, Shows, most-tick}
 use Rattle.memory.specs.Frames.{beside-put, in-rows, shows-must-rebalance, shows-draws, at-again}
 use Rattle.memory.specs.Queues.{active-with, as-taken, Take-shows}
 use Rattle.memory.specs.Numbers.{word-load, load-shown, current-load-shown}
@@ -96,7 +96,7 @@ one-at-most false n = omega arith
 
 -- us: the CPU that runs the command; base: the wake-ups counted before, which leave room for those of two moves
 module _ (limits : Limits) (topology : Topology) (tick us : ℕ) (known : ℕ → Bool) (numbered : (x : ℕ) → known x ≡ true → x < limits .threads) (small : Small limits)
-    (early : tick ≤ 4611686018427387904) (H : ℕ → List PutOrTake) (us-in : us < limits .cpus) (active : ℕ → Bool) (base : ℕ) (room : base + 2 ≤ NONE) where
+    (early : tick ≤ most-tick) (H : ℕ → List PutOrTake) (us-in : us < limits .cpus) (active : ℕ → Bool) (base : ℕ) (room : base + 2 ≤ NONE) where
   abbrev pub k : Context
   k = context limits tick us
 

@@ -14,7 +14,7 @@ use Rattle.rules.specs.Steps.{nobody-but}
 use Rattle.rules.specs.Effect.{and-left, and-right}
 use Rattle.thread.specs.declared.Thread.{Thread}
 use Rattle.thread.specs.Thread.{NONE}
-use Rattle.memory.specs.Shows.{Small, Shows}
+use Rattle.memory.specs.Shows.{Small, Shows, most-tick}
 use Rattle.memory.specs.Clock.{shows-clock}
 use Rattle.step.specs.Rebalance.{rebalanceDue}
 use Rattle.sched.specs.declared.context.Context.{Context}
@@ -26,7 +26,7 @@ use Rattle.sched_laws.specs.Scheduled.{Leaves}
 use Rattle.sched_laws.specs.Commands.{settled-same}
 
 module _ (limits : Limits) (topology : Topology) (tick us : ℕ) (known : ℕ → Bool) (numbered : (x : ℕ) → known x ≡ true → x < limits .threads) (small : Small limits)
-    (early : tick ≤ 4611686018427387904) (us-in : us < limits .cpus) (H : ℕ → List PutOrTake) (ns : List (List ℕ)) where
+    (early : tick ≤ most-tick) (us-in : us < limits .cpus) (H : ℕ → List PutOrTake) (ns : List (List ℕ)) where
   abbrev k : Context
   k = context limits tick us
 

@@ -12,7 +12,7 @@ use Rattle.rules.specs.Sound.{Sound}
 use Rattle.rules.specs.Steps.{nobody-but}
 use Rattle.thread.specs.declared.Thread.{Thread}
 use Rattle.thread.specs.Thread.{NONE}
-use Rattle.memory.specs.Shows.{Small, Shows}
+use Rattle.memory.specs.Shows.{Small, Shows, most-tick}
 use Rattle.tree.specs.Tree.{Tree}
 use Rattle.sched.specs.Balance.{balanceDef, maybeRebalance, scheduleStattick}
 use Rattle.sched_laws.specs.Ticked.{context}
@@ -24,7 +24,7 @@ use Rattle.balance_laws.specs.Rebalance.{Balances, shows-maybe-rebalance
 use Rattle.balance_laws.specs.Balance.{balance-shown}
 
 module _ (limits : Limits) (topology : Topology) (tick us : ℕ) (known : ℕ → Bool) (numbered : (x : ℕ) → known x ≡ true → x < limits .threads) (small : Small limits)
-    (early : tick ≤ 4611686018427387904) (us-in : us < limits .cpus) (H : ℕ → List PutOrTake) (ns : List (List ℕ)) (tree : Tree limits ns topology) where
+    (early : tick ≤ most-tick) (us-in : us < limits .cpus) (H : ℕ → List PutOrTake) (ns : List (List ℕ)) (tree : Tree limits ns topology) where
   balances : Balances limits topology tick us known numbered small early us-in H ns
   balances active ts cs w s safe st wakeups count few =
       let m = balance-shown limits topology tick us known numbered small early H us-in active ns tree wakeups s safe count few in

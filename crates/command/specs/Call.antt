@@ -20,6 +20,8 @@ use Rattle.request.specs.Request.{limits-of, pin-option, request-of, reading-of
 use Rattle.lines.specs.declared.Refusal.{Refusal}
 use Rattle.lines.specs.declared.Refusal.the-variants as refusal
 use Rattle.lines.specs.Lines.{refusal-number}
+use Rattle.topology.specs.CpuSet.{max-cpu-id}
+use Rattle.nodes.specs.Node.{lesser}
 use Rattle.questions.specs.declared.state.State.{State}
 use Rattle.sched.specs.declared.context.Context.{Context}
 use Rattle.sched.specs.declared.context.SchedFlags.{SchedFlags}
@@ -106,8 +108,9 @@ call-read (rules.asks r used) = call-of r used
 unfoldable pub priority-in : Call → Priority
 priority-in k = priority (class-at (k .class)) (k .value)
 
+-- the limit of CPU numbers is that of the state, cut to what a set of CPUs can hold
 unfoldable pub context-of : State → Call → Context
-context-of s k = record { us = k .cpu; tick = s .tick; shortest = s .shortest; limit = s .cpus }
+context-of s k = record { us = k .cpu; tick = s .tick; shortest = s .shortest; limit = lesser (s .cpus) max-cpu-id }
 
 -- "flags 1 (yield 1, preempt 2, reinsert 4)"
 unfoldable pub flags-in : Call → SchedFlags

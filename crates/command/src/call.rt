@@ -8,6 +8,7 @@ ghost use Rattle.questions.specs.Questions.{refusal-in};
 ghost use Rattle.command.specs.Call.{askedDef, refusal-back, pin-number, call-in, call-of, call-read, priority-in, context-of, flags-in, ticked, sealed-now, one-node-more};
 use lines::Refusal;
 use lines::refusal_number;
+use nodes::node::lesser;
 use questions::refusal::refusal_of;
 use questions::state::State;
 use request::Pin;
@@ -20,6 +21,7 @@ use sched::context::SchedFlags;
 use thread::NONE;
 use thread::Thread;
 use thread::priority::class_at;
+use topology::cpuset::MAX_CPU_ID;
 
 // The command byte; the CPU, thread and node that are named; a number: type, tick, flags, nanoseconds or mark; class, value and pin; and the bytes that
 // the command takes. What a command does not name is 0, a thread NONE.
@@ -165,7 +167,8 @@ pub fn priority_in(call: Call) -> Priority
     }
 }
 
-// The CPU that runs the command, the tick, the shortest timeslice, and the limit of CPU numbers.
+// The CPU that runs the command, the tick, the shortest timeslice, and the limit of CPU numbers, which no set of CPUs exceeds: so a search ends soon
+// whatever the state says.
 pub fn context_of(state: State, call: Call) -> Context
     ensures { λ r. ⌜ r ≡ context-of state call ⌝ }
 {
@@ -173,7 +176,7 @@ pub fn context_of(state: State, call: Call) -> Context
         us: call.cpu,
         tick: state.tick,
         shortest: state.shortest,
-        limit: state.cpus,
+        limit: lesser(state.cpus, MAX_CPU_ID),
     }
 }
 

@@ -55,8 +55,8 @@ first-most (q ∷ l) b h =
     both (q .answer) (λ t. rw t (first-most l b (and-right (leb 1 (q .number) && leb (q .number) 10) (numbered l) h))) (λ t. rw t most)
 
 -- 10: "Have fewer than 4,294,967,295 commands been accepted?"
-pub few-accepted : (s : State) (r : Request) (used : ℕ) → refusal s (asks r used) ≡ 0 → s .accepted < 4294967295
-unfolding refusal room most-accepted
+pub few-accepted : (s : State) (r : Request) (used : ℕ) → refusal s (asks r used) ≡ 0 → s .accepted < most-accepted
+unfolding refusal room
 few-accepted s r used e = ltb-true _ _ (last-yes (concerning s r) 9 _ (concerning-numbered s r) e)
 
 pub refusal-most : (s : State) (r : Reading) → refusal s r ≤ 10

@@ -10,7 +10,7 @@ use borrow.Author.Tests.{ltb-true}
 use Rattle.rules.specs.Puts.{PutOrTake}
 use Rattle.rules.specs.State as rules
 use Rattle.rules.specs.Requests.{declare-cpu, add-node, place-cpu, seal, declare-thread, set-tick, remove-donation, set-critical, asks}
-use Rattle.rules.specs.Questions.{refusal, concerning, open-yet, at-most, node-exists, parent-without-cpus, node-fits}
+use Rattle.rules.specs.Questions.{refusal, concerning, open-yet, at-most, node-exists, parent-without-cpus, node-fits, most-accepted}
 use Rattle.rules.specs.Commands as ruled
 use Rattle.rules.specs.Commands.{obeys}
 use Rattle.rules.specs.Reached.{yes}
@@ -27,14 +27,15 @@ use Rattle.command_laws.specs.Law.{Reachable, As-ruled}
 use Rattle.command_laws.specs.Numbers.{few-accepted}
 
 -- one command more does not wrap
-pub one-more : (n : ℕ) → n < 4294967295 → (n + 1) % 2 ^ 64 ≡ n + 1
+pub one-more : (n : ℕ) → n < most-accepted → (n + 1) % 2 ^ 64 ≡ n + 1
+unfolding most-accepted
 one-more n h = omega arith
 
 module _ {H : ℕ → List PutOrTake} {ts : List Thread} {cs ns : List (List ℕ)} {a : State} {s : rules.State} (m : Stands ts cs ns a s) (reachable : Reachable H s) where
-  accepted-one : s .accepted < 4294967295 → (a .accepted + 1) % 2 ^ 64 ≡ a .accepted + 1
-  accepted-one h = one-more (a .accepted) (subst (λ (n : ℕ). n < 4294967295) (sym (m .accepted)) h)
+  accepted-one : s .accepted < most-accepted → (a .accepted + 1) % 2 ^ 64 ≡ a .accepted + 1
+  accepted-one h = one-more (a .accepted) (subst (λ (n : ℕ). n < most-accepted) (sym (m .accepted)) h)
 
-  counted : s .accepted < 4294967295 → Counted a (accepted a) (s .sealed) (s .tick) (length (s .topology .nodes))
+  counted : s .accepted < most-accepted → Counted a (accepted a) (s .sealed) (s .tick) (length (s .topology .nodes))
   unfolding accepted limits-in
   counted h = record { limits-stay = refl; sealed-is = m .sealed; tick-is = m .tick; count-is = m .node-count; accepted-is = accepted-one h }
 
@@ -53,9 +54,9 @@ module _ {H : ℕ → List PutOrTake} {ts : List Thread} {cs ns : List (List ℕ
       let fits = yes 5 _ _ (yes 5 _ _ (yes 5 _ _ (yes 5 _ _ (yes 2 _ _ e .1) .1) .1) .1) in
       ltb-true _ _ (fits .0)
 
-  counted-node : s .accepted < 4294967295 → length (s .topology .nodes) < s .limits .nodes
+  counted-node : s .accepted < most-accepted → length (s .topology .nodes) < s .limits .nodes
       → Counted a (accepted (one-node-more a)) (s .sealed) (s .tick) (length (s .topology .nodes) + 1)
-  unfolding accepted one-node-more limits-in
+  unfolding accepted one-node-more limits-in most-accepted
   counted-node h l = record {
     limits-stay = refl;
     sealed-is = m .sealed;
@@ -80,7 +81,7 @@ module _ {H : ℕ → List PutOrTake} {ts : List Thread} {cs ns : List (List ℕ
   }
 
   -- 04
-  counted-seal : s .accepted < 4294967295 → Counted a (accepted (sealed-now a)) true (s .tick) (length (s .topology .nodes))
+  counted-seal : s .accepted < most-accepted → Counted a (accepted (sealed-now a)) true (s .tick) (length (s .topology .nodes))
   unfolding accepted sealed-now limits-in
   counted-seal h = record { limits-stay = refl; sealed-is = refl; tick-is = m .tick; count-is = m .node-count; accepted-is = accepted-one h }
 
@@ -101,7 +102,7 @@ module _ {H : ℕ → List PutOrTake} {ts : List Thread} {cs ns : List (List ℕ
   }
 
   -- 11
-  counted-tick : (t : ℕ) → s .accepted < 4294967295 → Counted a (accepted (ticked a t)) (s .sealed) t (length (s .topology .nodes))
+  counted-tick : (t : ℕ) → s .accepted < most-accepted → Counted a (accepted (ticked a t)) (s .sealed) t (length (s .topology .nodes))
   unfolding accepted ticked limits-in
   counted-tick t h = record { limits-stay = refl; sealed-is = m .sealed; tick-is = refl; count-is = m .node-count; accepted-is = accepted-one h }
 

@@ -6,18 +6,20 @@ use mathlib.Core.Bool.{Bool, true, false, false≢true}
 use mathlib.Core.Option.{Option, none, some}
 use mathlib.Core.List.{List}
 use native.Mathlib.Omega.{arith}
-use borrow.Author.Tests.{ne-eqb}
+use lib.Dec.{ltb}
+use borrow.Author.Tests.{ne-eqb, ltb-false}
 use Rattle.rules.specs.declared.Priority.{Priority}
+use Rattle.rules.specs.Line.{both}
 use Rattle.rules.specs.Priority.{nr-values, priority, class-at}
 use Rattle.rules.specs.Times.{is-some}
 use Rattle.rules.specs.Queue.{load}
 use Rattle.rules.specs.Puts.{PutOrTake}
 use Rattle.rules.specs.State as rules
-use Rattle.rules.specs.State.{Limits, runs-on, blocked}
+use Rattle.rules.specs.State.{runs-on, blocked}
 use Rattle.rules.specs.Schedule as sched
-use Rattle.rules.specs.Schedule.{World, Got, with-cpu, with-thread}
+use Rattle.rules.specs.Schedule.{World, Got}
 use Rattle.rules.specs.Requests.{schedule-thread, schedule, hardtick, stattick, resched, maybe-preempt, donate, asks, flags-of}
-use Rattle.rules.specs.Questions.{refusal, concerning, thread-declared, thread-blocked}
+use Rattle.rules.specs.Questions.{refusal, concerning, thread-declared, thread-blocked, most-accepted}
 use Rattle.rules.specs.Commands as rule
 use Rattle.rules.specs.Commands.{Answer, world-of, running-of, obeys, schedules, scheduled-on}
 use Rattle.rules.specs.Sound.{Under, Sound, New}
@@ -26,10 +28,12 @@ use Rattle.rules.specs.Reached.{yes, value-below, blocked-new}
 use Rattle.thread.specs.declared.Thread.{Thread}
 use Rattle.thread.specs.Thread.{NONE}
 use Rattle.processor.specs.Words.{word}
-use Rattle.memory.specs.Shows.{number-or-none, Shows}
+use Rattle.memory.specs.Shows.{number-or-none, Shows, most-tick}
 use Rattle.memory.specs.Frames.{shows-alike}
 use Rattle.memory.specs.Numbers.{word-load, load-shown, running-shown}
 use Rattle.lines.specs.Lines.{refusal-number, shown-option, running-option, answer-of}
+use Rattle.topology.specs.CpuSet.{max-cpu-id}
+use Rattle.nodes.specs.Node.{lesser}
 use Rattle.questions.specs.declared.state.State.{State}
 use Rattle.sched.specs.declared.context.Context.{Context}
 use Rattle.sched.specs.World as lent
@@ -46,7 +50,7 @@ use Rattle.sched_laws.specs.Scheduled as law
 use Rattle.sched_laws.specs.Scheduled.{Leaves, shows-schedule}
 use Rattle.sched_laws.specs.Commands.{settled-same, runs-somewhere, settled-runs, ends-runs, shows-maybe-preempt, ends-resched, ends-hardtick, woken-on, wakes, scheduled-thread}
 use Rattle.sched_laws.specs.Donates.{shows-donated, counts-donated}
-use Rattle.sched_laws.specs.Spared.{donate-running}
+use Rattle.sched_laws.specs.Spared.{donate-running, resched-wakeups, hardtick-wakeups}
 use Rattle.balance_laws.specs.Stattick.{stattick-law}
 use Rattle.question_laws.specs.Stands.{limits-in, runs, Stands}
 use Rattle.command_laws.specs.Law.{Reachable, As-ruled}
@@ -61,26 +65,10 @@ unfolding running-option running-in number-or-none running-of
 running-same none h = refl
 running-same (some x) h = let l : x < NONE = h x refl in rw (ne-eqb x NONE (λ e. omega arith))
 
--- ---- what a command changes beside queues
-
-module _ (limits : Limits) (topology : rules.Topology) (tick us : ℕ) where
-  mark-wakeups : (w : World) (b : Bool) → sched.mark-preempt limits topology tick us w b .wakeups ≡ w .wakeups
-  unfolding sched.mark-preempt with-cpu
-  mark-wakeups w true = refl
-  mark-wakeups w false = refl
-
-  paid-wakeups : (w : World) (o : Option ℕ) (n : ℕ) → sched.paid-by limits topology tick us w o n .wakeups ≡ w .wakeups
-  unfolding sched.paid-by with-cpu with-thread
-  paid-wakeups w none n = refl
-  paid-wakeups w (some x) n = refl
-
-  hardtick-wakeups : (w : World) → sched.schedule-hardtick limits topology tick us w .wakeups ≡ w .wakeups
-  unfolding sched.schedule-hardtick
-  hardtick-wakeups w = mark-wakeups _ _ ∙ paid-wakeups w _ _
-
-  resched-wakeups : (w : World) → sched.schedule-resched limits topology tick us w .wakeups ≡ w .wakeups
-  unfolding sched.schedule-resched
-  resched-wakeups w = mark-wakeups w _
+-- a limit that a set of CPUs can hold is not cut
+uncut : (n : ℕ) → n ≤ max-cpu-id → lesser n max-cpu-id ≡ n
+unfolding lesser
+uncut n h = both (ltb n max-cpu-id) (λ e. rw e) (λ e. rw e (let l : max-cpu-id ≤ n = ltb-false _ _ e in omega arith))
 
 module _ {H : ℕ → List PutOrTake} {ts : List Thread} {cs ns : List (List ℕ)} {a : State} {s : rules.State} (m : Stands ts cs ns a s) (r : Reachable H s) where
   abbrev Soundly : World → Type 0
@@ -95,7 +83,7 @@ module _ {H : ℕ → List PutOrTake} {ts : List Thread} {cs ns : List (List ℕ
   safe : Soundly w
   safe = r .reached .sound
 
-  early : s .tick ≤ 4611686018427387904
+  early : s .tick ≤ most-tick
   early = m .tick-fits
 
   settled : Settled no-one (runs s) w
@@ -114,9 +102,9 @@ module _ {H : ℕ → List PutOrTake} {ts : List Thread} {cs ns : List (List ℕ
   unfolding world-of
   few-still = omega arith
 
-  told : (c : ℕ) → context (s .limits) (s .tick) c ≡ record { us = c; tick = a .tick; shortest = a .shortest; limit = a .cpus }
+  told : (c : ℕ) → context (s .limits) (s .tick) c ≡ record { us = c; tick = a .tick; shortest = a .shortest; limit = lesser (a .cpus) max-cpu-id }
   unfolding context limits-in
-  told c = λ i. record { us = c; tick = sym (m .tick) i; shortest = m .limits i .shortest; limit = m .limits i .cpus }
+  told c = λ i. record { us = c; tick = sym (m .tick) i; shortest = m .limits i .shortest; limit = (ap (λ (l : rules.Limits). l .cpus) (m .limits) ∙ sym (uncut (a .cpus) (rw (← ap (λ (l : rules.Limits). l .cpus) (m .limits)) (m .tree .cpus-fit)))) i }
 
   -- ---- what is left: the records and words show what the rules leave
 
@@ -125,7 +113,7 @@ module _ {H : ℕ → List PutOrTake} {ts : List Thread} {cs ns : List (List ℕ
   unfolding rule.ran runs runs-on runs-somewhere world-of
   shows-left v x d e = shows-alike v _ (λ c. refl) (λ z. refl) (ends-runs (λ c y q. d .runs c y q .0) e)
 
-  stands-ran : {ts′ : List Thread} {cs′ : List (List ℕ)} (v : World) (x : Answer) → s .accepted < 4294967295 → Soundly v → Ends (s .limits) (s .topology) (s .known) ts′ cs′ v
+  stands-ran : {ts′ : List Thread} {cs′ : List (List ℕ)} (v : World) (x : Answer) → s .accepted < most-accepted → Soundly v → Ends (s .limits) (s .topology) (s .known) ts′ cs′ v
       → Stands ts′ cs′ ns (accepted a) (rule.ran s v x .state)
   unfolding rule.ran accepted limits-in
   stands-ran v x room d e = record {
@@ -156,7 +144,7 @@ module _ {H : ℕ → List PutOrTake} {ts : List Thread} {cs ns : List (List ℕ
       λ i. record { refused = 0; cpu = some c; running = p i; load = some (l i); wakeups = some (k i) }
 
   -- ---- a command that a CPU ran, and whose line shows CPU c
-  ran-law : (d : lent.World) (v : World) (c used : ℕ) → s .accepted < 4294967295 → c < s .limits .cpus → Soundly v → Leave d v
+  ran-law : (d : lent.World) (v : World) (c used : ℕ) → s .accepted < most-accepted → c < s .limits .cpus → Soundly v → Leave d v
       → As-ruled (record { outcome = ran (d .cpus) a c (d .wakeups) used; threads = d .threads; cpus = d .cpus; nodes = ns }) (rule.ran s v (rule.shown v c))
   unfolding ran
   ran-law d v c used room near ok e = record {
@@ -165,7 +153,7 @@ module _ {H : ℕ → List PutOrTake} {ts : List Thread} {cs ns : List (List ℕ
   }
 
   -- a blocked thread goes into the queue of the CPU selected for it
-  module _ (c x used : ℕ) (on : On s c) (room : s .accepted < 4294967295) (known : s .known x ≡ true) (idle : blocked s x ≡ true) where
+  module _ (c x used : ℕ) (on : On s c) (room : s .accepted < most-accepted) (known : s .known x ≡ true) (idle : blocked s x ≡ true) where
     abbrev chosen : Got
     chosen = sched.select-cpu (s .limits) (s .topology) (s .tick) c w x none
 

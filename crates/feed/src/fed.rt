@@ -27,6 +27,7 @@ pub const ENDED: u64 = 3;
 pub const LAST_NUMBER: u64 = 4294967294;
 
 // The bytes of the block that were taken, the bytes of output, the number of the next command, the refused ones, the phase, and the state.
+#[repr(C)]
 pub struct Fed {
     pub at: usize,
     pub done: usize,

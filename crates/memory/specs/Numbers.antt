@@ -27,7 +27,7 @@ use Rattle.represent.specs.Linked.{below-has}
 use Rattle.represent.specs.Well.{Well}
 use Rattle.represent.specs.Operations.{empty-is, movable-same, slice-most, deadline-exact}
 use Rattle.represent.specs.Records.{marks}
-use Rattle.memory.specs.Shows.{reading-of, number-or-none, Small, Shows}
+use Rattle.memory.specs.Shows.{reading-of, number-or-none, Small, Shows, most-tick}
 use Rattle.memory.specs.Queues.{fits}
 use borrow.Author.Tests.{ne-eqb}
 
@@ -119,7 +119,7 @@ module _ {limits : Limits} {topology : Topology} {known active : ℕ → Bool} {
   priority-shown = rw (word-priority cs c, advertised-shown, s .words c near .own-priority)
 
   -- deadlines
-  pub deadline-shown : (tick : ℕ) (k : PriorityClass) → tick ≤ 4611686018427387904
+  pub deadline-shown : (tick : ℕ) (k : PriorityClass) → tick ≤ most-tick
       → sum tick (deadline-distance (limits .shortest) k (queueAt cs c .«timeshare_load») (queueAt cs c .load) % 2 ^ 64)
       ≡ tick + deadline-distance (limits .shortest) k (timeshare-load (w .cpus c .queue)) (load (w .cpus c .queue))
   unfolding reading-of

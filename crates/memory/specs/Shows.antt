@@ -1,6 +1,6 @@
 -- WHAT LENT MEMORY SHOWS: thread records ts and words cs of the CPUs that show the CPUs and threads of the rules' World w. A reader reads all of this
 -- file. Assumes nothing.
-use Prim.Native.Nat.{ℕ, _≤_, _<_}
+use Prim.Native.Nat.{ℕ, _^_, _≤_, _<_}
 use mathlib.Core.Path.{_≡_}
 use mathlib.Core.Bool.{Bool, true, false, not}
 use mathlib.Core.Option.{Option, none, some}
@@ -67,6 +67,10 @@ pub record Places (limit : ℕ) (known active : ℕ → Bool) (ts : List Thread)
   pub undeclared : (x : ℕ) → known x ≡ false → place-at ts x ≡ place.Undeclared
 
 -- ---- all of it
+
+-- the last tick
+abbrev pub most-tick : ℕ
+most-tick = 2 ^ 62
 
 -- Limits with which no sum of the scheduler wraps and every CPU number fits a record.
 pub record Small (limits : Limits) : Type 0 where

@@ -10,9 +10,10 @@ use lib.ListN.{length, getD, set, replicate, length-set, getD-replicate, List·g
 use lib.Seq.{getD-set-same, getD-set-other, set-out}
 use native.Mathlib.Omega.{arith}
 use native.Mathlib.Nat.{add-assoc, zero-add}
+use Rattle.rules.specs.Line.{both}
 use Rattle.queue.specs.declared.lists.Lists.{Lists}
 use Rattle.runqueue.specs.declared.rq.RunQueue.{RunQueue}
-use Rattle.processor.specs.Window.{both, loadN, placeN, length-place, load-store, load-other, place-away, load-same}
+use Rattle.processor.specs.Window.{loadN, placeN, length-place, load-store, load-other, place-away, load-same}
 
 unfoldable pub listsAt : List ℕ → ℕ → Lists
 listsAt ws at = record { heads = loadN ws at 8 8; tails = loadN ws (at + 8) 8 8 }

@@ -6,7 +6,7 @@ use lib.ListN.{length, getD, set, length-set, List·getD-eq-default}
 use lib.Seq.{set-out, getD-set-same, getD-set-other}
 use lib.Dec.{eqb, ltb}
 use borrow.Author.Tests.{eqb-true, eqb-false, ltb-true, ltb-false}
-use Rattle.processor.specs.Window.{both}
+use Rattle.rules.specs.Line.{both}
 
 -- the words of a row
 abbrev pub width : ℕ

@@ -4,6 +4,7 @@ ghost use Rattle.questions.specs.Questions.{node-exists, node-fits, tick
 
 // The limits: how many CPUs and nodes there may be, the shortest User timeslice, and whether an operand that names a CPU or a node has two bytes. Then
 // the tick, whether the topology is sealed, the commands accepted, and the nodes that exist.
+#[repr(C)]
 pub struct State {
     pub cpus: u64,
     pub nodes: u64,

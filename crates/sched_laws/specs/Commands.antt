@@ -3,7 +3,7 @@ use Prim.Native.Nat.{ℕ, _≤_, _<_}
 use mathlib.Core.Path.{_≡_, refl, sym, ap, _∙_}
 use mathlib.Core.Logic.{_≢_}
 use mathlib.Core.Bool.{Bool, true, false, true≢false}
-use mathlib.Core.Option.{Option, none, some}
+use mathlib.Core.Option.{none, some}
 use mathlib.Core.List.{List}
 use lib.Dec.{eqb}
 use borrow.Author.Tests.{eqb-true, eqb-false}
@@ -12,7 +12,7 @@ use Rattle.rules.specs.Times.{is-some}
 use Rattle.rules.specs.Puts.{PutOrTake}
 use Rattle.rules.specs.State.{at, any-below, is-number, Limits, Topology, Cpu}
 use Rattle.rules.specs.Schedule as sched
-use Rattle.rules.specs.Schedule.{World, Got, with-cpu, with-thread, with-preempt}
+use Rattle.rules.specs.Schedule.{World, Got, with-cpu, with-preempt}
 use Rattle.rules.specs.Sound.{at-here, at-there, at-keeps, same-cpu-changed, sound-same, New, Sound}
 use Rattle.rules.specs.Steps.{nobody-but, Selected, select-cpu-selected, new-same}
 use Rattle.rules.specs.Reached.{any-not, number-is as is-number-of}
@@ -22,7 +22,7 @@ use Rattle.thread.specs.declared.time.OptionCpu.the-variants as cpu
 use Rattle.thread.specs.Reads.{named}
 use Rattle.thread.specs.Thread.{NONE}
 use Rattle.lent.specs.Rq.{recordAt}
-use Rattle.memory.specs.Shows.{Small, Shows}
+use Rattle.memory.specs.Shows.{Small, Shows, most-tick}
 use Rattle.tree.specs.Tree.{Tree, number-is}
 use Rattle.tree.specs.Lists.{any-at}
 use Rattle.choice.specs.Reads.{as-cpu}
@@ -41,7 +41,7 @@ use Rattle.sched_laws.specs.Moves.{shows-scheduled, counts-scheduled}
 use Rattle.sched_laws.specs.Picks.{Settled, no-one, Ends}
 use Rattle.sched_laws.specs.Schedules.{select-finds, select-shown, shows-selected}
 use Rattle.sched_laws.specs.Scheduled.{flags-in, Leaves, shows-schedule}
-use Rattle.sched_laws.specs.Spared.{select-wakeups, put-running}
+use Rattle.sched_laws.specs.Spared.{select-wakeups, put-running, resched-running, hardtick-running}
 
 -- ---- the active threads are those that run
 
@@ -90,7 +90,7 @@ pub ends-runs : {limits : Limits} {topology : Topology} {known : ℕ → Bool} {
 ends-runs {limits} {v = v} near e = shows-active (runs-somewhere limits v) (settled-is limits (e .active) v near (e .settled)) (e .shows)
 
 module _ (limits : Limits) (topology : Topology) (tick us : ℕ) (known : ℕ → Bool) (numbered : (x : ℕ) → known x ≡ true → x < limits .threads) (small : Small limits)
-    (early : tick ≤ 4611686018427387904) (us-in : us < limits .cpus) (H : ℕ → List PutOrTake) (ns : List (List ℕ)) (tree : Tree limits ns topology) (node : ℕ) (put-on : topology .placed us ≡ some node) where
+    (early : tick ≤ most-tick) (us-in : us < limits .cpus) (H : ℕ → List PutOrTake) (ns : List (List ℕ)) (tree : Tree limits ns topology) (node : ℕ) (put-on : topology .placed us ≡ some node) where
   abbrev k : Context
   k = context limits tick us
 
@@ -119,34 +119,20 @@ module _ (limits : Limits) (topology : Topology) (tick us : ℕ) (known : ℕ �
     runs-known : (x : ℕ) → w .cpus us .running ≡ some x → known x ≡ true
     runs-known x e = safe .runs us x e .1
 
-    mark-running : (u : World) (b : Bool) (c : ℕ) → sched.mark-preempt limits topology tick us u b .cpus c .running ≡ u .cpus c .running
-    unfolding sched.mark-preempt with-cpu with-preempt
-    mark-running u true c = at-keeps (λ (p : Cpu). p .running) (u .cpus) us _ refl c
-    mark-running u false c = refl
-
     pub ends-resched : Ends limits topology known ts (scheduleResched ts cs us) (sched.schedule-resched limits topology tick us w)
     unfolding scheduleResched sched.schedule-resched
     ends-resched = record {
       active = active;
       shows = unfold sched.schedule-resched in shows-resched limits topology tick us known numbered small early us-in s runs-known;
-      settled = settled-same w _ (mark-running w _) st;
+      settled = settled-same w _ (resched-running limits topology tick us w) st;
     }
 
     -- 14: `schedule_hardtick`
-    paid-running : (o : Option ℕ) (n c : ℕ) → sched.paid-by limits topology tick us w o n .cpus c .running ≡ w .cpus c .running
-    unfolding sched.paid-by with-thread with-cpu sched.with-ticks
-    paid-running none n c = at-keeps (λ (p : Cpu). p .running) (w .cpus) us _ refl c
-    paid-running (some x) n c = at-keeps (λ (p : Cpu). p .running) (w .cpus) us _ refl c
-
-    hard-running : (c : ℕ) → sched.schedule-hardtick limits topology tick us w .cpus c .running ≡ w .cpus c .running
-    unfolding sched.schedule-hardtick
-    hard-running c = mark-running _ _ c ∙ paid-running _ _ c
-
     pub ends-hardtick : w .cpus us .last-tick ≤ tick → Ends limits topology known (scheduleHardtick ts cs k .threads) (scheduleHardtick ts cs k .cpus) (sched.schedule-hardtick limits topology tick us w)
     ends-hardtick late = record {
       active = active;
       shows = shows-schedule-hardtick limits topology tick us known numbered small early us-in s runs-known late;
-      settled = settled-same w _ hard-running st;
+      settled = settled-same w _ (hardtick-running limits topology tick us w) st;
     }
 
     -- 12: `schedule_thread`: a blocked thread goes into the queue of the CPU selected for it

@@ -23,7 +23,7 @@ use Rattle.thread.specs.Reads.{reads, held, donated-in, named, cpu-in}
 use Rattle.thread.specs.Priority.{donate-priority, reads-donated}
 use Rattle.processor.specs.Queue.{queueAt}
 use Rattle.lent.specs.Rq.{recordAt}
-use Rattle.memory.specs.Shows.{Small, Shows}
+use Rattle.memory.specs.Shows.{Small, Shows, most-tick}
 use Rattle.memory.specs.Frames.{shows-fields, shows-same-thread}
 use Rattle.memory.specs.Numbers.{advertised-shown, empty-shown}
 use Rattle.step.specs.Running.{runningAt}
@@ -60,7 +60,7 @@ cond-same f true a c d e g = e
 cond-same f false a c d e g = g
 
 module _ (limits : Limits) (topology : Topology) (tick us : ℕ) (known : ℕ → Bool) (numbered : (x : ℕ) → known x ≡ true → x < limits .threads) (small : Small limits)
-    (early : tick ≤ 4611686018427387904) (us-in : us < limits .cpus) where
+    (early : tick ≤ most-tick) (us-in : us < limits .cpus) where
   module _ {active : ℕ → Bool} {ts : List Thread} {cs : List (List ℕ)} {w : World} (s : Shows limits topology known active ts cs w) (x : ℕ) (below : x < limits .threads) where
     abbrev r : Thread
     r = recordAt ts x

@@ -17,7 +17,7 @@ use Rattle.rules.specs.Questions.{Question, sealed-now, tick-fits, concerning, 
 use Rattle.rules.specs.Commands.{Answer, world-of, refuses, changed, ran, ran-on, schedules, scheduled-on, obeys, answered, step, after-calls}
 use Rattle.rules.specs.Reached.{yes}
 use Rattle.rules.specs.Effect.{and-left}
-use Rattle.sched_laws.specs.Spared.{put-last, pick-last, select-last, balance-last, donate-last}
+use Rattle.sched_laws.specs.Spared.{put-last, pick-last, select-last, balance-last, donate-last, mark-last}
 
 module _ (limits : Limits) (topology : Topology) (tick us : ℕ) where
   -- the same last ticks
@@ -59,11 +59,6 @@ module _ (limits : Limits) (topology : Topology) (tick us : ℕ) where
   unfolding sched.schedule sched.do-schedule
   schedule-same w f c = if-same w w _ (sched.critical-running w (w .cpus us .running)) (λ d. refl) (of-same w _ f) c
 
-  pub mark-same : (w : World) (b : Bool) → Same w (sched.mark-preempt limits topology tick us w b)
-  unfolding sched.mark-preempt with-cpu with-preempt
-  mark-same w true c = at-keeps tick-of (w .cpus) us _ refl c
-  mark-same w false c = refl
-
   pub preempt-same : (w : World) → Same w (sched.schedule-maybe-preempt limits topology tick us w)
   unfolding sched.schedule-maybe-preempt with-cpu with-preempt
   preempt-same w c = if-same w _ w (w .cpus us .preempt) (λ d. schedule-same _ _ d ∙ at-keeps tick-of (w .cpus) us _ refl d) (λ d. refl) c
@@ -80,11 +75,11 @@ module _ (limits : Limits) (topology : Topology) (tick us : ℕ) where
 
   hard-late : (w : World) → ((c : ℕ) → w .cpus c .last-tick ≤ tick) → (c : ℕ) → sched.schedule-hardtick limits topology tick us w .cpus c .last-tick ≤ tick
   unfolding sched.schedule-hardtick
-  hard-late w h c = rw (mark-same _ _ c) (paid-late w _ _ h c)
+  hard-late w h c = rw (mark-last limits topology tick us _ _ c) (paid-late w _ _ h c)
 
   resched-same : (w : World) → Same w (sched.schedule-resched limits topology tick us w)
   unfolding sched.schedule-resched
-  resched-same w c = mark-same w _ c
+  resched-same w c = mark-last limits topology tick us w _ c
 
 -- ---- all calls
 

@@ -23,7 +23,7 @@ use Rattle.thread.specs.Time.{moving-to-queue}
 use Rattle.lent.specs.declared.rq.Taken.the-variants as taken
 use Rattle.lent.specs.declared.rq.Taken as lent
 use Rattle.lent.specs.Rq.{recordAt, Took, takeDef}
-use Rattle.memory.specs.Shows.{Small, Shows}
+use Rattle.memory.specs.Shows.{Small, Shows, most-tick}
 use Rattle.memory.specs.Queues.{active-with, as-taken, Take-shows, shows-take}
 use Rattle.choice.specs.Reads.{as-cpu}
 use Rattle.tree.specs.Tree.{Tree}
@@ -67,7 +67,7 @@ somebody-moved d x D e = ap (λ (a : lent.Taken). cond (isNobody a) D (record {
 })) e
 
 module _ (limits : Limits) (topology : Topology) (tick us : ℕ) (known : ℕ → Bool) (numbered : (x : ℕ) → known x ≡ true → x < limits .threads) (small : Small limits)
-    (early : tick ≤ 4611686018427387904) (us-in : us < limits .cpus) (H : ℕ → List PutOrTake) where
+    (early : tick ≤ most-tick) (us-in : us < limits .cpus) (H : ℕ → List PutOrTake) where
   abbrev k : Context
   k = context limits tick us
 

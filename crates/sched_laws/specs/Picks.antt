@@ -19,7 +19,7 @@ use Rattle.thread.specs.Thread.{NONE}
 use Rattle.lent.specs.declared.rq.Taken.the-variants as taken
 use Rattle.lent.specs.declared.rq.Taken as lent
 use Rattle.lent.specs.Rq.{Took, takeDef}
-use Rattle.memory.specs.Shows.{number-or-none, Small, Shows}
+use Rattle.memory.specs.Shows.{number-or-none, Small, Shows, most-tick}
 use Rattle.memory.specs.Queues.{active-with, as-taken, Take-shows, shows-take}
 use Rattle.tree.specs.Tree.{Tree}
 use Rattle.step.specs.Running.{ranIdle}
@@ -108,7 +108,7 @@ same-is y none e = absurd (false≢true e)
 same-is y (some z) e = ap some (eqb-true z y e)
 
 module _ (limits : Limits) (topology : Topology) (tick us : ℕ) (known : ℕ → Bool) (numbered : (x : ℕ) → known x ≡ true → x < limits .threads) (small : Small limits)
-    (early : tick ≤ 4611686018427387904) (us-in : us < limits .cpus) (H : ℕ → List PutOrTake) (ns : List (List ℕ)) (tree : Tree limits ns topology) (node : ℕ) (put-on : topology .placed us ≡ some node) where
+    (early : tick ≤ most-tick) (us-in : us < limits .cpus) (H : ℕ → List PutOrTake) (ns : List (List ℕ)) (tree : Tree limits ns topology) (node : ℕ) (put-on : topology .placed us ≡ some node) where
   abbrev k : Context
   k = context limits tick us
 

@@ -20,7 +20,7 @@ use Rattle.thread.specs.declared.time.OptionCpu.the-variants as cpu
 use Rattle.thread.specs.Reads.{named}
 use Rattle.thread.specs.Thread.{NONE}
 use Rattle.lent.specs.Rq.{recordAt}
-use Rattle.memory.specs.Shows.{number-or-none, Small, Shows}
+use Rattle.memory.specs.Shows.{number-or-none, Small, Shows, most-tick}
 use Rattle.tree.specs.Tree.{Tree}
 use Rattle.choice.specs.Reads.{as-cpu}
 use Rattle.step.specs.Option.{isNone, cpuOf}
@@ -62,7 +62,7 @@ pub record Leaves (limits : Limits) (topology : Topology) (known : ℕ → Bool)
   pub counted : d .wakeups ≡ v .wakeups
 
 module _ (limits : Limits) (topology : Topology) (tick us : ℕ) (known : ℕ → Bool) (numbered : (x : ℕ) → known x ≡ true → x < limits .threads) (small : Small limits)
-    (early : tick ≤ 4611686018427387904) (us-in : us < limits .cpus) (H : ℕ → List PutOrTake) (ns : List (List ℕ)) (tree : Tree limits ns topology) (node : ℕ) (put-on : topology .placed us ≡ some node) where
+    (early : tick ≤ most-tick) (us-in : us < limits .cpus) (H : ℕ → List PutOrTake) (ns : List (List ℕ)) (tree : Tree limits ns topology) (node : ℕ) (put-on : topology .placed us ≡ some node) where
   abbrev k : Context
   k = context limits tick us
 

@@ -30,7 +30,7 @@ use Rattle.thread.specs.Thread.{BLOCKED, with-place}
 use Rattle.thread.specs.Place.{place-in, reads-place}
 use Rattle.thread.specs.Time.{preferred-cpu, chosen, reads-preferred-cpu}
 use Rattle.lent.specs.Rq.{recordAt}
-use Rattle.memory.specs.Shows.{place-at, Places, Small, Shows}
+use Rattle.memory.specs.Shows.{place-at, Places, Small, Shows, most-tick}
 use Rattle.memory.specs.Frames.{shows-record, in-records, places-moved, shows-same-thread}
 use Rattle.represent.specs.Records.{field-set}
 use Rattle.tree.specs.Tree.{Tree}
@@ -97,7 +97,7 @@ either-in n none (some d) u v c e = let z : d ≡ c = cc in rw (← z) v
 either-in n (some d) b u v c e = let z : d ≡ c = cc in rw (← z) u
 
 module _ (limits : Limits) (topology : Topology) (tick us : ℕ) (known : ℕ → Bool) (numbered : (x : ℕ) → known x ≡ true → x < limits .threads) (small : Small limits)
-    (early : tick ≤ 4611686018427387904) (us-in : us < limits .cpus) (H : ℕ → List PutOrTake) (ns : List (List ℕ)) (tree : Tree limits ns topology) (node : ℕ) (put-on : topology .placed us ≡ some node) where
+    (early : tick ≤ most-tick) (us-in : us < limits .cpus) (H : ℕ → List PutOrTake) (ns : List (List ℕ)) (tree : Tree limits ns topology) (node : ℕ) (put-on : topology .placed us ≡ some node) where
   abbrev OK : (ℕ → Bool) → World → Type 0
   OK but w = Sound limits known H but w
 

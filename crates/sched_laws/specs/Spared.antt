@@ -1,7 +1,7 @@
--- WHAT STEPS OF THE RULES SPARE: a number or a thread read of a world that a put, a take, a choice, a switch, a donation or `balance` does not change. Assumes nothing.
+-- WHAT STEPS OF THE RULES SPARE: a number or a thread read of a world that a put, a take, a choice, a switch, a mark, a hard tick, a donation or `balance` does not change. Assumes nothing.
 use Prim.Native.Nat.{ℕ, zero, suc}
 use mathlib.Core.Path.{_≡_, refl, _∙_}
-use mathlib.Core.Bool.{Bool, _&&_, false, not}
+use mathlib.Core.Bool.{Bool, _&&_, false, not, true}
 use mathlib.Core.Option.{Option, none, some}
 use lib.Dec.{eqb, ltb}
 use Rattle.rules.specs.declared.Priority.{Priority}
@@ -12,7 +12,7 @@ use Rattle.rules.specs.Queue.{Queue, load, Next, nobody, next-in}
 use Rattle.rules.specs.State.{Limits, Topology, Cpu}
 use Rattle.rules.specs.Choice.{Pair, no-pair, pair}
 use Rattle.rules.specs.Schedule as sched
-use Rattle.rules.specs.Schedule.{World, Balancing, with-cpu, with-thread, with-queue, with-draws, with-running, set-rebalance, noted, wakeup}
+use Rattle.rules.specs.Schedule.{World, Balancing, with-cpu, with-thread, with-queue, with-draws, with-running, set-rebalance, noted, wakeup, with-preempt, with-ticks}
 use Rattle.rules.specs.Sound.{at-keeps}
 use Rattle.rules.specs.Priority.{less, donation-accepted}
 
@@ -85,6 +85,28 @@ module _ (limits : Limits) (topology : Topology) (tick us : ℕ) where
       unfolding sched.pick-next sched.take-thread
       pick w = taken _ _ _ ∙ handed w us false _
 
+    -- nor the mark to preempt
+    module _ (marks : (w : World) (b : Bool) → f (with-cpu w us (with-preempt (w .cpus us) b)) ≡ f w) where
+      mark-preempt : (w : World) (b : Bool) → f (sched.mark-preempt limits topology tick us w b) ≡ f w
+      unfolding sched.mark-preempt
+      mark-preempt w true = marks w true
+      mark-preempt w false = refl
+
+      resched : (w : World) → f (sched.schedule-resched limits topology tick us w) ≡ f w
+      unfolding sched.schedule-resched
+      resched w = mark-preempt w _
+
+      -- nor the last hard tick
+      module _ (pays : (w : World) (last paid : ℕ) → f (with-cpu w us (with-ticks (w .cpus us) last paid)) ≡ f w) where
+        paid-by : (w : World) (o : Option ℕ) (n : ℕ) → f (sched.paid-by limits topology tick us w o n) ≡ f w
+        unfolding sched.paid-by
+        paid-by w none n = pays w _ _
+        paid-by w (some x) n = a .thread _ x _ ∙ pays w _ _
+
+        hardtick : (w : World) → f (sched.schedule-hardtick limits topology tick us w) ≡ f w
+        unfolding sched.schedule-hardtick
+        hardtick w = mark-preempt _ _ ∙ paid-by w _ _
+
     -- nor the wake-ups
     module _ (wakes : (w : World) (b : Bool) → f (wakeup w b) ≡ f w) where
       put : (w : World) (c x : ℕ) → f (sched.schedule-thread-on-cpu limits topology tick us w c x) ≡ f w
@@ -149,6 +171,12 @@ module _ (limits : Limits) (topology : Topology) (tick us : ℕ) where
   pub select-wakeups : (w : World) (x : ℕ) (avoid : Option ℕ) → sched.select-cpu limits topology tick us w x avoid .world .wakeups ≡ w .wakeups
   select-wakeups = select count count-apart
 
+  pub resched-wakeups : (w : World) → sched.schedule-resched limits topology tick us w .wakeups ≡ w .wakeups
+  resched-wakeups = resched count count-apart (λ w b. unfold with-cpu in refl)
+
+  pub hardtick-wakeups : (w : World) → sched.schedule-hardtick limits topology tick us w .wakeups ≡ w .wakeups
+  hardtick-wakeups = hardtick count count-apart (λ w b. unfold with-cpu in refl) (λ w last paid. unfold with-cpu in refl)
+
   -- ---- a field of CPU c
 
   module _ {A : Type 0} (field : Cpu → A) (c : ℕ) where
@@ -190,6 +218,15 @@ module _ (limits : Limits) (topology : Topology) (tick us : ℕ) where
   pub donate-running : (w : World) (x : ℕ) (p : Priority) (c : ℕ) → sched.donate-priority limits topology tick us w x p .cpus c .running ≡ w .cpus c .running
   donate-running w x p c = donate (running-on c) (runs-apart c) (wakes-kept (λ (p : Cpu). p .running) c) w x p
 
+  running-marks : (c : ℕ) (w : World) (b : Bool) → running-on c (with-cpu w us (with-preempt (w .cpus us) b)) ≡ running-on c w
+  running-marks c w b = cpu-kept (λ (p : Cpu). p .running) c w us _ (unfold with-preempt in refl)
+
+  pub resched-running : (w : World) (c : ℕ) → sched.schedule-resched limits topology tick us w .cpus c .running ≡ w .cpus c .running
+  resched-running w c = resched (running-on c) (runs-apart c) (running-marks c) w
+
+  pub hardtick-running : (w : World) (c : ℕ) → sched.schedule-hardtick limits topology tick us w .cpus c .running ≡ w .cpus c .running
+  hardtick-running w c = hardtick (running-on c) (runs-apart c) (running-marks c) (λ v last paid. cpu-kept (λ (p : Cpu). p .running) c v us _ (unfold with-ticks in refl)) w
+
   -- ---- its last hard tick
 
   abbrev tick-of : Cpu → ℕ
@@ -215,3 +252,6 @@ module _ (limits : Limits) (topology : Topology) (tick us : ℕ) where
 
   pub balance-last : (w : World) (c : ℕ) → sched.balance limits topology tick us w .cpus c .last-tick ≡ w .cpus c .last-tick
   balance-last w c = balance (tick-on c) (ticks-apart c) (wakes-kept tick-of c) w
+
+  pub mark-last : (w : World) (b : Bool) (c : ℕ) → sched.mark-preempt limits topology tick us w b .cpus c .last-tick ≡ w .cpus c .last-tick
+  mark-last w b c = mark-preempt (tick-on c) (ticks-apart c) (λ v m. cpu-kept tick-of c v us _ (unfold with-preempt in refl)) w b

@@ -34,7 +34,7 @@ use Rattle.step.specs.Signal.{signal}
 use Rattle.step.specs.Time.{deadlineAt, resetTime, movedTo, shouldSignal}
 use Rattle.step.specs.Running.{runningAt, mustRebalance, ranBy, ranIdle}
 use Rattle.step.specs.Preempt.{higher, rqHasHigher, needsReschedule, marked, swapped}
-use Rattle.memory.specs.Shows.{reading-of, number-or-none, mark-in, Words-show, Small, Shows}
+use Rattle.memory.specs.Shows.{reading-of, number-or-none, mark-in, Words-show, Small, Shows, most-tick}
 use Rattle.memory.specs.Frames.{Written, written-none, written-put, in-records, in-rows, shows-fields, shows-preempt, shows-alike, shows-written}
 use Rattle.memory.specs.Queues.{shows-insert}
 use Rattle.memory.specs.Numbers.{advertised-shown, empty-shown, deadline-shown, none-number}
@@ -72,7 +72,7 @@ same-number x none h = ne-eqb NONE x (λ e. omega arith)
 same-number x (some y) h = refl
 
 module _ (limits : Limits) (topology : Topology) (tick us : ℕ) (known : ℕ → Bool) (numbered : (x : ℕ) → known x ≡ true → x < limits .threads) (small : Small limits)
-    (early : tick ≤ 4611686018427387904) where
+    (early : tick ≤ most-tick) where
   module _ {active : ℕ → Bool} {ts : List Thread} {cs : List (List ℕ)} {w : World} (s : Shows limits topology known active ts cs w) (c : ℕ) (near : c < limits .cpus) where
     -- ---- `reset_thread_time`
 

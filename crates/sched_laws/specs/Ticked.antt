@@ -16,7 +16,7 @@ use Rattle.thread.specs.declared.Thread.{Thread}
 use Rattle.thread.specs.Thread.{NONE}
 use Rattle.thread.specs.Time.{pay-ticks}
 use Rattle.lent.specs.Rq.{recordAt, hardtickDef}
-use Rattle.memory.specs.Shows.{number-or-none, Small, Shows}
+use Rattle.memory.specs.Shows.{number-or-none, Small, Shows, most-tick}
 use Rattle.step.specs.Running.{runningAt}
 use Rattle.step.specs.Preempt.{needsReschedule, marked, allowedAt, expires, idlePaid}
 use Rattle.sched.specs.declared.context.Context.{Context}
@@ -30,7 +30,7 @@ unfoldable pub context : Limits → ℕ → ℕ → Context
 context limits tick us = record { us = us; tick = tick; shortest = limits .shortest; limit = limits .cpus }
 
 module _ (limits : Limits) (topology : Topology) (tick us : ℕ) (known : ℕ → Bool) (numbered : (x : ℕ) → known x ≡ true → x < limits .threads) (small : Small limits)
-    (early : tick ≤ 4611686018427387904) (us-in : us < limits .cpus) where
+    (early : tick ≤ most-tick) (us-in : us < limits .cpus) where
   abbrev k : Context
   k = context limits tick us
 

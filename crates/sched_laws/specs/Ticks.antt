@@ -26,7 +26,7 @@ use Rattle.thread.specs.Time.{pay-ticks, reads-pay-ticks, expired-pay-ticks}
 use Rattle.processor.specs.Words.{word, put-word}
 use Rattle.processor.specs.Queue.{queueAt}
 use Rattle.lent.specs.Rq.{recordAt, hardtickDef, Ticked}
-use Rattle.memory.specs.Shows.{Small, Shows}
+use Rattle.memory.specs.Shows.{Small, Shows, most-tick}
 use Rattle.memory.specs.Frames.{shows-alike, shows-fields, shows-idle-timeslice, shows-draws, shows-rebalance-time, at-again}
 use Rattle.memory.specs.Numbers.{timeshare-load-shown}
 use Rattle.memory.specs.Clock.{shows-hardtick, ticks-shown}
@@ -77,7 +77,7 @@ unfolding with-ticks
 ticked-queue p last n = refl
 
 module _ (limits : Limits) (topology : Topology) (tick us : ℕ) (known : ℕ → Bool) (numbered : (x : ℕ) → known x ≡ true → x < limits .threads) (small : Small limits)
-    (early : tick ≤ 4611686018427387904) (us-in : us < limits .cpus) where
+    (early : tick ≤ most-tick) (us-in : us < limits .cpus) where
   module _ {active : ℕ → Bool} {ts : List Thread} {cs : List (List ℕ)} {w : World} (s : Shows limits topology known active ts cs w)
       (runs : (x : ℕ) → w .cpus us .running ≡ some x → known x ≡ true) where
     -- `schedule_resched`

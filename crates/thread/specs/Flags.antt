@@ -5,6 +5,7 @@ use mathlib.Core.Bool.{Bool, true, false, cond}
 use native.Mathlib.Omega.{arith}
 use lib.Dec.{eqb}
 use borrow.Author.Tests.{eqb-true, eqb-false, eq-eqb, ne-eqb}
+use Rattle.rules.specs.Line.{both}
 
 unfoldable pub has-donated-priority : ℕ → Bool
 has-donated-priority flags = eqb (flags / 2 % 2) 1
@@ -15,10 +16,6 @@ set-donated-priority flags = cond (has-donated-priority flags) flags (flags + 2)
 
 unfoldable pub reset-donated-priority : ℕ → ℕ
 reset-donated-priority flags = cond (has-donated-priority flags) (flags - 2) flags
-
-pub both {ℓ} : {A : Type ℓ} (t : Bool) → (t ≡ true → A) → (t ≡ false → A) → A
-both true f g = f refl
-both false f g = g refl
 
 pub has-set : (flags : ℕ) → has-donated-priority (set-donated-priority flags) ≡ true
 unfolding has-donated-priority set-donated-priority

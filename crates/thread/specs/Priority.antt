@@ -6,6 +6,7 @@ use mathlib.Core.Option.{Option, none, some}
 use native.Mathlib.Omega.{arith}
 use lib.Dec.{eqb, ltb}
 use borrow.Author.Tests.{lt-ltb, ltb-true, ne-eqb}
+use Rattle.rules.specs.Line.{both}
 use Rattle.rules.specs.declared.PriorityClass.{PriorityClass}
 use Rattle.rules.specs.declared.PriorityClass.the-variants as class
 use Rattle.rules.specs.declared.Priority.{Priority}
@@ -15,7 +16,7 @@ use Rattle.thread.specs.declared.Thread.{Thread}
 use Rattle.thread.specs.declared.priority.Donation.{Donation}
 use Rattle.thread.specs.declared.priority.Stable.{Stable}
 use Rattle.thread.specs.Thread.{NO-DONATION, with-donated, with-stable}
-use Rattle.thread.specs.Flags.{both, has-donated-priority, set-donated-priority, reset-donated-priority, has-set, has-reset}
+use Rattle.thread.specs.Flags.{has-donated-priority, set-donated-priority, reset-donated-priority, has-set, has-reset}
 use Rattle.thread.specs.Reads.{held, donated-in, reads}
 
 unfoldable pub stable-effective-priority : Thread → Stable

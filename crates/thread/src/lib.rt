@@ -22,6 +22,7 @@ pub const RUNNING: u64 = 2;
 
 pub const WAITING: u64 = 3;
 
+#[repr(C)]
 pub struct Thread {
     pub priority: u64,
     pub donated_priority: u64,

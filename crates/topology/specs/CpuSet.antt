@@ -9,6 +9,7 @@ use lib.ListN.{length, getD, set, replicate, length-set, length-replicate, List�
 use lib.Seq.{getD-set-same, getD-set-other}
 use lib.Pow.{shl-exact}
 use borrow.Author.Tests.{eqb-true, eqb-false, eq-eqb, ne-eqb, ltb-true, ltb-false, lt-ltb, le-ltb}
+use borrow.Table.Steps.{cases as both}
 use Rattle.topology.specs.declared.cpuset.CpuSet.{CpuSet}
 use Rattle.topology.specs.Bits.{digit, zero-digit, digit-below, add-same, add-other, add-below, one-least, sub-same, sub-other, all-zero, ones-digit}
 
@@ -64,10 +65,6 @@ pub record Sixteen (s : CpuSet) : Type 0 where
   pub small : (i : ℕ) → getD (s .set) i 0 < 2 ^ 64
 
 -- ---- bits
-
-both {ℓ} : {A : Type ℓ} (t : Bool) → (t ≡ true → A) → (t ≡ false → A) → A
-both true f g = f refl
-both false f g = g refl
 
 bit-one : (w i : ℕ) → bit w i ≡ true → digit w (i % 64) ≡ 1
 unfolding bit digit

@@ -1,0 +1,286 @@
+/* near: calls of the static library from states set near the limits, which no stream of a sensible length reaches. The
+ * numbers expected are document 01's; the sentence stands beside each test. Fails on the first that differs. */
+#include "scheduler.h"
+#include "text.h"
+
+#include <stdio.h>
+#include <string.h>
+
+/* Everything that is lent. */
+struct world {
+    struct thread threads[THREADS];
+    cpu cpus[CPUS];
+    node nodes[NODES];
+};
+
+static struct world world;
+static struct state state;
+static unsigned checks;
+
+static void same(const char *what, uint64_t found, uint64_t expected)
+{
+    checks++;
+    if (found != expected) {
+        printf("%s: %llu and not %llu\n", what, (unsigned long long)found, (unsigned long long)expected);
+        fail("near: a difference");
+    }
+}
+
+/* The command's refusal; its state is the next call's. */
+static uint64_t command(const uint8_t *bytes, size_t count)
+{
+    struct step step =
+        scheduler_command(world.threads, THREADS, world.cpus, CPUS, world.nodes, NODES, bytes, count, state);
+    state = step.state;
+    return step.row.refusal;
+}
+
+#define COMMAND(...) command((const uint8_t[]){__VA_ARGS__}, sizeof(uint8_t[]){__VA_ARGS__})
+#define OBEYED(...) same("obeyed", COMMAND(__VA_ARGS__), 0)
+
+/* Padding is not compared. */
+static bool same_state(struct state a, struct state b)
+{
+    return a.cpus == b.cpus && a.nodes == b.nodes && a.shortest == b.shortest && a.wide == b.wide && a.tick == b.tick &&
+           a.sealed == b.sealed && a.accepted == b.accepted && a.node_count == b.node_count;
+}
+
+/* "A no gives the number, changes nothing". */
+static void refused(const uint8_t *bytes, size_t count, uint64_t number)
+{
+    static struct world before;
+    struct state then = state;
+    memcpy(&before, &world, sizeof world);
+    same("refusal", command(bytes, count), number);
+    same("lent memory is kept", memcmp(&before, &world, sizeof world), 0);
+    same("the state is kept", same_state(then, state), true);
+}
+
+#define REFUSED(number, ...) refused((const uint8_t[]){__VA_ARGS__}, sizeof(uint8_t[]){__VA_ARGS__}, number)
+
+static void start(void)
+{
+    struct begun begun = scheduler_start(world.threads, THREADS, world.cpus, CPUS, world.nodes, NODES);
+    same("ready", begun.ready, true);
+    state = begun.state;
+}
+
+/* CPUs 0 and 1 on the root. */
+static void placed(void)
+{
+    start();
+    OBEYED(0x01, 0);
+    OBEYED(0x01, 1);
+    OBEYED(0x03, 0, 0);
+    OBEYED(0x03, 0, 1);
+}
+
+/* Sealed, threads 7 (User 64) and 8 (Realtime 3) declared, the second one waiting. */
+static void running(void)
+{
+    placed();
+    OBEYED(0x04);
+    OBEYED(0x10, 7, 0, 2, 64, 0xff);
+    OBEYED(0x10, 8, 0, 3, 3, 0xff);
+    OBEYED(0x12, 0, 8, 0);
+}
+
+/* Each command, and whether it comes before the seal. All are obeyed where `placed` or `running` leads. */
+static const struct {
+    bool before;
+    size_t count;
+    uint8_t bytes[9];
+} COMMANDS_OBEYED[] = {
+    {true, 2, {0x01, 63}},
+    {true, 3, {0x02, 0, 0}},
+    {true, 3, {0x03, 0, 2}},
+    {true, 1, {0x04}},
+    {false, 6, {0x10, 0xff, 3, 3, 127, 1}},
+    {false, 9, {0x11, 0, 0, 0, 0, 0, 0, 0, 0x40}},
+    {false, 4, {0x12, 1, 7, 0}},
+    {false, 3, {0x13, 0, 7}},
+    {false, 2, {0x14, 0}},
+    {false, 6, {0x15, 0, 0xff, 0xff, 0xff, 0xff}},
+    {false, 2, {0x16, 1}},
+    {false, 2, {0x17, 1}},
+    {false, 6, {0x18, 0, 7, 0, 3, 127}},
+    {false, 3, {0x19, 7, 0}},
+    {false, 4, {0x1a, 7, 0, 1}},
+};
+
+enum { COMMANDS_COUNT = sizeof COMMANDS_OBEYED / sizeof *COMMANDS_OBEYED };
+
+static void before_command(size_t i)
+{
+    if (!COMMANDS_OBEYED[i].before) {
+        running();
+        return;
+    }
+    if (COMMANDS_OBEYED[i].bytes[0] == 0x02) {
+        start();
+        return;
+    }
+    placed();
+    if (COMMANDS_OBEYED[i].bytes[0] == 0x03)
+        OBEYED(0x01, 2);
+}
+
+/* "Have fewer than 4,294,967,295 commands been accepted? 10" */
+static void accepted(void)
+{
+    for (size_t i = 0; i < COMMANDS_COUNT; i++) {
+        before_command(i);
+        state.accepted = 4294967294;
+        same("the last that is accepted", command(COMMANDS_OBEYED[i].bytes, COMMANDS_OBEYED[i].count), 0);
+        same("accepted", state.accepted, 4294967295);
+        before_command(i);
+        state.accepted = 4294967295;
+        refused(COMMANDS_OBEYED[i].bytes, COMMANDS_OBEYED[i].count, 10);
+    }
+}
+
+/* "Questions put to each command, in order": 10 is the last, so every other no comes first. */
+static void order(void)
+{
+    running();
+    state.accepted = 4294967295;
+    REFUSED(1, 0x00);
+    REFUSED(1, 0x05);
+    REFUSED(1, 0x1b);
+    refused(NULL, 0, 1);
+    REFUSED(2, 0x12, 0, 7);
+    REFUSED(3, 0x01, 2);
+    REFUSED(4, 0x14, 2);
+    REFUSED(4, 0x10, 9, 0, 2, 64, 2);
+    REFUSED(5, 0x12, 0, 9, 0);
+    REFUSED(5, 0x10, 0, 4, 2, 64, 0xff);
+    REFUSED(5, 0x10, 7, 0, 2, 64, 0xff);
+    REFUSED(6, 0x10, 9, 0, 4, 64, 0xff);
+    REFUSED(6, 0x10, 9, 0, 2, 128, 0xff);
+    REFUSED(6, 0x13, 0, 8);
+    REFUSED(6, 0x1a, 7, 0, 2);
+    REFUSED(7, 0x12, 0, 8, 0);
+    REFUSED(8, 0x11, 1, 0, 0, 0, 0, 0, 0, 0x40);
+    start();
+    OBEYED(0x01, 0);
+    state.accepted = 4294967295;
+    REFUSED(9, 0x04);
+}
+
+static uint8_t output[4096];
+
+/* These bytes as the last block of a run that has come to this number, with so many refused earlier, give this text. */
+static struct fed fed_from(uint64_t number, uint64_t earlier, const uint8_t *bytes, size_t count, const char *text)
+{
+    struct fed fed = scheduler_begin(state);
+    fed.phase = COMMANDS;
+    fed.number = number;
+    fed.refused = earlier;
+    fed = scheduler_feed(world.threads, THREADS, world.cpus, CPUS, world.nodes, NODES, bytes, count, output, sizeof output,
+                         count, true, fed);
+    same("bytes of output", fed.done, strlen(text));
+    same("the output", memcmp(output, text, strlen(text)), 0);
+    same("ended", fed.phase, ENDED);
+    return fed;
+}
+
+/* "Refusals 1 and 2 end the run, as does command number 4,294,967,294." "`end`, commands read (refused ones and the one
+ * that ends the run included), refused." */
+static void last_number(void)
+{
+    static const uint8_t ticks[] = {0x11, 1, 0, 0, 0, 0, 0, 0, 0, 0x11, 2, 0, 0, 0, 0, 0, 0, 0, 0x11, 3, 0, 0, 0, 0, 0, 0, 0};
+    running();
+    struct fed fed = fed_from(4294967293, 5, ticks, sizeof ticks,
+                              "4294967293 0 - - - -\n4294967294 0 - - - -\nend 4294967295 5\n");
+    same("the third is not obeyed", fed.state.tick, 2);
+    running();
+    fed = fed_from(4294967292, 5, ticks, 2 * 9, "4294967292 0 - - - -\n4294967293 0 - - - -\nend 4294967294 5\n");
+    same("the second is obeyed", fed.state.tick, 2);
+    static const uint8_t refusals[] = {0x01, 0, 0x14, 0};
+    running();
+    fed_from(4294967294, 5, refusals, sizeof refusals, "4294967294 3 - - - -\nend 4294967295 6\n");
+    static const uint8_t unknown[] = {0xee, 0x14, 0};
+    running();
+    fed_from(4294967290, 0, unknown, sizeof unknown, "4294967290 1 - - - -\nend 4294967291 1\n");
+    running();
+    fed_from(4294967290, 0, ticks, 8, "4294967290 2 - - - -\nend 4294967291 1\n");
+}
+
+/* "For 11: is the tick not below the last and at most 2^62? 8" */
+static void ticks(void)
+{
+    running();
+    REFUSED(8, 0x11, 1, 0, 0, 0, 0, 0, 0, 0x40);
+    REFUSED(8, 0x11, 0xff, 0xff, 0xff, 0xff, 0xff, 0xff, 0xff, 0xff);
+    OBEYED(0x11, 0, 0, 0, 0, 0, 0, 0, 0x40);
+    same("2^62", state.tick, 4611686018427387904);
+    OBEYED(0x11, 0, 0, 0, 0, 0, 0, 0, 0x40);
+    REFUSED(8, 0x11, 0xff, 0xff, 0xff, 0xff, 0xff, 0xff, 0xff, 0x3f);
+}
+
+/* "a state of 0 is replaced by the CPU number. The state is multiplied by 69069 and 5 is added, both modulo 2^32". The state
+ * 3,264,396,519 is followed by 0: 69069 * 3,264,396,519 + 5 = 52,496 * 2^32. A thread that never ran, woken while both CPUs
+ * idle, draws once for each. */
+static void draws(void)
+{
+    static const uint64_t after[] = {5, 69074};
+    for (uint8_t c = 0; c < 2; c++) {
+        placed();
+        OBEYED(0x04);
+        OBEYED(0x10, 7, 0, 2, 64, 0xff);
+        world.cpus[c][RAND_STATE] = 3264396519;
+        OBEYED(0x12, c, 7, 0);
+        same("the draw after 0", world.cpus[c][RAND_STATE], after[c]);
+    }
+}
+
+/* "has the lent buffer at least 48 bytes? 11 (Bytes past a rendered line keep their content.)" */
+static void lines(void)
+{
+    struct row row = {.cpu = {true, 63}, .running = {true, true, 0}, .load = {true, 1024}, .wakeups = {true, 2}};
+    static const char text[] = "4294967294 0 63 idle 1024 2\n";
+    uint8_t buffer[64];
+    memset(buffer, 0xaa, sizeof buffer);
+    struct written written = scheduler_render(buffer, 47, 4294967294, row);
+    same("refusal", written.refusal, 11);
+    same("no bytes", written.bytes, 0);
+    for (size_t i = 0; i < sizeof buffer; i++)
+        same("kept", buffer[i], 0xaa);
+    written = scheduler_render(buffer, 48, 4294967294, row);
+    same("refusal", written.refusal, 0);
+    same("bytes", written.bytes, strlen(text));
+    same("the line", memcmp(buffer, text, strlen(text)), 0);
+    for (size_t i = strlen(text); i < sizeof buffer; i++)
+        same("kept", buffer[i], 0xaa);
+    row = (struct row){.refusal = 10};
+    written = scheduler_render(buffer, 48, 0, row);
+    same("a refusal's line", memcmp(buffer, "0 10 - - - -\n", written.bytes), 0);
+    same("its bytes", written.bytes, 13);
+}
+
+/* The start with a slice that is too short changes nothing. */
+static void no_room(void)
+{
+    static struct world before;
+    memset(&world, 0x55, sizeof world);
+    before = world;
+    for (int i = 0; i < 3; i++) {
+        struct begun begun =
+            scheduler_start(world.threads, THREADS - (i == 0), world.cpus, CPUS - (i == 1), world.nodes, NODES - (i == 2));
+        same("no room", begun.ready, false);
+        same("lent memory is kept", memcmp(&before, &world, sizeof world), 0);
+    }
+}
+
+int main(void)
+{
+    no_room();
+    accepted();
+    order();
+    last_number();
+    ticks();
+    draws();
+    lines();
+    printf("near: %u checks, no difference\n", checks);
+    return 0;
+}
