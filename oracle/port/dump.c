@@ -40,6 +40,16 @@ static void part(struct text *out, const char *name, const struct thread *thread
         fail("the counter of a part is not the number of its threads");
 }
 
+/* The words of a CPU that are shown as they are, in their order. */
+static const struct {
+    const char *name;
+    size_t word;
+} columns[] = {
+    {" load ", LOAD},        {" ts ", TIMESHARE_LOAD},    {" mov ", MOVABLE},    {" pri ", CURRENT_PRIORITY}, {" cpri ", OWN_PRIORITY},
+    {" idle ", IS_IDLE},     {" reb ", MUST_REBALANCE},   {" pre ", PREEMPT},    {" seed ", RAND_STATE},      {" bal ", CUR_REBALANCE_TIME},
+    {" last ", LAST_TICK},   {" ins ", INSERT_IDX},       {" take ", TAKE_IDX},
+};
+
 static void dump_cpu(struct text *out, uint64_t number, const struct thread *threads, const uint64_t *words)
 {
     pair(out, "c ", number);
@@ -48,19 +58,8 @@ static void dump_cpu(struct text *out, uint64_t number, const struct thread *thr
         text_word(out, "idle");
     else
         text_number(out, words[RUNS]);
-    pair(out, " load ", words[LOAD]);
-    pair(out, " ts ", words[TIMESHARE_LOAD]);
-    pair(out, " mov ", words[MOVABLE]);
-    pair(out, " pri ", words[CURRENT_PRIORITY]);
-    pair(out, " cpri ", words[OWN_PRIORITY]);
-    pair(out, " idle ", words[IS_IDLE]);
-    pair(out, " reb ", words[MUST_REBALANCE]);
-    pair(out, " pre ", words[PREEMPT]);
-    pair(out, " seed ", words[RAND_STATE]);
-    pair(out, " bal ", words[CUR_REBALANCE_TIME]);
-    pair(out, " last ", words[LAST_TICK]);
-    pair(out, " ins ", words[INSERT_IDX]);
-    pair(out, " take ", words[TAKE_IDX]);
+    for (size_t i = 0; i < sizeof columns / sizeof *columns; i++)
+        pair(out, columns[i].name, words[columns[i].word]);
     part(out, " rt [", threads, words + REALTIME, words[REALTIME_COUNT]);
     part(out, " tsq [", threads, words + TIMESHARE, words[TIMESHARE_COUNT]);
     part(out, " il [", threads, words + IDLE, words[IDLE_COUNT]);

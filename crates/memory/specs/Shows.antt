@@ -68,7 +68,7 @@ pub record Places (limit : ℕ) (known active : ℕ → Bool) (ts : List Thread)
 
 -- ---- all of it
 
--- the last tick
+-- 8: "at most 2^62"
 abbrev pub most-tick : ℕ
 most-tick = 2 ^ 62
 
@@ -78,8 +78,9 @@ pub record Small (limits : Limits) : Type 0 where
   pub threads : limits .threads ≤ 2147483648
   pub shortest : limits .shortest ≤ 2147483648
 
--- There are records and rows enough, and no record has the number for none; each run queue is well formed and reads as the rules' (represent's `Good`); each record below the limit reads as the
--- rules' thread, whose queue is that of a CPU, and each other word of a CPU as the rules' field; the places of threads agree with who waits.
+-- There are records and rows enough, and no record has the number for none; each run queue is well formed and reads as the rules' (represent's `Good`);
+-- each record below the limit reads as the rules' thread, whose queue is that of a CPU, and each other word of a CPU as the rules' field; the places of
+-- threads agree with who waits.
 pub record Shows (limits : Limits) (topology : Topology) (known active : ℕ → Bool) (ts : List Thread) (cs : List (List ℕ)) (w : World) : Type 0 where
   pub queues : Good (limits .threads) (limits .cpus) ts cs (λ c. reading-of (w .cpus c))
   pub none-past : length ts ≤ NONE
