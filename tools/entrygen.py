@@ -6,6 +6,7 @@ import glob
 import os
 import re
 from mir import elements, functions, statements
+from promises import key, sources
 
 ROOT = os.path.join(os.path.dirname(os.path.abspath(__file__)), '..')
 PRIMES = ['', '′', '″', '‴', '⁗', '₅', '₆']
@@ -172,15 +173,75 @@ class Function:
         self.body = statements(it[5])
 
 
+MEMORIES = {2: ('Memory', ('threads', 'cpus')), 3: ('Lent', ('threads', 'cpus', 'nodes')), 4: ('World', ('threads', 'cpus', 'nodes', 'output'))}
+
+
+class Leaves:
+    """What a function that promises `left` leaves: `made r ls` is its answer with the lists of its `&mut` slices, of the type `type_`; `answer` and
+    `lists` take such a value apart. begun: where the answer goes on from a value that is handed in (`feeds`), that value; it is then a field of the memory."""
+    def __init__(self, function, begun=None):
+        self.elements = [t.denot for t, mutable in function.slices if mutable]
+        self.of, self.fields = MEMORIES.get(len(self.elements), ('List %s' % self.elements[0], ('',)))
+        self.answers, self.begun = function.result is not UNIT, begun
+        apart = self.answers and not begun
+        self.type_ = 'Left %s %s' % (par(function.result.denot), par(self.of)) if apart else self.of
+        self.answer = '.fed' if begun else '.answer'
+        self.lists = [('.memory ' if apart else '') + ('.' + f if f else '') for f in self.fields]
+
+    def record(self, fields, lists):
+        return 'record { %s }' % '; '.join('%s = %s' % p for p in zip(fields, lists))
+
+    def memory(self, lists):
+        if self.begun:
+            return self.record((*self.fields, 'fed'), [*lists, self.begun])
+        return lists[0] if len(lists) == 1 else self.record(self.fields, lists)
+
+    def made(self, answer, lists):
+        if self.begun:
+            return self.record((*self.fields, 'fed'), [*lists, answer])
+        return 'record { answer = %s; memory = %s }' % (answer, self.memory(lists)) if self.answers else self.memory(lists)
+
+    def claim(self, answer, lists, whole):
+        return '_≡_ {A = %s} %s %s' % (self.type_, par(self.made(answer, lists)), par(whole))
+
+    def parts(self, e):
+        """The equations of the answer and of each list, from that of the whole."""
+        fields = ([self.answer] if self.answers else []) + self.lists
+        return ['ap (λ (z : %s). z %s) %s' % (self.type_, f, e) if f.strip() else e for f in fields]
+
+
+PROMISES, CITES = sources()
+
+
 class Crate:
-    """name: the crate whose walks are written. says: what each callee promises, by its full name:
-        value    what it returns, over {s0}.. (the slices' lists) and {0}.. (the data)
-        lists    the last lists of its `&mut` slices; a None, or none: nothing is known
+    """name: the crate whose walks are written. says: what callees promise where their contracts do not tell it, by the full name:
+        left     the function that says its answer and its `&mut` slices together (`leaves`, `becomes`), over {s0}.. (the slices' lists) and {0}.. (the data)
+        value    what it returns; lists   the last lists of its `&mut` slices; a None, or none: nothing is known
         req      what it requires; within   the argument that is an index of slice 0: answered at n
-    specs: the modules that the texts cite, `crate.specs.Module` to the names; variants: the enums whose variants they name, to a name for them. A walk
-    imports of them what it uses."""
+    specs: the modules that the texts cite beside those that the contracts cite, `crate.specs.Module` to the names; variants: likewise the enums whose
+    variants they name, to a name for them. A walk imports of them what it uses."""
     def __init__(self, name, says, specs, variants):
         self.name, self.says, self.specs, self.variants = name, says, specs, variants
+
+    def promise(self, function):
+        return self.says[function] if function in self.says else PROMISES.get(key(function), {})
+
+    def cited(self, functions, opens):
+        """The modules and the enums that the contracts of these functions cite, and those of the description."""
+        specs, variants = {}, dict(self.variants)
+        for f in functions:
+            says, (names, enums) = str(self.promise(f)), CITES.get(key(f), ({}, {}))
+            for name, path in names.items():
+                if used(name, says):
+                    specs.setdefault(path, {})[name] = None
+            variants.update({path: alias for alias, path in enums.items() if used(alias, says)})
+        for path, names in self.specs.items():
+            specs.setdefault(path, {}).update({name: None for name in names.split()})
+        for file in glob.glob(os.path.join(ROOT, 'crates', self.name, 'specs', '*.antt')):
+            for name in re.findall(r'^(?:unfoldable |abbrev )*pub ([^\s:]+) :', open(file).read(), re.M):
+                if name in opens:
+                    specs.setdefault('%s.specs.%s' % (self.name, os.path.basename(file)[:-5]), {})[name] = None
+        return sorted(specs.items()), sorted(variants.items())
 
 
 def short(f):
@@ -207,8 +268,9 @@ class Walk:
     """One walk as it is written. context: what the proof has, by labels: `_k` and `dk` are local k and what frees it, `rowj` and `keptj` a `&mut` slice
     that is open, `ownj` and `tokj` a `&` slice. locals: what is known of each local: v its value, is that it is one of its type, d the type; or slice,
     ptr, array: which slice it is or points to."""
-    def __init__(self, crate, name, says='', proofs=(), requires=None, loops=(), arrays=(), cut=4, unfolding=''):
-        self.crate, self.fn, self.says, self.requires = crate, Function(crate.name + '::' + name), says, requires
+    def __init__(self, crate, name, says=None, proofs=(), requires=None, loops=(), arrays=(), cut=4, unfolding='', by='{chain}'):
+        self.crate, self.fn, self.requires = crate, Function(crate.name + '::' + name), requires
+        self.says = says if says is not None else self.left(by) if 'left' in crate.promise(self.fn.name) else ''
         self.name, self.h = name, name.split('::')[-1].replace('_', '-')
         self.opens = unfolding.split()
         self.proofs, self.loops, self.arrays = list(proofs), list(loops), list(arrays)
@@ -222,6 +284,20 @@ class Walk:
         self.parts, self.in_parts, self.since = [], False, 0
         self.called, self.guards, self.all_guards, self.nr_guards = [], [], [], 0
         self.within, self.in_loop, self.inv, self.test = False, None, '', ''
+
+    def left(self, by):
+        """That every exit leaves what the function's own `left` says; by: what proves it."""
+        env = {'s%d' % j: 'ys' + p for j, p in zip(range(len(self.fn.slices)), PRIMES)}
+        env.update({str(k): '(a%s .0)' % (' .1' * k) for k in range(len(self.fn.data))})
+
+        def filled(text):
+            return re.sub(r'\{(s?\d+)\}', lambda m: env[m.group(1)], text)
+
+        promise = self.crate.promise(self.fn.name)
+        of, muts = filled(promise['left']), [j for j, (_, mutable) in enumerate(self.fn.slices) if mutable]
+        left = Leaves(self.fn, filled(promise.get('begun', '')))
+        return 'so {X = %s} (%s) (%s %s) (%s)' % (
+            left.type_, left.made('{v}', ['{l%d}' % j for j in muts]), of, par(left.memory([env['s%d' % j] for j in muts])), by)
 
     # ---- the context
     def prime(self, j):
@@ -475,7 +551,7 @@ class Walk:
 
     def call(self, s):
         name, os_, d = s[1][1][1].strip('"'), elements(s[2]), int(s[3][1])
-        callee, says, fh = Function(name), self.crate.says[name], short(name)
+        callee, says, fh = Function(name), self.crate.promise(name), short(name)
         self.called.append(name)
         js = [self.locals[int(o[1][1])]['slice'] for o in os_[:len(callee.slices)]]
         args = [self.operand(o) for o in os_[len(js):]]
@@ -486,23 +562,31 @@ class Walk:
             return re.sub(r'\{(s?\d+)\}', lambda m: env[m.group(1)], text)
 
         muts = [i for i in range(len(js)) if callee.slices[i][1]]
+        left = Leaves(callee, filled(says.get('begun', ''))) if 'left' in says else None
         proof = self.fill(self.proofs.pop(0)) if says.get('req') else None
         if proof and 'within' in says:
             i = par(args[int(says['within'])][1])
             proof = 'subst (λ (k : ℕ). %s < k) %s (%s)' % (i, par(self.S[js[0]]['same']), proof)
-        value = self.value_named(filled(says['value']), callee.result.denot) if says.get('value') else None
-        texts = list(says.get('lists', [])) + [None] * len(muts)
-        lists = {i: self.value_named(filled(t), 'List %s' % self.S[js[i]]['X']) if t else None for i, t in zip(muts, texts)}
-        ensured = (['r ≡ %s' % par(value)] if value else []) + ['ws%s .0 ≡ %s' % (' .1' * i, par(lists[i])) for i in muts if lists[i]]
+        last = ['ws' + ' .1' * i + ' .0' for i in muts]
+        if left:
+            whole = self.value_named('%s %s' % (filled(says['left']), par(left.memory([self.S[js[i]]['l'] for i in muts]))), left.type_)
+            value = '%s %s' % (par(whole), left.answer) if left.answers else None
+            lists = {i: '%s %s' % (par(whole), f) for i, f in zip(muts, left.lists)}
+        else:
+            value = self.value_named(filled(says['value']), callee.result.denot) if says.get('value') else None
+            texts = list(says.get('lists', [])) + [None] * len(muts)
+            lists = {i: self.value_named(filled(t), 'List %s' % self.S[js[i]]['X']) if t else None for i, t in zip(muts, texts)}
+        ensured = (['r ≡ %s' % par(value)] if value else []) + ['%s ≡ %s' % (l, par(lists[i])) for i, l in zip(muts, last) if lists[i]]
         self.gather(js)
         data = '(%s)' % listed([x.datum for x in callee.data])
         values = tupled([x[1] for x in args])
         required = 'fact 𝓤 (%s)' % filled(says['req']) if proof else 'emp 𝓤'
         met = 'factI 𝓤 _ (emp 𝓤) (%s)' % proof if proof else 'id⊢ 𝓤 (emp 𝓤)'
         lent = listed([self.slice_term(j, callee.slices[i][1]) for i, j in enumerate(js)])
-        self.emit('call-slices%s %s %s %s (%s) (%s) ! fm %s%s (%s)' % (
-            '' if ensured else '-none', par(callee.result.datum), data, par(values), required, lent,
-            '(λ r ws. %s) ' % product(ensured) if ensured else '', par(tupled([x[2] for x in args])), met))
+        apart = '(λ r ws. %s) (λ r ws e. %s) ' % (left.claim('r', last, whole), paired(left.parts('e'))) if left else ''
+        self.emit('call-%s %s %s %s (%s) (%s) ! fm %s%s (%s)' % (
+            'left' if left else 'slices' if ensured else 'slices-none', par(callee.result.datum), data, par(values), required, lent,
+            ('(λ r ws. %s) ' % product(ensured) if ensured else '') + apart, par(tupled([x[2] for x in args])), met))
         self.emit('(λ νs. cited 𝓤 H (tripleOf 𝓤 H A %s.signature (%s.spec 𝓤 H A (𝓜 .mem) (𝓡 .run))) 𝓜 𝓡 code.env %s-def.name %s-def.routine %s (%s-thm.met 𝓤 H 𝓜 𝓖 𝓡) %s)' % (
             fh, fh, fh, fh, 'code.calls-%s' % name.replace('_', '-').replace('::', '·'), fh, self.ghost(js, data, values)))
         r, ws, is0, ls = self.fresh('r'), self.fresh('ws'), self.fresh('is'), self.fresh('ls')
@@ -510,12 +594,18 @@ class Walk:
         self.emit('(λ k. %s) (λ %s %s %s %s%s.' % (self.operands(os_), r, ws, is0, ls, e))
         self.close += 1
         self.apart(js)
+        known = ([None] if value else []) + [i for i in muts if lists[i]]
+
+        def by(i):
+            """That the answer (None) or the list of slice i is what is said."""
+            return part(e.strip(), known.index(i), len(known))
+
         for i in muts:
-            self.last_list(js[i], lists[i], ws + ' .1' * i + ' .0', ls + ' .1' * i + ' .0', e.strip(), ensured, lists, i, value)
+            self.last_list(js[i], lists[i], ws + ' .1' * i + ' .0', ls + ' .1' * i + ' .0', by(i) if lists[i] else None)
         v, is_ = r, is0
         if value:
             v, is_ = value, self.fresh('is')
-            self.emit('told ! %s (%s) %s (λ %s.' % (par(callee.result.datum), part(e.strip(), 0, len(ensured)), is0, is_))
+            self.emit('told ! %s (%s) %s (λ %s.' % (par(callee.result.datum), by(None), is0, is_))
             self.close += 1
         self.since += 0.5
         self.emit('land ! (from ! (stop !)) %s $' % self.init(d, self.typed(callee.result, v, is_)))
@@ -561,14 +651,12 @@ class Walk:
         self.emit('drop ! $')
         self.context = self.context[1:]
 
-    def last_list(self, j, text, w, l, e, ensured, lists, i, value):
-        """A slice that was lent as `&mut` holds its last list."""
+    def last_list(self, j, text, w, l, p):
+        """A slice that was lent as `&mut` holds its last list; p: that w is the text."""
         S = self.S[j]
         if not text:
             S['same'], S['l'] = '(%s ∙ sym (%s))' % (S['same'], l), w
             return
-        before = [k for k in lists if k < i and lists[k]]
-        p = part(e, (1 if value else 0) + len(before), len(ensured))
         self.emit('rewrite ! %d (λ (us : List %s). ‵ (row %s fullShare us %s %s)) (%s) refl $' % (self.at('row%d' % j), S['X'], S['R'], S['b'], S['o'], p))
         S['same'] = '(%s ∙ sym (subst (λ (us : List %s). length us ≡ length %s) (%s) (%s)))' % (S['same'], S['X'], par(S['l']), p, l)
         S['l'] = text
@@ -715,9 +803,9 @@ class Walk:
             + ['    abbrev Facts : Z → Type 0', '    Facts z = ' + product(facts), '']
             + ['    abbrev X : Type 0', '    X = (z : Z) × Facts z', '']
             + ['    abbrev nearer : X → X → Type 0', '    nearer t u = μ (t .0) < μ (u .0)', ''] + self.environment()
-            + ['      abbrev I : X → List (Item 𝓤)', '      I t = ' + invariant, '', '      abbrev Left : Outcome → SProp 𝓤']
-            + ['      Left = afterBlock 𝓤 H (afterSeq 𝓤 H (Wp 𝓤 H C Λ En mir.t-%d (atReturn 𝓤 H En Post)) (atReturn 𝓤 H En Post))' % L['tail'], '']
-            + ['      turn : (z : Z) (w : Facts z) %s→ Sq W (I (z, w)) (runs C Λ En mir.turn-1 (anyQ (afterTurn 𝓤 H (Below 𝓤 H A nearer I (z, w)) Left)))' % held]
+            + ['      abbrev I : X → List (Item 𝓤)', '      I t = ' + invariant, '', '      abbrev Rest : Outcome → SProp 𝓤']
+            + ['      Rest = afterBlock 𝓤 H (afterSeq 𝓤 H (Wp 𝓤 H C Λ En mir.t-%d (atReturn 𝓤 H En Post)) (atReturn 𝓤 H En Post))' % L['tail'], '']
+            + ['      turn : (z : Z) (w : Facts z) %s→ Sq W (I (z, w)) (runs C Λ En mir.turn-1 (anyQ (afterTurn 𝓤 H (Below 𝓤 H A nearer I (z, w)) Rest)))' % held]
             + ['      unfolding afterTurn', '      turn z w ' + ''.join('c%s ' % sub(c[0]) for c in consts) + '=', '          ' + '\n          '.join(turn), ''])
 
     def environment(self):
@@ -817,11 +905,12 @@ class Walk:
             names = [n for n in m.group(2).split(', ') if used(n.split(' as ')[-1], text)]
             if names:
                 lines.append('use %s.{%s}' % (m.group(1), ', '.join(names)))
-        for path, names in self.crate.specs.items():
-            names = [n for n in names.split() if used(n, text)]
+        specs, variants = self.crate.cited([self.fn.name] + self.called, self.opens)
+        for path, names in specs:
+            names = [n for n in names if used(n, text) and self.knows(path.replace('.', '::'))]
             if names:
                 lines.append('use %s.{%s}' % (module(path, self.crate.name), ', '.join(names)))
-        for path, alias in self.crate.variants.items():
+        for path, alias in variants:
             if used(alias, text):
                 lines.append('use %s.the-variants as %s' % (module(path, self.crate.name), alias))
         return lines + ['use denote.Struct.Laws as LL']
@@ -968,5 +1057,5 @@ use denote.Triple.Clauses.{Clauses}
 use denote.Triple.Walked.{says, needs, Stays, stay-none, stay-slice, stay-none-slice, walkOf, goes-none, goes-slice, goes-none-slice, ends-at}
 use denote.Exit.{yes as kept-yes}
 use LIB.Walk.{Datum, number, signed, truth, nil, struct, Dens, AreD, listed, spell, lent-as, slice-of, shared-as, kept, opened, closed, guards, whiles, env-of, standing, bare, full, arrayed, freed, told, proved}
-use LIB.Lent.{mutable, shared, passed, choice, arr, call-slices, call-slices-none, big-lit, all-freed, rep-is, array-typed-of, says-none, no, yes, begins0, begins1, begins2, begins3, begins4, begins5, begins6, leaves0, leaves1, leaves2, leaves3, leaves4, leaves5, leaves6}
+use LIB.Lent.{mutable, shared, passed, choice, arr, call-slices, call-left, call-slices-none, big-lit, all-freed, rep-is, array-typed-of, says-none, no, yes, so, begins0, begins1, begins2, begins3, begins4, begins5, begins6, leaves0, leaves1, leaves2, leaves3, leaves4, leaves5, leaves6}
 '''

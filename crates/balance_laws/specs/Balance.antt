@@ -1,4 +1,4 @@
--- `balance`: TWICE THE CHOICES UNTIL ONE MOVES A THREAD, AND THE MOVE, ARE THE RULES' TURNS. Assumes nothing.
+-- `balance`: TWICE THE CHOICES UNTIL ONE MOVES A THREAD, AND THE MOVE, ARE THE RULES' TURNS.
 use Prim.Native.Nat.{ℕ, zero, suc, _+_, _≤_, _<_}
 use mathlib.Core.Path.{_≡_, refl, sym, ap, subst, _∙_}
 use mathlib.Core.Logic.{_⊎_, inl, inr}
@@ -22,9 +22,9 @@ use Rattle.topology.specs.CpuSet.{sixteen-all, contains-all, max-cpu-id}
 use Rattle.tree.specs.Tree.{Tree}
 use Rattle.step.specs.declared.balance.Balancing as step
 use Rattle.step.specs.Balance.{Balanced, begun, moved, isDone, balanceStep, findMove}
-use Rattle.sched.specs.declared.context.Context.{Context}
-use Rattle.sched.specs.World as code
-use Rattle.sched.specs.Balance.{moveOne, moveTwo, balanceDef}
+use Rattle.lent.specs.Left.{Memory, mem, Left}
+use Rattle.step.specs.declared.context.Context.{Context}
+use Rattle.sched_ticks.specs.Balance.{moveOne, moveTwo, balanceDef}
 use Rattle.sched_laws.specs.Ticked.{context}
 use Rattle.balance_laws.specs.Turns.{going, rest, rest-next, step-more, turns-stop, spent}
 use Rattle.balance_laws.specs.Moves.{Meets, move-none, step-law}
@@ -54,10 +54,10 @@ unfolding findMove
 found-goes n cs ns us limit b e = rw e
 
 -- Memory that a function leaves shows what the rules leave, and the wake-ups are the rules'.
-pub record Shown (limits : Limits) (topology : Topology) (known active : ℕ → Bool) (H : ℕ → List PutOrTake) (m : code.World) (w : World) : Type 0 where
-  pub shows : Shows limits topology known active (m .threads) (m .cpus) w
+pub record Shown (limits : Limits) (topology : Topology) (known active : ℕ → Bool) (H : ℕ → List PutOrTake) (m : Left ℕ Memory) (w : World) : Type 0 where
+  pub shows : Shows limits topology known active (m .memory .threads) (m .memory .cpus) w
   pub safe : Sound limits known H nobody-but w
-  pub counted : m .wakeups ≡ w .wakeups
+  pub counted : m .answer ≡ w .wakeups
 
 module _ (limits : Limits) (topology : Topology) (tick us : ℕ) (known : ℕ → Bool) (numbered : (x : ℕ) → known x ≡ true → x < limits .threads) (small : Small limits)
     (early : tick ≤ most-tick) (H : ℕ → List PutOrTake) (us-in : us < limits .cpus) (active : ℕ → Bool) (nodes : List (List ℕ)) (tree : Tree limits nodes topology) where
@@ -87,7 +87,7 @@ module _ (limits : Limits) (topology : Topology) (tick us : ℕ) (known : ℕ �
     -- Choices and the move that they came to: the rules have as much left to do as before, and have ended, or made so many steps.
     pub record Came (ts : List Thread) (n : ℕ) (s : Balanced) (B : Balancing) (far : ℕ) : Type 0 where
       pub after : Balancing
-      pub meets : Met (moveOne ts (s .cpus) k (s .balancing) n .threads) (moveOne ts (s .cpus) k (s .balancing) n .cpus) (moveOne ts (s .cpus) k (s .balancing) n .wakeups) (s .balancing) after
+      pub meets : Met (moveOne k (s .balancing) n (mem ts (s .cpus)) .memory .threads) (moveOne k (s .balancing) n (mem ts (s .cpus)) .memory .cpus) (moveOne k (s .balancing) n (mem ts (s .cpus)) .answer) (s .balancing) after
       pub same : left B ≡ left after
       pub ends : (going after ≡ false) ⊎ (far ≤ after .steps)
 
@@ -95,7 +95,7 @@ module _ (limits : Limits) (topology : Topology) (tick us : ℕ) (known : ℕ �
         → Came ts n (record { balancing = b; cpus = cs }) B far
     came-still {ts} {cs} {n} {b} {B} far m stays e = record {
       after = B;
-      meets = subst (λ (u : code.World). Met (u .threads) (u .cpus) (u .wakeups) b B) (sym (move-none ts cs k b n stays)) m;
+      meets = subst (λ (u : Left ℕ Memory). Met (u .memory .threads) (u .memory .cpus) (u .answer) b B) (sym (move-none ts cs k b n stays)) m;
       same = refl;
       ends = inl e;
     }
@@ -119,7 +119,7 @@ module _ (limits : Limits) (topology : Topology) (tick us : ℕ) (known : ℕ �
         let c = found-law fuel ts (s .cpus) n (s .balancing) (next B) far
         (λ h. omega (arith, enough g, step-more limits topology tick us B (going-on (next B) h .0)))
         (λ h. omega (arith, most g, step-more limits topology tick us B (going-on (next B) h .0))) t
-        (subst (λ (u : code.World). Met (u .threads) (u .cpus) (u .wakeups) (s .balancing) (next B)) (move-none ts (s .cpus) k (s .balancing) n t) (st .meets)) in
+        (subst (λ (u : Left ℕ Memory). Met (u .memory .threads) (u .memory .cpus) (u .answer) (s .balancing) (next B)) (move-none ts (s .cpus) k (s .balancing) n t) (st .meets)) in
         record { after = c .after; meets = c .meets; same = rest-next limits topology tick us B g ∙ c .same; ends = c .ends })))
         (λ g. subst (λ (r : Balanced). Came ts n r B far) (sym (found-stops (suc fuel) cs nodes us (limits .cpus) b (done-shown m stays ∙ ap not g))) (came-still far m stays g))
 
@@ -135,7 +135,7 @@ module _ (limits : Limits) (topology : Topology) (tick us : ℕ) (known : ℕ �
 
   -- BALANCE
   pub balance-shown : {ts : List Thread} {cs : List (List ℕ)} {w : World} (n : ℕ) → Shows limits topology known active ts cs w → Sound limits known H nobody-but w → n ≡ w .wakeups → w .wakeups + 2 ≤ NONE
-      → Shown limits topology known active H (balanceDef ts cs nodes (context limits tick us) n) (sched.balance limits topology tick us w)
+      → Shown limits topology known active H (balanceDef (context limits tick us) n nodes (mem ts cs)) (sched.balance limits topology tick us w)
   unfolding balanceDef moveTwo context moved begun sched.balance sched.max-steps
   balance-shown {ts} {cs} {w} n s safe e room =
       let B : Balancing = record { world = w; allowed = λ c. true; steps = 0; goes-on = true } in
@@ -152,10 +152,10 @@ module _ (limits : Limits) (topology : Topology) (tick us : ℕ) (known : ℕ �
       } in
       let first = found-law (w .wakeups) room 20 ts cs n b B 11 (λ g. omega arith) (λ g. omega arith) refl m in
       let s₁ : Balanced = findMove 20 cs nodes us (limits .cpus) b in
-      let m₁ : code.World = moveOne ts (s₁ .cpus) k (s₁ .balancing) n in
-      let second = found-law (w .wakeups) room 20 (m₁ .threads) (m₁ .cpus) (m₁ .wakeups) (moved (s₁ .balancing)) (first .after) 22 (λ g. omega arith) (eleven-more (first .after) (first .ends)) refl
+      let m₁ : Left ℕ Memory = moveOne k (s₁ .balancing) n (mem ts (s₁ .cpus)) in
+      let second = found-law (w .wakeups) room 20 (m₁ .memory .threads) (m₁ .memory .cpus) (m₁ .answer) (moved (s₁ .balancing)) (first .after) 22 (λ g. omega arith) (eleven-more (first .after) (first .ends)) refl
       (met-moved (w .wakeups) room (first .meets)) in
       let r : left B ≡ second .after = first .same ∙ second .same ∙ turns-stop limits topology tick us 20 (second .after) (over (second .after) 22 (omega arith) (second .ends)) in
       let u : sched.balance limits topology tick us w ≡ second .after .world = ap (λ (C : Balancing). C .world) r in
-      subst (λ (v : World). Shown limits topology known active H (balanceDef ts cs nodes (context limits tick us) n) v) (sym u)
+      subst (λ (v : World). Shown limits topology known active H (balanceDef (context limits tick us) n nodes (mem ts cs)) v) (sym u)
       (record { shows = second .meets .shows; safe = second .meets .safe; counted = second .meets .counted })

@@ -1,4 +1,4 @@
--- ONE CHOICE OF `balance`, and the move that it comes to: memory that meets the rules' balancing meets it again after the rules' step. Assumes nothing.
+-- ONE CHOICE OF `balance`, and the move that it comes to: memory that meets the rules' balancing meets it again after the rules' step.
 use Prim.Native.Nat.{ℕ, _+_, _*_, _≤_, _<_}
 use mathlib.Core.Path.{_≡_, refl, sym, ap, subst, _∙_}
 use mathlib.Core.Bool.{Bool, true, false, cond, not, true≢false}
@@ -30,9 +30,10 @@ use Rattle.runqueue.specs.RunQueue.{rqFront}
 use Rattle.processor.specs.Words.{word, put-word}
 use Rattle.processor.specs.Queue.{queueAt}
 use Rattle.processor.specs.Cpu as cpu
+use Rattle.processor.specs.Word.{LOAD, MUST-REBALANCE, RAND-STATE}
 use Rattle.lent.specs.declared.rq.Taken as lent
 use Rattle.lent.specs.declared.rq.Taken.the-variants as taken
-use Rattle.lent.specs.Rq.{Took, tookFrom, takeDef}
+use Rattle.lent.specs.Rq.{tookFrom, takeDef}
 use Rattle.memory.specs.Shows.{Small, Shows, most-tick}
 use Rattle.memory.specs.Frames.{beside-put, in-rows, shows-must-rebalance, shows-draws, at-again}
 use Rattle.memory.specs.Queues.{active-with, as-taken, Take-shows}
@@ -43,10 +44,10 @@ use Rattle.tree.specs.Tree.{Tree}
 use Rattle.choice_laws.specs.Memory.{balance-memory}
 use Rattle.step.specs.declared.balance.Balancing as step
 use Rattle.step.specs.Balance.{Balanced, passed, stopped, without, moving, isSomebody, handsOut, outcome, pairStep, pairOf, chosenAt, balanceStep}
-use Rattle.sched.specs.declared.context.Context.{Context}
-use Rattle.sched.specs.World as code
-use Rattle.sched.specs.Queues.{isNobody, threadOf, scheduleThreadOnCpu, movedFor, takeFrom}
-use Rattle.sched.specs.Balance.{received, moveOne}
+use Rattle.lent.specs.Left.{Memory, mem, Left}
+use Rattle.step.specs.declared.context.Context.{Context}
+use Rattle.sched_queues.specs.Queues.{isNobody, threadOf, scheduleThreadOnCpu, movedFor, takeFrom}
+use Rattle.sched_ticks.specs.Balance.{received, moveOne}
 use Rattle.sched_laws.specs.Spared.{from-wakeups}
 use Rattle.sched_laws.specs.Ticked.{context}
 use Rattle.sched_laws.specs.Moves.{nobody-moved, shows-scheduled, counts-scheduled, from-handed, shows-taken-from}
@@ -54,12 +55,12 @@ use Rattle.balance_laws.specs.Pairs.{PairUnder, chosen-in}
 
 -- ---- what a take answers
 
-somebody-answers : (ts : List Thread) (cs : List (List ℕ)) (c : ℕ) (f : Front) → isSomebody f ≡ not (isNobody (tookFrom ts cs c f .answer))
+somebody-answers : (ts : List Thread) (cs : List (List ℕ)) (c : ℕ) (f : Front) → isSomebody f ≡ not (isNobody (tookFrom c f (mem ts cs) .answer))
 unfolding isSomebody isNobody tookFrom
 somebody-answers ts cs c front.Nothing = refl
 somebody-answers ts cs c (front.At p b x) = refl
 
-nobody-left : (ts : List Thread) (cs : List (List ℕ)) (c : ℕ) (f : Front) → tookFrom ts cs c f .answer ≡ taken.Nobody → (tookFrom ts cs c f .threads ≡ ts) × (tookFrom ts cs c f .cpus ≡ cs)
+nobody-left : (ts : List Thread) (cs : List (List ℕ)) (c : ℕ) (f : Front) → tookFrom c f (mem ts cs) .answer ≡ taken.Nobody → (tookFrom c f (mem ts cs) .memory .threads ≡ ts) × (tookFrom c f (mem ts cs) .memory .cpus ≡ cs)
 unfolding tookFrom
 nobody-left ts cs c front.Nothing e = (refl, refl)
 nobody-left ts cs c (front.At p b x) e = let z : _≡_ {A = ℕ} 0 1 = cc in absurd (omega arith)
@@ -69,26 +70,26 @@ unfolding isNobody as-taken is-some
 somebody-is none = refl
 somebody-is (some x) = refl
 
-moved-answer : (r : ℕ) (g : Took) → movedFor r g .answer ≡ g .answer
+moved-answer : (r : ℕ) (g : Left lent.Taken Memory) → movedFor r g .answer ≡ g .answer
 unfolding movedFor
 moved-answer r g = both (isNobody (g .answer)) (λ e. rw e) (λ e. rw e)
 
 -- ---- a move
 
-pub move-none : (ts : List Thread) (cs : List (List ℕ)) (k : Context) (b : step.Balancing) (n : ℕ) → b .moves ≡ false → moveOne ts cs k b n ≡ record { threads = ts; cpus = cs; wakeups = n }
+pub move-none : (ts : List Thread) (cs : List (List ℕ)) (k : Context) (b : step.Balancing) (n : ℕ) → b .moves ≡ false → moveOne k b n (mem ts cs) ≡ record { answer = n; memory = mem ts cs }
 unfolding moveOne
 move-none ts cs k b n e =
-    ap (λ (t : Bool). cond (not t) (record { threads = ts; cpus = cs; wakeups = n }) (received k (b .recipient) n (takeFrom ts cs (b .donor) (b .recipient)))) e
+    ap (λ (t : Bool). cond (not t) (record { answer = n; memory = mem ts cs }) (received k (b .recipient) n (takeFrom (b .donor) (b .recipient) (mem ts cs)))) e
 
-move-some : (ts : List Thread) (cs : List (List ℕ)) (k : Context) (b : step.Balancing) (n : ℕ) → b .moves ≡ true → moveOne ts cs k b n ≡ received k (b .recipient) n (takeFrom ts cs (b .donor) (b .recipient))
+move-some : (ts : List Thread) (cs : List (List ℕ)) (k : Context) (b : step.Balancing) (n : ℕ) → b .moves ≡ true → moveOne k b n (mem ts cs) ≡ received k (b .recipient) n (takeFrom (b .donor) (b .recipient) (mem ts cs))
 unfolding moveOne
 move-some ts cs k b n e =
-    ap (λ (t : Bool). cond (not t) (record { threads = ts; cpus = cs; wakeups = n }) (received k (b .recipient) n (takeFrom ts cs (b .donor) (b .recipient)))) e
+    ap (λ (t : Bool). cond (not t) (record { answer = n; memory = mem ts cs }) (received k (b .recipient) n (takeFrom (b .donor) (b .recipient) (mem ts cs)))) e
 
-received-some : (k : Context) (r n : ℕ) (g : Took) (x : ℕ) → g .answer ≡ taken.Thread x → received k r n g ≡ scheduleThreadOnCpu (g .threads) (g .cpus) k r x n
+received-some : (k : Context) (r n : ℕ) (g : Left lent.Taken Memory) (x : ℕ) → g .answer ≡ taken.Thread x → received k r n g ≡ scheduleThreadOnCpu k r x n (g .memory)
 unfolding received isNobody threadOf
 received-some k r n g x e =
-    ap (λ (a : lent.Taken). cond (isNobody a) (record { threads = g .threads; cpus = g .cpus; wakeups = n }) (scheduleThreadOnCpu (g .threads) (g .cpus) k r (threadOf a) n)) e
+    ap (λ (a : lent.Taken). cond (isNobody a) (record { answer = n; memory = g .memory }) (scheduleThreadOnCpu k r (threadOf a) n (g .memory))) e
 
 one-at-most : (b : Bool) (n : ℕ) → cond b (n + 1) n ≤ n + 1
 one-at-most true n = omega arith
@@ -157,8 +158,8 @@ module _ (limits : Limits) (topology : Topology) (tick us : ℕ) (known : ℕ �
 
   module _ {ts : List Thread} {cs : List (List ℕ)} {w : World} (s : Shows limits topology known active ts cs w) (safe : OK w) (donor recipient : ℕ) (donor-in : donor < limits .cpus)
       (recipient-in : recipient < limits .cpus) where
-    abbrev d : Took
-    d = takeFrom ts cs donor recipient
+    abbrev d : Left lent.Taken Memory
+    d = takeFrom donor recipient (mem ts cs)
 
     abbrev front-there : Front
     front-there = rqFront (queueAt cs donor) (not (eqb recipient donor))
@@ -173,33 +174,33 @@ module _ (limits : Limits) (topology : Topology) (tick us : ℕ) (known : ℕ �
     taken-safe = from-handed limits topology tick us known numbered small early us-in H nobody-but w donor recipient safe
 
     -- the answer of the queue's own take
-    own-answer : tookFrom ts cs donor front-there .answer ≡ as-taken (g .got)
+    own-answer : tookFrom donor front-there (mem ts cs) .answer ≡ as-taken (g .got)
     unfolding takeFrom takeDef
-    own-answer = sym (moved-answer recipient (takeDef ts cs donor (not (eqb recipient donor)))) ∙ taken-shows .answer
+    own-answer = sym (moved-answer recipient (takeDef donor (not (eqb recipient donor)) (mem ts cs))) ∙ taken-shows .answer
 
     hands-shown : handsOut cs donor recipient ≡ is-some (g .got)
     unfolding handsOut
     hands-shown = somebody-answers ts cs donor front-there ∙ ap (λ (a : lent.Taken). not (isNobody a)) own-answer ∙ somebody-is (g .got)
 
-    left-shows : (o : Option ℕ) → g .got ≡ o → Shows limits topology known (active-with active o) (d .threads) (d .cpus) (g .world)
-    left-shows o e = subst (λ (o : Option ℕ). Shows limits topology known (active-with active o) (d .threads) (d .cpus) (g .world)) e (taken-shows .left)
+    left-shows : (o : Option ℕ) → g .got ≡ o → Shows limits topology known (active-with active o) (d .memory .threads) (d .memory .cpus) (g .world)
+    left-shows o e = subst (λ (o : Option ℕ). Shows limits topology known (active-with active o) (d .memory .threads) (d .memory .cpus) (g .world)) e (taken-shows .left)
 
     -- nobody was handed out: only the rules' log has changed
     none-shows : g .got ≡ none → Shows limits topology known active ts cs (g .world)
     unfolding takeFrom takeDef active-with as-taken
     none-shows e =
-        let a : tookFrom ts cs donor front-there .answer ≡ taken.Nobody = own-answer ∙ ap as-taken e in
+        let a : tookFrom donor front-there (mem ts cs) .answer ≡ taken.Nobody = own-answer ∙ ap as-taken e in
         let l = nobody-left ts cs donor front-there a in
-        let k = subst (λ (t : Took). Shows limits topology known active (t .threads) (t .cpus) (g .world)) (nobody-moved recipient (tookFrom ts cs donor front-there) a) (left-shows none e) in
+        let k = subst (λ (t : Left lent.Taken Memory). Shows limits topology known active (t .memory .threads) (t .memory .cpus) (g .world)) (nobody-moved recipient (tookFrom donor front-there (mem ts cs)) a) (left-shows none e) in
         subst (λ (r : List (List ℕ)). Shows limits topology known active ts r (g .world)) (l .1)
-        (subst (λ (r : List Thread). Shows limits topology known active r (tookFrom ts cs donor front-there .cpus) (g .world)) (l .0) k)
+        (subst (λ (r : List Thread). Shows limits topology known active r (tookFrom donor front-there (mem ts cs) .memory .cpus) (g .world)) (l .0) k)
 
     module _ (x : ℕ) (e : g .got ≡ some x) where
       answered : d .answer ≡ taken.Thread x
       unfolding as-taken
       answered = taken-shows .answer ∙ ap as-taken e
 
-      moved-shows : Shows limits topology known (at active x true) (d .threads) (d .cpus) (g .world)
+      moved-shows : Shows limits topology known (at active x true) (d .memory .threads) (d .memory .cpus) (g .world)
       unfolding active-with
       moved-shows = left-shows (some x) e
 
@@ -221,15 +222,15 @@ module _ (limits : Limits) (topology : Topology) (tick us : ℕ) (known : ℕ �
           let b = s .places .running x t in
           let z : _≡_ {A = ℕ} 0 1 = cc in omega arith)
 
-      abbrev left : ℕ → code.World
-      left n = scheduleThreadOnCpu (d .threads) (d .cpus) k recipient x n
+      abbrev left : ℕ → Left ℕ Memory
+      left n = scheduleThreadOnCpu k recipient x n (d .memory)
 
-      put-shows : (n : ℕ) → Shows limits topology known active (left n .threads) (left n .cpus) (sched.schedule-thread-on-cpu limits topology tick us (g .world) recipient x)
+      put-shows : (n : ℕ) → Shows limits topology known active (left n .memory .threads) (left n .memory .cpus) (sched.schedule-thread-on-cpu limits topology tick us (g .world) recipient x)
       put-shows n =
-          subst (λ (f : ℕ → Bool). Shows limits topology known f (left n .threads) (left n .cpus) (sched.schedule-thread-on-cpu limits topology tick us (g .world) recipient x)) (active-again x was-idle)
+          subst (λ (f : ℕ → Bool). Shows limits topology known f (left n .memory .threads) (left n .memory .cpus) (sched.schedule-thread-on-cpu limits topology tick us (g .world) recipient x)) (active-again x was-idle)
           (shows-scheduled limits topology tick us known numbered small early us-in H moved-shows recipient x moved-new n)
 
-      put-wakeups : (n : ℕ) → n ≡ w .wakeups → w .wakeups < NONE → left n .wakeups ≡ sched.schedule-thread-on-cpu limits topology tick us (g .world) recipient x .wakeups
+      put-wakeups : (n : ℕ) → n ≡ w .wakeups → w .wakeups < NONE → left n .answer ≡ sched.schedule-thread-on-cpu limits topology tick us (g .world) recipient x .wakeups
       put-wakeups n c h =
           let same = from-wakeups limits topology tick us w donor recipient in
           counts-scheduled limits topology tick us known numbered small early us-in H moved-shows recipient x moved-new n (c ∙ sym same) (rw same h)
@@ -245,12 +246,12 @@ module _ (limits : Limits) (topology : Topology) (tick us : ℕ) (known : ℕ �
 
   -- after a choice and the move that it comes to; a choice that moves a thread is eleven steps
   pub record Stepped (ts : List Thread) (n : ℕ) (s : Balanced) (before : ℕ) (B : Balancing) : Type 0 where
-    pub meets : Meets (moveOne ts (s .cpus) k (s .balancing) n .threads) (moveOne ts (s .cpus) k (s .balancing) n .cpus) (moveOne ts (s .cpus) k (s .balancing) n .wakeups) (s .balancing) B
+    pub meets : Meets (moveOne k (s .balancing) n (mem ts (s .cpus)) .memory .threads) (moveOne k (s .balancing) n (mem ts (s .cpus)) .memory .cpus) (moveOne k (s .balancing) n (mem ts (s .cpus)) .answer) (s .balancing) B
     pub far : s .balancing .moves ≡ true → before + 11 ≤ B .steps
 
   still : {ts : List Thread} {n : ℕ} (s : Balanced) (before : ℕ) (B : Balancing) → s .balancing .moves ≡ false → Meets ts (s .cpus) n (s .balancing) B → Stepped ts n s before B
   still {ts} {n} s before B e m = record {
-    meets = subst (λ (u : code.World). Meets (u .threads) (u .cpus) (u .wakeups) (s .balancing) B) (sym (move-none ts (s .cpus) k (s .balancing) n e)) m;
+    meets = subst (λ (u : Left ℕ Memory). Meets (u .memory .threads) (u .memory .cpus) (u .answer) (s .balancing) B) (sym (move-none ts (s .cpus) k (s .balancing) n e)) m;
     far = λ t. absurd (true≢false (sym t ∙ e));
   }
 
@@ -272,7 +273,7 @@ module _ (limits : Limits) (topology : Topology) (tick us : ℕ) (known : ℕ �
       v = with-cpu w donor (set-rebalance (w .cpus donor))
 
       abbrev marked : List (List ℕ)
-      marked = put-word cs donor 77 1
+      marked = put-word cs donor MUST-REBALANCE 1
 
       marked-shows : Shows limits topology known active ts marked v
       marked-shows = shows-must-rebalance (m .shows) donor donor-in
@@ -327,12 +328,12 @@ module _ (limits : Limits) (topology : Topology) (tick us : ℕ) (known : ℕ �
             steps = B .steps + 11;
             goes-on = true;
           } = rules-some v (B .allowed) (B .steps) donor recipient x e in
-          let t : moveOne ts marked k (moving b donor recipient) n ≡ left marked-shows marked-safe donor recipient donor-in recipient-in x e n =
-          move-some ts marked k (moving b donor recipient) n refl ∙ received-some k recipient n (takeFrom ts marked donor recipient) x (answered marked-shows marked-safe donor recipient donor-in recipient-in x e) in
+          let t : moveOne k (moving b donor recipient) n (mem ts marked) ≡ left marked-shows marked-safe donor recipient donor-in recipient-in x e n =
+          move-some ts marked k (moving b donor recipient) n refl ∙ received-some k recipient n (takeFrom donor recipient (mem ts marked)) x (answered marked-shows marked-safe donor recipient donor-in recipient-in x e) in
           record {
-            meets = subst (λ (u : code.World). Meets (u .threads) (u .cpus) (u .wakeups) (moving b donor recipient) moved-B) (sym t)
-                (subst (λ (C : Balancing). Meets (left marked-shows marked-safe donor recipient donor-in recipient-in x e n .threads) (left marked-shows marked-safe donor recipient donor-in recipient-in x e n .cpus)
-                (left marked-shows marked-safe donor recipient donor-in recipient-in x e n .wakeups) (moving b donor recipient) C) (sym r) (record {
+            meets = subst (λ (u : Left ℕ Memory). Meets (u .memory .threads) (u .memory .cpus) (u .answer) (moving b donor recipient) moved-B) (sym t)
+                (subst (λ (C : Balancing). Meets (left marked-shows marked-safe donor recipient donor-in recipient-in x e n .memory .threads) (left marked-shows marked-safe donor recipient donor-in recipient-in x e n .memory .cpus)
+                (left marked-shows marked-safe donor recipient donor-in recipient-in x e n .answer) (moving b donor recipient) C) (sym r) (record {
                   shows = put-shows marked-shows marked-safe donor recipient donor-in recipient-in x e n;
                   safe = put-safely marked-shows marked-safe donor recipient donor-in recipient-in x e;
                   words = sixteen-remove (b .allowed) (m .words) recipient;
@@ -371,13 +372,13 @@ module _ (limits : Limits) (topology : Topology) (tick us : ℕ) (known : ℕ �
       load-at-donor : cpu.current-load cs donor ≡ sched.current-load (w .cpus donor)
       load-at-donor = current-load-shown (m .shows) small donor donor-in
 
-      waiting-at-donor : word cs donor 62 ≡ load (w .cpus donor .queue)
+      waiting-at-donor : word cs donor LOAD ≡ load (w .cpus donor .queue)
       waiting-at-donor = word-load cs donor ∙ load-shown (m .shows) small donor donor-in
 
-      outcome-is : outcome b donor recipient (cpu.current-load cs donor) (word cs donor 62) (handsOut cs donor recipient)
+      outcome-is : outcome b donor recipient (cpu.current-load cs donor) (word cs donor LOAD) (handsOut cs donor recipient)
           ≡ outcome b donor recipient (sched.current-load (w .cpus donor)) (load (w .cpus donor .queue)) (is-some (got .got))
       outcome-is =
-          ap (λ i. outcome b donor recipient i (word cs donor 62) (handsOut cs donor recipient)) load-at-donor
+          ap (λ i. outcome b donor recipient i (word cs donor LOAD) (handsOut cs donor recipient)) load-at-donor
           ∙ ap (λ i. outcome b donor recipient (sched.current-load (w .cpus donor)) i (handsOut cs donor recipient)) waiting-at-donor
           ∙ ap (λ (t : Bool). outcome b donor recipient (sched.current-load (w .cpus donor)) (load (w .cpus donor .queue)) t) hands-now
 
@@ -387,7 +388,7 @@ module _ (limits : Limits) (topology : Topology) (tick us : ℕ) (known : ℕ �
       unfolding pairStep
       pair-is =
           ap (λ i. cond (eqb i 0) (record { balancing = stopped b; cpus = cs })
-          (record { balancing = outcome b donor recipient (cpu.current-load cs donor) (word cs donor 62) (handsOut cs donor recipient); cpus = marked })) load-at-donor
+          (record { balancing = outcome b donor recipient (cpu.current-load cs donor) (word cs donor LOAD) (handsOut cs donor recipient); cpus = marked })) load-at-donor
           ∙ ap (λ (c : step.Balancing). cond (eqb (sched.current-load (w .cpus donor)) 0) (record { balancing = stopped b; cpus = cs }) (record { balancing = c; cpus = marked })) outcome-is
 
       abbrev stopped-B : Balancing
@@ -421,7 +422,7 @@ module _ (limits : Limits) (topology : Topology) (tick us : ℕ) (known : ℕ �
 
   -- the draws of a choice
   drawn-meets : {ts : List Thread} {cs : List (List ℕ)} {n : ℕ} {b : step.Balancing} {B : Balancing} → Meets ts cs n b B → (d : ℕ)
-      → Meets ts (put-word cs us 79 d) n b (record { world = with-cpu (B .world) us (with-draws (B .world .cpus us) d); allowed = B .allowed; steps = B .steps; goes-on = B .goes-on })
+      → Meets ts (put-word cs us RAND-STATE d) n b (record { world = with-cpu (B .world) us (with-draws (B .world .cpus us) d); allowed = B .allowed; steps = B .steps; goes-on = B .goes-on })
   unfolding with-draws with-cpu
   drawn-meets {B = B} m d = record {
     shows = shows-draws (m .shows) us us-in d;
@@ -441,7 +442,7 @@ module _ (limits : Limits) (topology : Topology) (tick us : ℕ) (known : ℕ �
     unfolding balanceStep chosenAt sched.balance-step
     step-law {ts} {cs} {n} {b} {B} m stays on under =
         let f : Chosen = choose-cpu-balance us (B .allowed) (λ c. sched.current-load (B .world .cpus c)) (cpus-of limits topology 0) (B .world .cpus us .draw-state) in
-        subst (λ (c : Chosen). Stepped ts n (pairOf (put-word cs us 79 (c .draws)) b (c .found)) (B .steps)
+        subst (λ (c : Chosen). Stepped ts n (pairOf (put-word cs us RAND-STATE (c .draws)) b (c .found)) (B .steps)
         (sched.balance-pair limits topology tick us (with-cpu (B .world) us (with-draws (B .world .cpus us) (f .draws))) (B .allowed) (B .steps) (f .found)))
         (sym (balance-memory (m .shows) small us us-in nodes tree (cpus.contains (b .allowed)) (B .allowed) (m .allowed)))
         (pair-law (drawn-meets m (f .draws)) stays on under (f .found) (chosen-in limits topology us (B .allowed) _ _ (omega arith)))

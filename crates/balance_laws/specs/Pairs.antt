@@ -1,4 +1,4 @@
--- The donor and the recipient that `choose_cpu_balance` finds are CPUs below the limit. Assumes nothing.
+-- The donor and the recipient that `choose_cpu_balance` finds are CPUs below the limit.
 use Prim.Native.Nat.{ℕ, _<_}
 use mathlib.Core.Bool.{Bool}
 use mathlib.Core.List.{List, [], _∷_}

@@ -1,4 +1,4 @@
--- `schedule_maybe_rebalance` and `schedule_stattick` over records and words, where `balance` is the rules'. Assumes nothing.
+-- `schedule_maybe_rebalance` and `schedule_stattick` over records and words, where `balance` is the rules'.
 use Prim.Native.Nat.{ℕ, _+_, _≤_, _<_}
 use mathlib.Core.Path.{_≡_, refl, sym, subst, _∙_}
 use mathlib.Core.Bool.{Bool, true, false, _&&_, true≢false}
@@ -17,8 +17,9 @@ use Rattle.thread.specs.Thread.{NONE}
 use Rattle.memory.specs.Shows.{Small, Shows, most-tick}
 use Rattle.memory.specs.Clock.{shows-clock}
 use Rattle.step.specs.Rebalance.{rebalanceDue}
-use Rattle.sched.specs.declared.context.Context.{Context}
-use Rattle.sched.specs.Balance.{balanceDef, maybeRebalance, clocked, scheduleStattick}
+use Rattle.lent.specs.Left.{Memory, mem, Left}
+use Rattle.step.specs.declared.context.Context.{Context}
+use Rattle.sched_ticks.specs.Balance.{balanceDef, maybeRebalance, clocked, scheduleStattick}
 use Rattle.sched_laws.specs.Ticks.{due-shown, anew, shows-due, shows-not-due}
 use Rattle.sched_laws.specs.Ticked.{context}
 use Rattle.sched_laws.specs.Picks.{Settled, no-one}
@@ -34,7 +35,7 @@ module _ (limits : Limits) (topology : Topology) (tick us : ℕ) (known : ℕ �
   abbrev pub Balances : Type 0
   Balances =
       (active : ℕ → Bool) (ts : List Thread) (cs : List (List ℕ)) (w : World) → Shows limits topology known active ts cs w → Sound limits known H nobody-but w → Settled no-one active w
-      → (wakeups : ℕ) → wakeups ≡ w .wakeups → w .wakeups + 2 ≤ NONE → Leaves limits topology known (balanceDef ts cs ns k wakeups) (sched.balance limits topology tick us w)
+      → (wakeups : ℕ) → wakeups ≡ w .wakeups → w .wakeups + 2 ≤ NONE → Leaves limits topology known (balanceDef k wakeups ns (mem ts cs)) (sched.balance limits topology tick us w)
 
   module _ (balances : Balances) {active : ℕ → Bool} {ts : List Thread} {cs : List (List ℕ)} {w : World} (s : Shows limits topology known active ts cs w) (safe : Sound limits known H nobody-but w)
       (st : Settled no-one active w) (wakeups : ℕ) (count : wakeups ≡ w .wakeups) (few : w .wakeups + 2 ≤ NONE) (dt : ℕ) where
@@ -70,15 +71,15 @@ module _ (limits : Limits) (topology : Topology) (tick us : ℕ) (known : ℕ �
     unfolding with-rebalance-time with-draws
     next-sound = sound-same (same-cpu-changed limits w us _ refl refl) safe
 
-    next-leaves : due ≡ true → Leaves limits topology known (balanceDef ts (rebalanceDue cs us dt .cpus) ns k wakeups) (sched.balance limits topology tick us next)
+    next-leaves : due ≡ true → Leaves limits topology known (balanceDef k wakeups ns (mem ts (rebalanceDue cs us dt .cpus))) (sched.balance limits topology tick us next)
     unfolding with-cpu
     next-leaves e = balances active ts (rebalanceDue cs us dt .cpus) next (shows-due limits topology tick us known numbered small early us-in s dt e) next-sound (settled-same w next next-running st) wakeups count few
 
-    pub shows-maybe-rebalance : Leaves limits topology known (maybeRebalance ts cs ns k dt wakeups) (sched.maybe-rebalance limits topology tick us w dt)
+    pub shows-maybe-rebalance : Leaves limits topology known (maybeRebalance k dt wakeups ns (mem ts cs)) (sched.maybe-rebalance limits topology tick us w dt)
     unfolding maybeRebalance context
     shows-maybe-rebalance =
         both due
-        (λ e. rw (due-shown limits topology tick us known numbered small early us-in s dt ∙ e) (subst (Leaves limits topology known (balanceDef ts (rebalanceDue cs us dt .cpus) ns k wakeups)) (sym (balances-now e)) (next-leaves e)))
+        (λ e. rw (due-shown limits topology tick us known numbered small early us-in s dt ∙ e) (subst (Leaves limits topology known (balanceDef k wakeups ns (mem ts (rebalanceDue cs us dt .cpus)))) (sym (balances-now e)) (next-leaves e)))
         (λ e. rw (due-shown limits topology tick us known numbered small early us-in s dt ∙ e) (record {
           ends = record { active = active; shows = shows-not-due limits topology tick us known numbered small early us-in s dt e; settled = settled-same w _ (not-now e) st };
           counted = count ∙ sym (not-now-wakeups e);
@@ -92,7 +93,7 @@ module _ (limits : Limits) (topology : Topology) (tick us : ℕ) (known : ℕ �
     unfolding sched.clock with-cpu
     clock-wakeups v = refl
 
-    pub shows-stattick : Leaves limits topology known (scheduleStattick ts cs ns k dt wakeups) (sched.schedule-stattick limits topology tick us w dt)
+    pub shows-stattick : Leaves limits topology known (scheduleStattick k dt wakeups ns (mem ts cs)) (sched.schedule-stattick limits topology tick us w dt)
     unfolding scheduleStattick clocked context sched.schedule-stattick
     shows-stattick =
         let l = shows-maybe-rebalance in

@@ -1,5 +1,5 @@
 -- `balance`, `schedule_maybe_rebalance` AND `schedule_stattick` OVER RECORDS AND WORDS: what they leave shows what the rules leave, and the wake-ups are
--- the rules'. Assumes nothing.
+-- the rules'.
 use Prim.Native.Nat.{ℕ, _+_, _≤_, _<_}
 use mathlib.Core.Path.{_≡_}
 use mathlib.Core.Bool.{Bool, true}
@@ -14,7 +14,8 @@ use Rattle.thread.specs.declared.Thread.{Thread}
 use Rattle.thread.specs.Thread.{NONE}
 use Rattle.memory.specs.Shows.{Small, Shows, most-tick}
 use Rattle.tree.specs.Tree.{Tree}
-use Rattle.sched.specs.Balance.{balanceDef, maybeRebalance, scheduleStattick}
+use Rattle.lent.specs.Left.{Memory, mem, Left}
+use Rattle.sched_ticks.specs.Balance.{balanceDef, maybeRebalance, scheduleStattick}
 use Rattle.sched_laws.specs.Ticked.{context}
 use Rattle.sched_laws.specs.Picks.{Settled, no-one}
 use Rattle.sched_laws.specs.Scheduled.{Leaves}
@@ -33,13 +34,13 @@ module _ (limits : Limits) (topology : Topology) (tick us : ℕ) (known : ℕ �
   module _ {active : ℕ → Bool} {ts : List Thread} {cs : List (List ℕ)} {w : World} (s : Shows limits topology known active ts cs w) (safe : Sound limits known H nobody-but w) (st : Settled no-one active w)
       (wakeups : ℕ) (count : wakeups ≡ w .wakeups) (few : w .wakeups + 2 ≤ NONE) where
     -- "`balance` makes at most 20 choices and moves at most two threads"
-    pub balance-law : Leaves limits topology known (balanceDef ts cs ns (context limits tick us) wakeups) (sched.balance limits topology tick us w)
+    pub balance-law : Leaves limits topology known (balanceDef (context limits tick us) wakeups ns (mem ts cs)) (sched.balance limits topology tick us w)
     balance-law = balances active ts cs w s safe st wakeups count few
 
     -- "only on the boot CPU"
-    pub maybe-rebalance-law : (dt : ℕ) → Leaves limits topology known (maybeRebalance ts cs ns (context limits tick us) dt wakeups) (sched.maybe-rebalance limits topology tick us w dt)
+    pub maybe-rebalance-law : (dt : ℕ) → Leaves limits topology known (maybeRebalance (context limits tick us) dt wakeups ns (mem ts cs)) (sched.maybe-rebalance limits topology tick us w dt)
     maybe-rebalance-law dt = shows-maybe-rebalance limits topology tick us known numbered small early us-in H ns balances s safe st wakeups count few dt
 
     -- 15: `schedule_stattick`
-    pub stattick-law : (dt : ℕ) → Leaves limits topology known (scheduleStattick ts cs ns (context limits tick us) dt wakeups) (sched.schedule-stattick limits topology tick us w dt)
+    pub stattick-law : (dt : ℕ) → Leaves limits topology known (scheduleStattick (context limits tick us) dt wakeups ns (mem ts cs)) (sched.schedule-stattick limits topology tick us w dt)
     stattick-law dt = shows-stattick limits topology tick us known numbered small early us-in H ns balances s safe st wakeups count few dt

@@ -1,4 +1,4 @@
--- The turns of the rules' `balance`: twenty are enough, wherever one begins to count. Assumes nothing.
+-- The turns of the rules' `balance`: twenty are enough, wherever one begins to count.
 use Prim.Native.Nat.{ℕ, zero, suc, _+_, _≤_, _<_}
 use mathlib.Core.Path.{_≡_, refl, sym, ap, _∙_}
 use mathlib.Core.Bool.{Bool, true, false, _&&_, false≢true}

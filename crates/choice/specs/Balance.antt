@@ -1,4 +1,4 @@
--- What `choose_cpu_balance` finds, as the rules have it, and one step of it. Assumes nothing.
+-- What `choose_cpu_balance` finds, as the rules have it, and one step of it.
 use Prim.Native.Nat.{ℕ, _+_, _-_, _≤_, _<_}
 use mathlib.Core.Path.{_≡_}
 use mathlib.Core.Bool.{Bool, cond}

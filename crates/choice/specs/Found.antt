@@ -1,4 +1,4 @@
--- What a search finds, as the rules have it, and one step of a search. Assumes nothing.
+-- What a search finds, as the rules have it, and one step of a search.
 use Prim.Native.Nat.{ℕ, _+_, _-_, _≤_, _<_}
 use mathlib.Core.Path.{_≡_, refl}
 use mathlib.Core.Bool.{Bool, cond}

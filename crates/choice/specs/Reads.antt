@@ -1,4 +1,4 @@
--- What the choice reads of the CPUs' words. Assumes nothing.
+-- What the choice reads of the CPUs' words.
 use Prim.Native.Nat.{ℕ, _%_, _^_}
 use mathlib.Core.Path.{_≡_, refl}
 use mathlib.Core.Bool.{Bool, false}
@@ -11,6 +11,7 @@ use Rattle.thread.specs.declared.time.OptionCpu.the-variants as cpu
 use Rattle.thread.specs.Reads.{named}
 use Rattle.processor.specs.Words.{word}
 use Rattle.processor.specs.Cpu.{current-load, current-priority}
+use Rattle.processor.specs.Word.{LOAD, MOVABLE, RAND-STATE}
 
 -- "`current_load` is queue load plus 1 unless idle."
 abbrev pub load-at : List (List ℕ) → ℕ → ℕ
@@ -26,10 +27,10 @@ priority-at cpus c = current-priority cpus c
 
 -- how many wait, and how many of them are not pinned
 unfoldable pub queue-load-at : List (List ℕ) → ℕ → ℕ
-queue-load-at cpus c = word cpus c 62
+queue-load-at cpus c = word cpus c LOAD
 
 unfoldable pub movable-at : List (List ℕ) → ℕ → ℕ
-movable-at cpus c = word cpus c 64
+movable-at cpus c = word cpus c MOVABLE
 
 -- the CPU passes over a thread of this priority, if one is given
 unfoldable pub skips-at : List (List ℕ) → Option Priority → ℕ → Bool
@@ -54,4 +55,4 @@ named-as (some c) = refl
 
 -- the word of the draw state
 abbrev pub draw-word : ℕ
-draw-word = 79
+draw-word = RAND-STATE

@@ -1,4 +1,4 @@
--- `select_cpu` over the CPUs' and nodes' words, step by step as the Rust has it. Assumes nothing.
+-- `select_cpu` over the CPUs' and nodes' words, step by step as the Rust has it.
 use Prim.Native.Nat.{ℕ}
 use mathlib.Core.Bool.{Bool, false, cond, not, _&&_, _||_}
 use mathlib.Core.Option.{Option, none, some}

@@ -1,4 +1,4 @@
--- The first CPU that passes a test, over the numbers of a node and over nodes. Assumes nothing.
+-- The first CPU that passes a test, over the numbers of a node and over nodes.
 use Prim.Native.Nat.{ℕ, _+_, _-_, _≤_, _<_}
 use mathlib.Core.Path.{_≡_, refl, sym, ap, _∙_}
 use mathlib.Core.Bool.{Bool, true, false, cond, _&&_}

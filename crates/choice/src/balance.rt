@@ -15,8 +15,10 @@ use crate::reads::score;
 use nodes::node::contains;
 use nodes::node::end;
 use nodes::node::first;
+use nodes::words::NodeWords;
 use processor::cpu::current_load;
 use processor::random::next_state;
+use processor::words::CpuWords;
 use topology::cpuset::CpuSet;
 
 // The highest score, and the lowest of the CPUs that did not raise the highest.
@@ -72,7 +74,7 @@ pub fn weigh(e: Extremes, s: u64, c: u64, draws: u64) -> Extremes
     }
 }
 
-pub fn raise(cpus: &[[u64; 96]], us: u64, c: u64, e: Extremes) -> Extremes
+pub fn raise(cpus: &[CpuWords], us: u64, c: u64, e: Extremes) -> Extremes
     ensures { λ r. ⌜ extremes-in r ≡ raised us (weight-at (now (cpus .entry))) c (extremes-in e) ⌝ }
 {
     let draws = next_state(us, e.draws);
@@ -82,8 +84,8 @@ pub fn raise(cpus: &[[u64; 96]], us: u64, c: u64, e: Extremes) -> Extremes
 
 // One number of a node's range: weighed if it is a CPU of the node and is allowed.
 pub fn compare(
-    cpus: &[[u64; 96]],
-    nodes: &[[u64; 32]],
+    cpus: &[CpuWords],
+    nodes: &[NodeWords],
     us: u64,
     allowed: CpuSet,
     n: u64,
@@ -106,8 +108,8 @@ pub fn compare(
 }
 
 pub fn balance_range(
-    cpus: &[[u64; 96]],
-    nodes: &[[u64; 32]],
+    cpus: &[CpuWords],
+    nodes: &[NodeWords],
     us: u64,
     allowed: CpuSet,
     n: u64,
@@ -153,8 +155,8 @@ pub fn pair_of(highest: u64, lowest: Best) -> Pair
 
 // Over the CPUs of the root that are allowed, ascending: one draw for each.
 pub fn choose_cpu_balance(
-    cpus: &[[u64; 96]],
-    nodes: &[[u64; 32]],
+    cpus: &[CpuWords],
+    nodes: &[NodeWords],
     us: u64,
     limit: u64,
     allowed: CpuSet,

@@ -14,9 +14,11 @@ use nodes::node::contains;
 use nodes::node::end;
 use nodes::node::first;
 use nodes::node::has_children;
+use nodes::words::NodeWords;
 use nodes::words::word;
 use processor::cpu::current_load;
 use processor::random::next_state;
+use processor::words::CpuWords;
 use thread::priority::OptionPriority;
 
 // The CPU found so far, with its score.
@@ -63,7 +65,7 @@ pub fn lower(found: Best, score: u64, cpu: u64) -> Best
 }
 
 // A CPU that is not skipped: one draw, and its score beside the lowest so far.
-pub fn weigh(cpus: &[[u64; 96]], us: u64, c: u64, so_far: Searched) -> Searched
+pub fn weigh(cpus: &[CpuWords], us: u64, c: u64, so_far: Searched) -> Searched
     ensures { λ r. ⌜ searched-in r ≡ weighed us (weight-at (now (cpus .entry))) c (searched-in «so_far») ⌝ }
 {
     let draws = next_state(us, so_far.draws);
@@ -75,8 +77,8 @@ pub fn weigh(cpus: &[[u64; 96]], us: u64, c: u64, so_far: Searched) -> Searched
 
 // One number of a leaf's range: weighed if it is a CPU of the leaf and is not skipped.
 pub fn consider(
-    cpus: &[[u64; 96]],
-    nodes: &[[u64; 32]],
+    cpus: &[CpuWords],
+    nodes: &[NodeWords],
     us: u64,
     pri: OptionPriority,
     n: u64,
@@ -100,8 +102,8 @@ pub fn consider(
 
 // The CPUs of a node from one number to below another, ascending.
 pub fn search_range(
-    cpus: &[[u64; 96]],
-    nodes: &[[u64; 32]],
+    cpus: &[CpuWords],
+    nodes: &[NodeWords],
     us: u64,
     pri: OptionPriority,
     n: u64,
@@ -127,8 +129,8 @@ pub fn search_range(
 
 // The CPUs of a leaf; a node with children has none to look at.
 pub fn search_leaf(
-    cpus: &[[u64; 96]],
-    nodes: &[[u64; 32]],
+    cpus: &[CpuWords],
+    nodes: &[NodeWords],
     us: u64,
     limit: u64,
     pri: OptionPriority,
@@ -151,8 +153,8 @@ pub fn search_leaf(
 
 // All leaves in their order, the CPUs of each ascending: the lowest score, one draw for each CPU that is not skipped, the first of equals.
 pub fn find_cpu_from_topo(
-    cpus: &[[u64; 96]],
-    nodes: &[[u64; 32]],
+    cpus: &[CpuWords],
+    nodes: &[NodeWords],
     us: u64,
     limit: u64,
     pri: OptionPriority,

@@ -7,6 +7,7 @@ ghost use Rattle.thread.specs.Reads.{held};
 ghost use Rattle.choice.specs.Reads.{skips-at, movable-at, queue-load-at};
 use processor::cpu::current_priority;
 use processor::random::draw;
+use processor::words::CpuWords;
 use processor::words::LOAD;
 use processor::words::MOVABLE;
 use processor::words::word;
@@ -26,7 +27,7 @@ pub fn score(load: u64, state: u64) -> u64
 }
 
 // Is the CPU skipped in a search for a thread of this priority, if one is given?
-pub fn skips(cpus: &[[u64; 96]], pri: OptionPriority, c: u64) -> bool
+pub fn skips(cpus: &[CpuWords], pri: OptionPriority, c: u64) -> bool
     ensures { λ r. ⌜ r ≡ skips-at (now (cpus .entry)) (held pri) c ⌝ }
 {
     match pri {
@@ -36,13 +37,13 @@ pub fn skips(cpus: &[[u64; 96]], pri: OptionPriority, c: u64) -> bool
 }
 
 // How many wait in its queue, and how many of them are not pinned.
-pub fn queue_load(cpus: &[[u64; 96]], c: u64) -> u64
+pub fn queue_load(cpus: &[CpuWords], c: u64) -> u64
     ensures { λ r. ⌜ r ≡ queue-load-at (now (cpus .entry)) c ⌝ }
 {
     word(cpus, c, LOAD)
 }
 
-pub fn movable(cpus: &[[u64; 96]], c: u64) -> u64
+pub fn movable(cpus: &[CpuWords], c: u64) -> u64
     ensures { λ r. ⌜ r ≡ movable-at (now (cpus .entry)) c ⌝ }
 {
     word(cpus, c, MOVABLE)

@@ -9,7 +9,9 @@ use crate::find::Best;
 use crate::find::Searched;
 use crate::find::find_cpu_from_topo;
 use crate::reads::queue_load;
+use nodes::words::NodeWords;
 use processor::cpu::current_priority;
+use processor::words::CpuWords;
 use processor::words::RAND_STATE;
 use processor::words::put_word;
 use processor::words::word;
@@ -29,7 +31,7 @@ pub fn same_cpu(c: u64, avoid: OptionCpu) -> bool
 }
 
 // 1: the CPU is not to be avoided, and nobody waits there or the thread is above its priority.
-pub fn runs_at_once(cpus: &[[u64; 96]], c: u64, pri: Priority, avoid: OptionCpu) -> bool
+pub fn runs_at_once(cpus: &[CpuWords], c: u64, pri: Priority, avoid: OptionCpu) -> bool
     ensures { λ r. ⌜ r ≡ runs-at-once (now (cpus .entry)) pri (named avoid) c ⌝ }
 {
     if same_cpu(c, avoid) {
@@ -41,7 +43,7 @@ pub fn runs_at_once(cpus: &[[u64; 96]], c: u64, pri: Priority, avoid: OptionCpu)
     less(current_priority(cpus, c), pri)
 }
 
-pub fn at_once(cpus: &[[u64; 96]], preferred: OptionCpu, pri: Priority, avoid: OptionCpu) -> bool
+pub fn at_once(cpus: &[CpuWords], preferred: OptionCpu, pri: Priority, avoid: OptionCpu) -> bool
     ensures { λ r. ⌜ r ≡ at-once (now (cpus .entry)) pri (named avoid) (named preferred) ⌝ }
 {
     match preferred {
@@ -80,8 +82,8 @@ pub fn accepted(found: Best, avoid: OptionCpu) -> bool
 
 // 2: the least loaded that will run the thread at once, if it is not to be avoided; else 3: the least loaded of all.
 pub fn search_twice(
-    cpus: &[[u64; 96]],
-    nodes: &[[u64; 32]],
+    cpus: &[CpuWords],
+    nodes: &[NodeWords],
     us: u64,
     limit: u64,
     pri: Priority,
@@ -100,8 +102,8 @@ pub fn search_twice(
 
 // Writes the draw state of CPU `us` and nothing else.
 pub fn select_cpu(
-    cpus: &mut [[u64; 96]],
-    nodes: &[[u64; 32]],
+    cpus: &mut [CpuWords],
+    nodes: &[NodeWords],
     us: u64,
     limit: u64,
     preferred: OptionCpu,

@@ -13,14 +13,16 @@ use nodes::node::PARENT;
 use nodes::node::contains;
 use nodes::node::end;
 use nodes::node::first;
+use nodes::words::NodeWords;
 use nodes::words::word;
 use processor::cpu::current_load;
+use processor::words::CpuWords;
 use thread::time::OptionCpu;
 
 // The running thread is counted.
 pub const STEAL_LOAD_THRESH: u64 = 2;
 
-pub fn may_steal_from(cpus: &[[u64; 96]], us: u64, c: u64) -> bool
+pub fn may_steal_from(cpus: &[CpuWords], us: u64, c: u64) -> bool
     ensures { λ r. ⌜ r ≡ may-steal-from us (load-at (now (cpus .entry))) (movable-at (now (cpus .entry))) c ⌝ }
 {
     if c == us {
@@ -33,7 +35,7 @@ pub fn may_steal_from(cpus: &[[u64; 96]], us: u64, c: u64) -> bool
 }
 
 // Is this number a CPU of the node from which a thread may be stolen?
-pub fn is_donor(cpus: &[[u64; 96]], nodes: &[[u64; 32]], us: u64, n: u64, c: u64) -> bool
+pub fn is_donor(cpus: &[CpuWords], nodes: &[NodeWords], us: u64, n: u64, c: u64) -> bool
     ensures { λ r. ⌜ r ≡ (contains-at (now (nodes .entry)) n c && may-steal-from us (load-at (now (cpus .entry))) (movable-at (now (cpus .entry))) c) ⌝ }
 {
     if contains(nodes, n, c) {
@@ -43,8 +45,8 @@ pub fn is_donor(cpus: &[[u64; 96]], nodes: &[[u64; 32]], us: u64, n: u64, c: u64
 }
 
 pub fn steal_range(
-    cpus: &[[u64; 96]],
-    nodes: &[[u64; 32]],
+    cpus: &[CpuWords],
+    nodes: &[NodeWords],
     us: u64,
     n: u64,
     from: u64,
@@ -66,7 +68,7 @@ pub fn steal_range(
     OptionCpu::None
 }
 
-pub fn steal_node(cpus: &[[u64; 96]], nodes: &[[u64; 32]], us: u64, limit: u64, n: u64) -> OptionCpu
+pub fn steal_node(cpus: &[CpuWords], nodes: &[NodeWords], us: u64, limit: u64, n: u64) -> OptionCpu
     ensures { λ r.
         ⌜ r ≡ as-cpu (first-that (may-steal-from us (load-at (now (cpus .entry))) (movable-at (now (cpus .entry)))) (cpus-at (now (nodes .entry)) limit n)) ⌝ }
 {
@@ -86,8 +88,8 @@ pub fn is_some(c: OptionCpu) -> bool
 
 // `node` is the leaf of CPU `us`.
 pub fn choose_cpu_steal_via_topo(
-    cpus: &[[u64; 96]],
-    nodes: &[[u64; 32]],
+    cpus: &[CpuWords],
+    nodes: &[NodeWords],
     us: u64,
     limit: u64,
     node: u64,

@@ -1,4 +1,4 @@
--- On words that are a tree of nodes and show the CPUs of a world, each choice is the choice of the rules. Assumes nothing.
+-- On words that are a tree of nodes and show the CPUs of a world, each choice is the choice of the rules.
 use Prim.Native.Nat.{ℕ, zero, suc, _^_, _<_}
 use mathlib.Core.Path.{_≡_, refl, sym, ap, _∙_}
 use mathlib.Core.Bool.{Bool, true, false, cond, false≢true, or-true}

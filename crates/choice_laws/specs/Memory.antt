@@ -1,4 +1,4 @@
--- On lent memory that shows a world of the rules: what a choice reads of it, and what it leaves. Assumes nothing.
+-- On lent memory that shows a world of the rules: what a choice reads of it, and what it leaves.
 use Prim.Native.Nat.{ℕ, _<_}
 use mathlib.Core.Path.{_≡_, refl, ap, _∙_}
 use mathlib.Core.Bool.{Bool}
@@ -14,6 +14,7 @@ use Rattle.rules.specs.Schedule as sched
 use Rattle.rules.specs.Schedule.{World}
 use Rattle.thread.specs.declared.Thread.{Thread}
 use Rattle.processor.specs.Words.{word, put-word}
+use Rattle.processor.specs.Word.{PLACED}
 use Rattle.memory.specs.Shows.{number-or-none, Small, Shows}
 use Rattle.memory.specs.Frames.{shows-draws}
 use Rattle.memory.specs.Numbers.{word-load, word-movable, load-shown, movable-shown, current-load-shown, current-load-most, priority-shown}
@@ -57,7 +58,7 @@ module _ {limits : Limits} {topology : Topology} {known active : ℕ → Bool} {
 
     -- THE CPU FROM WHICH THE RULES STEAL, from the node on which CPU us was put
     pub steal-memory : (nodes : List (List ℕ)) → Tree limits nodes topology → (tick m : ℕ) → topology .placed us ≡ some m
-        → first-that (may-steal-from us (load-at cs) (movable-at cs)) (nearest-at nodes (limits .cpus) (word cs us 73)) ≡ sched.choose-cpu-steal-via-topo limits topology tick us w
+        → first-that (may-steal-from us (load-at cs) (movable-at cs)) (nearest-at nodes (limits .cpus) (word cs us PLACED)) ≡ sched.choose-cpu-steal-via-topo limits topology tick us w
     unfolding number-or-none
     steal-memory nodes tree tick m e =
         ap (λ (n : ℕ). first-that (may-steal-from us (load-at cs) (movable-at cs)) (nearest-at nodes (limits .cpus) n)) (shows .words us us-in .placed ∙ ap number-or-none e)

@@ -1,4 +1,4 @@
--- What one command does to lent memory: the thread records, the words of the CPUs and of the nodes, and the state. Assumes nothing.
+-- What one command does to lent memory: the thread records, the words of the CPUs and of the nodes, and the state.
 use Prim.Native.Nat.{ℕ}
 use mathlib.Core.Bool.{Bool, cond, not}
 use mathlib.Core.List.{List}
@@ -7,141 +7,90 @@ use lib.ListN.{getD, set}
 use Rattle.thread.specs.declared.Thread.{Thread}
 use Rattle.thread.specs.Thread.{blank}
 use Rattle.thread.specs.Place.{new}
-use Rattle.processor.specs.Words.{put-word}
-use Rattle.nodes.specs.Node.{add-child, set-cpu}
 use Rattle.request.specs.declared.Reading.{Reading}
 use Rattle.request.specs.Request.{reading-of}
 use Rattle.lines.specs.declared.Refusal.{Refusal}
 use Rattle.lines.specs.Lines.{refusal-number}
 use Rattle.questions.specs.declared.state.State.{State}
-use Rattle.questions.specs.Questions.{DECLARED, PLACED, refusal-in}
-use Rattle.sched.specs.World.{Memory, World, Chosen}
+use Rattle.questions.specs.Questions.{refusal-in}
+use Rattle.step.specs.declared.context.Scheduled.{Scheduled}
+use Rattle.lent.specs.Left.{Words, Memory, Left}
 use Rattle.sched.specs.Schedule.{scheduleDef, scheduleThread}
-use Rattle.sched.specs.Balance.{scheduleStattick}
-use Rattle.sched.specs.Ticks.{scheduleHardtick, scheduleResched, scheduleMaybePreempt}
-use Rattle.sched.specs.Donate.{Donated, donatePriority, removeDonated, setCritical}
-use Rattle.command.specs.declared.answer.Answered.{Answered}
-use Rattle.command.specs.declared.call.Call.{Call}
-use Rattle.command.specs.Answer.{refuses, changed, ran}
-use Rattle.command.specs.Call.{askedDef, refusal-back, call-read, priority-in, context-of, flags-in, ticked, sealed-now, one-node-more}
-
--- ---- what a command leaves
-
-pub record Prepared : Type 0 where
-  pub outcome : Answered
-  pub cpus : List (List ℕ)
-  pub nodes : List (List ℕ)
-
-pub record Told : Type 0 where
-  pub outcome : Answered
-  pub threads : List Thread
-
-pub record Marked : Type 0 where
-  pub outcome : Answered
-  pub cpus : List (List ℕ)
-
-pub record Ran : Type 0 where
-  pub outcome : Answered
-  pub threads : List Thread
-  pub cpus : List (List ℕ)
-
-pub record After : Type 0 where
-  pub outcome : Answered
-  pub threads : List Thread
-  pub cpus : List (List ℕ)
-  pub nodes : List (List ℕ)
-
--- ---- 01 to 04
-
-unfoldable pub prepares : List (List ℕ) → List (List ℕ) → State → Call → Prepared
-prepares cs ns s k =
-    cond (eqb (k .kind) 0x01)
-    (record { outcome = changed s (k .used); cpus = put-word cs (k .cpu) DECLARED 1; nodes = ns })
-    (cond (eqb (k .kind) 0x02)
-    (record { outcome = changed (one-node-more s) (k .used); cpus = cs; nodes = add-child ns (s .«node_count») (k .node) (k .number) })
-    (cond (eqb (k .kind) 0x03)
-    (record { outcome = changed s (k .used); cpus = put-word cs (k .cpu) PLACED (k .node); nodes = set-cpu ns (k .node) (k .cpu) })
-    (record { outcome = changed (sealed-now s) (k .used); cpus = cs; nodes = ns })))
+use Rattle.sched_ticks.specs.Balance.{scheduleStattick}
+use Rattle.sched_ticks.specs.Ticks.{scheduleHardtick, scheduleResched}
+use Rattle.sched.specs.Preempt.{scheduleMaybePreempt}
+use Rattle.sched_queues.specs.Donate.{donatePriority, removeDonated, setCritical}
+use Rattle.outcome.specs.declared.answer.Answered.{Answered}
+use Rattle.outcome.specs.declared.call.Call.{Call}
+use Rattle.command.specs.Lent.{Lent, memoryOf, in-memory, in-threads, in-cpus, kept}
+use Rattle.outcome.specs.Answer.{refuses, changed, ran}
+use Rattle.outcome.specs.Prepare.{Prepared, prepares}
+use Rattle.outcome.specs.Call.{askedDef, refusal-back, call-read, priority-in, context-of, flags-in, ticked}
 
 -- ---- 10 and from 12 on
 
 abbrev pub thread-in : Call → Thread
 thread-in k = new (priority-in k) (k .pin)
 
-unfoldable pub declareThread : List Thread → State → Call → Told
-declareThread ts s k = record { outcome = changed s (k .used); threads = set ts (k .thread) (thread-in k) }
+unfoldable pub declareThread : State → Call → List Thread → Left Answered (List Thread)
+declareThread s k ts = record { answer = changed s (k .used); memory = set ts (k .thread) (thread-in k) }
 
 -- "The CPU is the one chosen for 12"
-abbrev pub scheduledThread : Chosen → State → Call → Ran
-scheduledThread x s k = record { outcome = ran (x .cpus) s (x .answer .cpu) (x .answer .wakeups) (k .used); threads = x .threads; cpus = x .cpus }
+abbrev pub scheduledThread : State → Call → Left Scheduled Memory → Left Answered Memory
+scheduledThread s k x = record { answer = ran (x .memory .cpus) s (x .answer .cpu) (x .answer .wakeups) (k .used); memory = x .memory }
 
-unfoldable pub scheduleThreadDef : List Thread → List (List ℕ) → List (List ℕ) → State → Call → Ran
-scheduleThreadDef ts cs ns s k = scheduledThread (scheduleThread ts cs ns (context-of s k) (k .thread)) s k
+unfoldable pub scheduleThreadDef : State → Call → Words → Memory → Left Answered Memory
+scheduleThreadDef s k ns m = scheduledThread s k (scheduleThread (context-of s k) (k .thread) ns m)
 
 -- "else the operand"
-abbrev pub ran-on : World → State → Call → Ran
-ran-on w s k = record { outcome = ran (w .cpus) s (k .cpu) (w .wakeups) (k .used); threads = w .threads; cpus = w .cpus }
+abbrev pub ran-on : State → Call → Left ℕ Memory → Left Answered Memory
+ran-on s k w = record { answer = ran (w .memory .cpus) s (k .cpu) (w .answer) (k .used); memory = w .memory }
 
-unfoldable pub scheduleCommand : List Thread → List (List ℕ) → List (List ℕ) → State → Call → Ran
-scheduleCommand ts cs ns s k = ran-on (scheduleDef ts cs ns (context-of s k) (flags-in k) 0) s k
+unfoldable pub scheduleCommand : State → Call → Words → Memory → Left Answered Memory
+scheduleCommand s k ns m = ran-on s k (scheduleDef (context-of s k) (flags-in k) 0 ns m)
 
-abbrev pub silent : Memory → World
-silent m = record { threads = m .threads; cpus = m .cpus; wakeups = 0 }
+unfoldable pub hardtickCommand : State → Call → Memory → Left Answered Memory
+hardtickCommand s k m = ran-on s k (record { answer = 0; memory = scheduleHardtick (context-of s k) m })
 
-unfoldable pub hardtickDef : List Thread → List (List ℕ) → State → Call → Ran
-hardtickDef ts cs s k = ran-on (silent (scheduleHardtick ts cs (context-of s k))) s k
+unfoldable pub stattickDef : State → Call → Words → Memory → Left Answered Memory
+stattickDef s k ns m = ran-on s k (scheduleStattick (context-of s k) (k .number) 0 ns m)
 
-unfoldable pub stattickDef : List Thread → List (List ℕ) → List (List ℕ) → State → Call → Ran
-stattickDef ts cs ns s k = ran-on (scheduleStattick ts cs ns (context-of s k) (k .number) 0) s k
+unfoldable pub reschedDef : State → Call → List Thread → Words → Left Answered Words
+reschedDef s k ts cs = record { answer = ran (scheduleResched (k .cpu) ts cs) s (k .cpu) 0 (k .used); memory = scheduleResched (k .cpu) ts cs }
 
-unfoldable pub reschedDef : List Thread → List (List ℕ) → State → Call → Marked
-reschedDef ts cs s k = record { outcome = ran (scheduleResched ts cs (k .cpu)) s (k .cpu) 0 (k .used); cpus = scheduleResched ts cs (k .cpu) }
+unfoldable pub maybePreemptDef : State → Call → Words → Memory → Left Answered Memory
+maybePreemptDef s k ns m = ran-on s k (scheduleMaybePreempt (context-of s k) 0 ns m)
 
-unfoldable pub maybePreemptDef : List Thread → List (List ℕ) → List (List ℕ) → State → Call → Ran
-maybePreemptDef ts cs ns s k = ran-on (scheduleMaybePreempt ts cs ns (context-of s k) 0) s k
+abbrev pub donated : State → Call → Words → Left ℕ (List Thread) → Left Answered (List Thread)
+donated s k cs d = record { answer = ran cs s (k .cpu) (d .answer) (k .used); memory = d .memory }
 
-abbrev pub donated : Donated → List (List ℕ) → State → Call → Told
-donated d cs s k = record { outcome = ran cs s (k .cpu) (d .wakeups) (k .used); threads = d .threads }
+unfoldable pub donateDef : State → Call → Words → List Thread → Left Answered (List Thread)
+donateDef s k cs ts = donated s k cs (donatePriority (k .cpu) (k .thread) (priority-in k) 0 cs ts)
 
-unfoldable pub donateDef : List Thread → List (List ℕ) → State → Call → Told
-donateDef ts cs s k = donated (donatePriority ts cs (k .cpu) (k .thread) (priority-in k) 0) cs s k
+unfoldable pub removeDonation : State → Call → List Thread → Left Answered (List Thread)
+removeDonation s k ts = record { answer = changed s (k .used); memory = removeDonated (k .thread) ts }
 
-unfoldable pub removeDonation : List Thread → State → Call → Told
-removeDonation ts s k = record { outcome = changed s (k .used); threads = removeDonated ts (k .thread) }
-
-unfoldable pub criticalDef : List Thread → State → Call → Told
-criticalDef ts s k = record { outcome = changed s (k .used); threads = setCritical ts (k .thread) (k .number) }
+unfoldable pub criticalDef : State → Call → List Thread → Left Answered (List Thread)
+criticalDef s k ts = record { answer = changed s (k .used); memory = setCritical (k .thread) (k .number) ts }
 
 -- ---- the case of a command
 
-abbrev pub by-prepared : List Thread → Prepared → After
-by-prepared ts p = record { outcome = p .outcome; threads = ts; cpus = p .cpus; nodes = p .nodes }
+abbrev pub by-prepared : List Thread → Prepared → Left Answered Lent
+by-prepared ts p = record { answer = p .outcome; memory = record { threads = ts; cpus = p .cpus; nodes = p .nodes } }
 
-abbrev pub by-told : List (List ℕ) → List (List ℕ) → Told → After
-by-told cs ns t = record { outcome = t .outcome; threads = t .threads; cpus = cs; nodes = ns }
-
-abbrev pub by-ran : List (List ℕ) → Ran → After
-by-ran ns r = record { outcome = r .outcome; threads = r .threads; cpus = r .cpus; nodes = ns }
-
-abbrev pub by-marked : List Thread → List (List ℕ) → Marked → After
-by-marked ts ns m = record { outcome = m .outcome; threads = ts; cpus = m .cpus; nodes = ns }
-
-abbrev pub kept : List Thread → List (List ℕ) → List (List ℕ) → Answered → After
-kept ts cs ns o = record { outcome = o; threads = ts; cpus = cs; nodes = ns }
-
-unfoldable pub obeyDef : List Thread → List (List ℕ) → List (List ℕ) → State → Call → After
-obeyDef ts cs ns s k =
-    cond (leb (k .kind) 4) (by-prepared ts (prepares cs ns s k))
-    (cond (eqb (k .kind) 0x10) (by-told cs ns (declareThread ts s k))
-    (cond (eqb (k .kind) 0x11) (kept ts cs ns (changed (ticked s (k .number)) (k .used)))
-    (cond (eqb (k .kind) 0x12) (by-ran ns (scheduleThreadDef ts cs ns s k))
-    (cond (eqb (k .kind) 0x13) (by-ran ns (scheduleCommand ts cs ns s k))
-    (cond (eqb (k .kind) 0x14) (by-ran ns (hardtickDef ts cs s k))
-    (cond (eqb (k .kind) 0x15) (by-ran ns (stattickDef ts cs ns s k))
-    (cond (eqb (k .kind) 0x16) (by-marked ts ns (reschedDef ts cs s k))
-    (cond (eqb (k .kind) 0x17) (by-ran ns (maybePreemptDef ts cs ns s k))
-    (cond (eqb (k .kind) 0x18) (by-told cs ns (donateDef ts cs s k))
-    (cond (eqb (k .kind) 0x19) (by-told cs ns (removeDonation ts s k)) (by-told cs ns (criticalDef ts s k))))))))))))
+unfoldable pub obeyDef : State → Call → Lent → Left Answered Lent
+obeyDef s k w =
+    cond (leb (k .kind) 4) (by-prepared (w .threads) (prepares (w .cpus) (w .nodes) s k))
+    (cond (eqb (k .kind) 0x10) (in-threads w (declareThread s k (w .threads)))
+    (cond (eqb (k .kind) 0x11) (kept w (changed (ticked s (k .number)) (k .used)))
+    (cond (eqb (k .kind) 0x12) (in-memory w (scheduleThreadDef s k (w .nodes) (memoryOf w)))
+    (cond (eqb (k .kind) 0x13) (in-memory w (scheduleCommand s k (w .nodes) (memoryOf w)))
+    (cond (eqb (k .kind) 0x14) (in-memory w (hardtickCommand s k (memoryOf w)))
+    (cond (eqb (k .kind) 0x15) (in-memory w (stattickDef s k (w .nodes) (memoryOf w)))
+    (cond (eqb (k .kind) 0x16) (in-cpus w (reschedDef s k (w .threads) (w .cpus)))
+    (cond (eqb (k .kind) 0x17) (in-memory w (maybePreemptDef s k (w .nodes) (memoryOf w)))
+    (cond (eqb (k .kind) 0x18) (in-threads w (donateDef s k (w .cpus) (w .threads)))
+    (cond (eqb (k .kind) 0x19) (in-threads w (removeDonation s k (w .threads))) (in-threads w (criticalDef s k (w .threads)))))))))))))
 
 -- ---- one call: "A no gives the number, changes nothing"
 
@@ -152,14 +101,12 @@ abbrev pub callDef : Reading → Call
 callDef r = call-read (reading-of r)
 
 -- the refusal, with the record of the thread that is named
-abbrev pub judgedDef : List Thread → List (List ℕ) → List (List ℕ) → State → Reading → Refusal
-judgedDef ts cs ns s r = refusal-back (refusal-in cs ns s (getD ts (callDef r .thread) blank) (reading-of r))
+abbrev pub judgedDef : State → Reading → Lent → Refusal
+judgedDef s r w = refusal-back (refusal-in (w .cpus) (w .nodes) s (getD (w .threads) (callDef r .thread) blank) (reading-of r))
 
-abbrev pub answeredDef : List Thread → List (List ℕ) → List (List ℕ) → State → Reading → After
-answeredDef ts cs ns s r =
-    cond (not (eqb (refusal-number (judgedDef ts cs ns s r)) 0))
-    (kept ts cs ns (refuses s (judgedDef ts cs ns s r) (callDef r .used)))
-    (obeyDef ts cs ns s (callDef r))
+abbrev pub answeredDef : State → Reading → Lent → Left Answered Lent
+answeredDef s r w =
+    cond (not (eqb (refusal-number (judgedDef s r w)) 0)) (kept w (refuses s (judgedDef s r w) (callDef r .used))) (obeyDef s (callDef r) w)
 
-unfoldable pub commandDef : List Thread → List (List ℕ) → List (List ℕ) → List ℕ → ℕ → ℕ → State → After
-commandDef ts cs ns bytes n at s = answeredDef ts cs ns s (readingDef bytes n at s)
+unfoldable pub commandDef : ℕ → ℕ → State → List ℕ → Lent → Left Answered Lent
+commandDef n at s bytes w = answeredDef s (readingDef bytes n at s) w

@@ -1,5 +1,2 @@
-// One command: its bytes read, the questions put, what it does, and the answer.
-pub mod answer;
-pub mod call;
+// One command over lent memory: its bytes read, the questions put, what it does, and the answer.
 pub mod obey;
-pub mod prepare;

@@ -1,33 +1,37 @@
 // The commands after the seal, and the command of any bytes.
 ghost use mathlib.Core.Path.{_≡_};
 ghost use lib.ListN.{length};
-ghost use Rattle.command.specs.Answer.{changed, ran};
-ghost use Rattle.command.specs.Call.{ticked};
-ghost use Rattle.command.specs.Command.{thread-in, declareThread, scheduleThreadDef, scheduleCommand, hardtickDef, stattickDef, reschedDef, maybePreemptDef, donateDef, removeDonation, criticalDef, obeyDef, commandDef};
-use crate::answer::Answered;
-use crate::answer::changed;
-use crate::answer::ran;
-use crate::answer::refuses;
-use crate::call::Call;
-use crate::call::asked;
-use crate::call::call_of;
-use crate::call::context_of;
-use crate::call::flags_in;
-use crate::call::is_refused;
-use crate::call::judged;
-use crate::call::priority_in;
-use crate::call::ticked;
-use crate::prepare::prepare;
+ghost use Rattle.lent.specs.Left.{leaves, leaves-one, leaves-over};
+ghost use Rattle.command.specs.Lent.{leaves-all};
+ghost use Rattle.outcome.specs.Answer.{changed, ran};
+ghost use Rattle.outcome.specs.Call.{ticked};
+ghost use Rattle.command.specs.Command.{thread-in, declareThread, scheduleThreadDef, scheduleCommand, hardtickCommand, stattickDef, reschedDef, maybePreemptDef, donateDef, removeDonation, criticalDef, obeyDef, commandDef};
 use lent::records::get;
 use lent::records::set;
+use nodes::words::NodeWords;
+use outcome::answer::Answered;
+use outcome::answer::changed;
+use outcome::answer::ran;
+use outcome::answer::refuses;
+use outcome::call::Call;
+use outcome::call::asked;
+use outcome::call::call_of;
+use outcome::call::context_of;
+use outcome::call::flags_in;
+use outcome::call::is_refused;
+use outcome::call::judged;
+use outcome::call::priority_in;
+use outcome::call::ticked;
+use outcome::prepare::prepare;
+use processor::words::CpuWords;
 use questions::state::State;
-use sched::balance::schedule_stattick;
-use sched::donate::donate_priority;
-use sched::donate::remove_donated_priority;
+use sched::preempt::schedule_maybe_preempt;
 use sched::schedule::schedule;
-use sched::ticks::schedule_hardtick;
-use sched::ticks::schedule_maybe_preempt;
-use sched::ticks::schedule_resched;
+use sched_queues::donate::donate_priority;
+use sched_queues::donate::remove_donated_priority;
+use sched_ticks::balance::schedule_stattick;
+use sched_ticks::ticks::schedule_hardtick;
+use sched_ticks::ticks::schedule_resched;
 use thread::Thread;
 
 // A command that shows nothing.
@@ -38,7 +42,7 @@ fn done(state: State, call: Call) -> Answered
 }
 
 // A command whose line shows its operand.
-fn ran_on(cpus: &[[u64; 96]], state: State, call: Call, wakeups: u64) -> Answered
+fn ran_on(cpus: &[CpuWords], state: State, call: Call, wakeups: u64) -> Answered
     ensures { λ r. ⌜ r ≡ ran (now (cpus .entry)) state (call .cpu) wakeups (call .used) ⌝ }
 {
     ran(cpus, state, call.cpu, wakeups, call.used)
@@ -60,7 +64,7 @@ fn set_tick(state: State, call: Call) -> Answered
 }
 
 pub fn declare_thread(threads: &mut [Thread], state: State, call: Call) -> Answered
-    ensures { λ r. ⌜ (r ≡ declareThread (now (threads .entry)) state call .outcome) × (now (threads .exit) ≡ declareThread (now (threads .entry)) state call .threads) ⌝ }
+    ensures { λ r. ⌜ leaves-one (declareThread state call) r threads ⌝ }
 {
     let x = call.thread;
     let t = thread_in(call);
@@ -71,16 +75,12 @@ pub fn declare_thread(threads: &mut [Thread], state: State, call: Call) -> Answe
 // The line shows the CPU chosen.
 pub fn schedule_thread(
     threads: &mut [Thread],
-    cpus: &mut [[u64; 96]],
-    nodes: &[[u64; 32]],
+    cpus: &mut [CpuWords],
+    nodes: &[NodeWords],
     state: State,
     call: Call,
 ) -> Answered
-    ensures { λ r.
-        ⌜
-        (r ≡ scheduleThreadDef (now (threads .entry)) (now (cpus .entry)) (now (nodes .entry)) state call .outcome)
-        × ((now (threads .exit) ≡ scheduleThreadDef (now (threads .entry)) (now (cpus .entry)) (now (nodes .entry)) state call .threads) × (now (cpus .exit) ≡ scheduleThreadDef (now (threads .entry)) (now (cpus .entry)) (now (nodes .entry)) state call .cpus))
-        ⌝ }
+    ensures { λ r. ⌜ leaves-over (scheduleThreadDef state call) r threads cpus nodes ⌝ }
 {
     let k = context_of(state, call);
     let x = call.thread;
@@ -93,12 +93,12 @@ pub fn schedule_thread(
 
 pub fn schedule_on(
     threads: &mut [Thread],
-    cpus: &mut [[u64; 96]],
-    nodes: &[[u64; 32]],
+    cpus: &mut [CpuWords],
+    nodes: &[NodeWords],
     state: State,
     call: Call,
 ) -> Answered
-    ensures { λ r. ⌜ (r ≡ scheduleCommand (now (threads .entry)) (now (cpus .entry)) (now (nodes .entry)) state call .outcome) × ((now (threads .exit) ≡ scheduleCommand (now (threads .entry)) (now (cpus .entry)) (now (nodes .entry)) state call .threads) × (now (cpus .exit) ≡ scheduleCommand (now (threads .entry)) (now (cpus .entry)) (now (nodes .entry)) state call .cpus)) ⌝ }
+    ensures { λ r. ⌜ leaves-over (scheduleCommand state call) r threads cpus nodes ⌝ }
 {
     let k = context_of(state, call);
     let flags = flags_in(call);
@@ -106,13 +106,8 @@ pub fn schedule_on(
     ran_on(cpus, state, call, w)
 }
 
-pub fn hardtick(
-    threads: &mut [Thread],
-    cpus: &mut [[u64; 96]],
-    state: State,
-    call: Call,
-) -> Answered
-    ensures { λ r. ⌜ (r ≡ hardtickDef (now (threads .entry)) (now (cpus .entry)) state call .outcome) × ((now (threads .exit) ≡ hardtickDef (now (threads .entry)) (now (cpus .entry)) state call .threads) × (now (cpus .exit) ≡ hardtickDef (now (threads .entry)) (now (cpus .entry)) state call .cpus)) ⌝ }
+pub fn hardtick(threads: &mut [Thread], cpus: &mut [CpuWords], state: State, call: Call) -> Answered
+    ensures { λ r. ⌜ leaves (hardtickCommand state call) r threads cpus ⌝ }
 {
     let k = context_of(state, call);
     schedule_hardtick(threads, cpus, k);
@@ -121,12 +116,12 @@ pub fn hardtick(
 
 pub fn stattick(
     threads: &mut [Thread],
-    cpus: &mut [[u64; 96]],
-    nodes: &[[u64; 32]],
+    cpus: &mut [CpuWords],
+    nodes: &[NodeWords],
     state: State,
     call: Call,
 ) -> Answered
-    ensures { λ r. ⌜ (r ≡ stattickDef (now (threads .entry)) (now (cpus .entry)) (now (nodes .entry)) state call .outcome) × ((now (threads .exit) ≡ stattickDef (now (threads .entry)) (now (cpus .entry)) (now (nodes .entry)) state call .threads) × (now (cpus .exit) ≡ stattickDef (now (threads .entry)) (now (cpus .entry)) (now (nodes .entry)) state call .cpus)) ⌝ }
+    ensures { λ r. ⌜ leaves-over (stattickDef state call) r threads cpus nodes ⌝ }
 {
     let k = context_of(state, call);
     let dt = call.number;
@@ -134,8 +129,8 @@ pub fn stattick(
     ran_on(cpus, state, call, w)
 }
 
-pub fn resched(threads: &[Thread], cpus: &mut [[u64; 96]], state: State, call: Call) -> Answered
-    ensures { λ r. ⌜ (r ≡ reschedDef (now (threads .entry)) (now (cpus .entry)) state call .outcome) × (now (cpus .exit) ≡ reschedDef (now (threads .entry)) (now (cpus .entry)) state call .cpus) ⌝ }
+pub fn resched(threads: &[Thread], cpus: &mut [CpuWords], state: State, call: Call) -> Answered
+    ensures { λ r. ⌜ leaves-one (reschedDef state call (now (threads .entry))) r cpus ⌝ }
 {
     let us = call.cpu;
     schedule_resched(threads, cpus, us);
@@ -144,20 +139,20 @@ pub fn resched(threads: &[Thread], cpus: &mut [[u64; 96]], state: State, call: C
 
 pub fn maybe_preempt(
     threads: &mut [Thread],
-    cpus: &mut [[u64; 96]],
-    nodes: &[[u64; 32]],
+    cpus: &mut [CpuWords],
+    nodes: &[NodeWords],
     state: State,
     call: Call,
 ) -> Answered
-    ensures { λ r. ⌜ (r ≡ maybePreemptDef (now (threads .entry)) (now (cpus .entry)) (now (nodes .entry)) state call .outcome) × ((now (threads .exit) ≡ maybePreemptDef (now (threads .entry)) (now (cpus .entry)) (now (nodes .entry)) state call .threads) × (now (cpus .exit) ≡ maybePreemptDef (now (threads .entry)) (now (cpus .entry)) (now (nodes .entry)) state call .cpus)) ⌝ }
+    ensures { λ r. ⌜ leaves-over (maybePreemptDef state call) r threads cpus nodes ⌝ }
 {
     let k = context_of(state, call);
     let w = schedule_maybe_preempt(threads, cpus, nodes, k, 0);
     ran_on(cpus, state, call, w)
 }
 
-pub fn donate(threads: &mut [Thread], cpus: &[[u64; 96]], state: State, call: Call) -> Answered
-    ensures { λ r. ⌜ (r ≡ donateDef (now (threads .entry)) (now (cpus .entry)) state call .outcome) × (now (threads .exit) ≡ donateDef (now (threads .entry)) (now (cpus .entry)) state call .threads) ⌝ }
+pub fn donate(threads: &mut [Thread], cpus: &[CpuWords], state: State, call: Call) -> Answered
+    ensures { λ r. ⌜ leaves-one (donateDef state call (now (cpus .entry))) r threads ⌝ }
 {
     let us = call.cpu;
     let x = call.thread;
@@ -167,7 +162,7 @@ pub fn donate(threads: &mut [Thread], cpus: &[[u64; 96]], state: State, call: Ca
 }
 
 pub fn remove_donation(threads: &mut [Thread], state: State, call: Call) -> Answered
-    ensures { λ r. ⌜ (r ≡ removeDonation (now (threads .entry)) state call .outcome) × (now (threads .exit) ≡ removeDonation (now (threads .entry)) state call .threads) ⌝ }
+    ensures { λ r. ⌜ leaves-one (removeDonation state call) r threads ⌝ }
 {
     let x = call.thread;
     remove_donated_priority(threads, x);
@@ -175,23 +170,23 @@ pub fn remove_donation(threads: &mut [Thread], state: State, call: Call) -> Answ
 }
 
 pub fn set_critical(threads: &mut [Thread], state: State, call: Call) -> Answered
-    ensures { λ r. ⌜ (r ≡ criticalDef (now (threads .entry)) state call .outcome) × (now (threads .exit) ≡ criticalDef (now (threads .entry)) state call .threads) ⌝ }
+    ensures { λ r. ⌜ leaves-one (criticalDef state call) r threads ⌝ }
 {
     let x = call.thread;
     let mark = call.number;
-    sched::donate::set_critical(threads, x, mark);
+    sched_queues::donate::set_critical(threads, x, mark);
     done(state, call)
 }
 
 // The case of the command.
 pub fn obey(
     threads: &mut [Thread],
-    cpus: &mut [[u64; 96]],
-    nodes: &mut [[u64; 32]],
+    cpus: &mut [CpuWords],
+    nodes: &mut [NodeWords],
     state: State,
     call: Call,
 ) -> Answered
-    ensures { λ r. ⌜ (r ≡ obeyDef (now (threads .entry)) (now (cpus .entry)) (now (nodes .entry)) state call .outcome) × ((now (threads .exit) ≡ obeyDef (now (threads .entry)) (now (cpus .entry)) (now (nodes .entry)) state call .threads) × ((now (cpus .exit) ≡ obeyDef (now (threads .entry)) (now (cpus .entry)) (now (nodes .entry)) state call .cpus) × (now (nodes .exit) ≡ obeyDef (now (threads .entry)) (now (cpus .entry)) (now (nodes .entry)) state call .nodes))) ⌝ }
+    ensures { λ r. ⌜ leaves-all (obeyDef state call) r threads cpus nodes ⌝ }
 {
     let kind = call.kind;
     if kind <= 4 {
@@ -233,14 +228,14 @@ pub fn obey(
 // The command that the bytes from `at` to below n ask for.
 pub fn command_at(
     threads: &mut [Thread],
-    cpus: &mut [[u64; 96]],
-    nodes: &mut [[u64; 32]],
+    cpus: &mut [CpuWords],
+    nodes: &mut [NodeWords],
     bytes: &[u8],
     n: usize,
     at: usize,
     state: State,
 ) -> Answered
-    ensures { λ r. ⌜ (r ≡ commandDef (now (threads .entry)) (now (cpus .entry)) (now (nodes .entry)) (now (bytes .entry)) n at state .outcome) × ((now (threads .exit) ≡ commandDef (now (threads .entry)) (now (cpus .entry)) (now (nodes .entry)) (now (bytes .entry)) n at state .threads) × ((now (cpus .exit) ≡ commandDef (now (threads .entry)) (now (cpus .entry)) (now (nodes .entry)) (now (bytes .entry)) n at state .cpus) × (now (nodes .exit) ≡ commandDef (now (threads .entry)) (now (cpus .entry)) (now (nodes .entry)) (now (bytes .entry)) n at state .nodes))) ⌝ }
+    ensures { λ r. ⌜ leaves-all (commandDef n at state (now (bytes .entry))) r threads cpus nodes ⌝ }
 {
     let wide = state.wide;
     let reading = asked(bytes, n, at, wide);
@@ -258,12 +253,12 @@ pub fn command_at(
 // The command that the bytes ask for. "A no gives the number, changes nothing."
 pub fn command(
     threads: &mut [Thread],
-    cpus: &mut [[u64; 96]],
-    nodes: &mut [[u64; 32]],
+    cpus: &mut [CpuWords],
+    nodes: &mut [NodeWords],
     bytes: &[u8],
     state: State,
 ) -> Answered
-    ensures { λ r. ⌜ (r ≡ commandDef (now (threads .entry)) (now (cpus .entry)) (now (nodes .entry)) (now (bytes .entry)) (length (now (bytes .entry))) 0 state .outcome) × ((now (threads .exit) ≡ commandDef (now (threads .entry)) (now (cpus .entry)) (now (nodes .entry)) (now (bytes .entry)) (length (now (bytes .entry))) 0 state .threads) × ((now (cpus .exit) ≡ commandDef (now (threads .entry)) (now (cpus .entry)) (now (nodes .entry)) (now (bytes .entry)) (length (now (bytes .entry))) 0 state .cpus) × (now (nodes .exit) ≡ commandDef (now (threads .entry)) (now (cpus .entry)) (now (nodes .entry)) (now (bytes .entry)) (length (now (bytes .entry))) 0 state .nodes))) ⌝ }
+    ensures { λ r. ⌜ leaves-all (commandDef (length (now (bytes .entry))) 0 state (now (bytes .entry))) r threads cpus nodes ⌝ }
 {
     let n = bytes.len();
     command_at(threads, cpus, nodes, bytes, n, 0, state)

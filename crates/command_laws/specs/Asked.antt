@@ -1,4 +1,4 @@
--- What questions 3 and 4 answered yes give of a command that a CPU runs: the CPU is one of the CPUs, on a node. Assumes nothing.
+-- What questions 3 and 4 answered yes give of a command that a CPU runs: the CPU is one of the CPUs, on a node.
 use Prim.Native.Nat.{ℕ, _<_}
 use mathlib.Core.Path.{_≡_, refl}
 use mathlib.Core.Bool.{true, false≢true}

@@ -1,4 +1,4 @@
--- ONE CALL, by the rules' reading of its bytes: refused or obeyed. Assumes nothing.
+-- ONE CALL, by the rules' reading of its bytes: refused or obeyed.
 use Prim.Native.Nat.{ℕ, suc, _≤_}
 use mathlib.Core.Path.{_≡_, refl, sym, ap, subst, _∙_}
 use mathlib.Core.Logic.{_≢_}
@@ -24,17 +24,20 @@ use Rattle.lines.specs.declared.Refusal.{Refusal}
 use Rattle.lines.specs.Lines.{refusal-number, shown-option, running-option, answer-of}
 use Rattle.questions.specs.declared.state.State.{State}
 use Rattle.questions.specs.Questions.{refusal-in}
-use Rattle.command.specs.declared.call.Call.{Call}
-use Rattle.command.specs.Answer.{nothing-shown, refuses}
-use Rattle.command.specs.Call.{pin-back, request-back, reading-back, refusal-back, call-of, call-read}
-use Rattle.command.specs.Command.{After, kept, obeyDef, commandDef}
+use Rattle.outcome.specs.declared.call.Call.{Call}
+use Rattle.outcome.specs.Answer.{nothing-shown, refuses}
+use Rattle.outcome.specs.Call.{pin-back, request-back, reading-back, refusal-back, call-of, call-read}
+use Rattle.command.specs.Command.{obeyDef, commandDef}
 use Rattle.question_laws.specs.Stands.{Stands}
 use Rattle.question_laws.specs.Answers.{thread-named, thread-in, refusal-same}
 use Rattle.command_laws.specs.Law.{Reachable, As-ruled}
 use Rattle.command_laws.specs.Numbers.{refusal-most}
 use Rattle.command_laws.specs.Obeyed.{obey-law, obey-obeyed}
-
 -- ---- there and back: the rules' requests and the declared ones, a refusal and its number
+use Rattle.command_laws.specs.Law.{lent}
+use Rattle.command.specs.Lent.{Lent, kept}
+use Rattle.lent.specs.Left.{Left}
+use Rattle.outcome.specs.declared.answer.Answered.{Answered}
 
 pin-there : (p : Option ℕ) → pin-option (pin-back p) ≡ p
 unfolding pin-option pin-back
@@ -108,33 +111,33 @@ call-numbers (asks (set-critical x k) n) = (refl, refl)
 -- ---- a call by the rules' reading of its bytes, and by the number of its refusal
 
 module _ (ts : List Thread) (cs ns : List (List ℕ)) (a : State) where
-  unfoldable pub numbered-call : Call → ℕ → After
+  unfoldable pub numbered-call : Call → ℕ → Left Answered Lent
   numbered-call k n =
-      cond (not (eqb (refusal-number (refusal-back n)) 0)) (kept ts cs ns (refuses a (refusal-back n) (k .used))) (obeyDef ts cs ns a k)
+      cond (not (eqb (refusal-number (refusal-back n)) 0)) (kept (lent ts cs ns) (refuses a (refusal-back n) (k .used))) (obeyDef a k (lent ts cs ns))
 
-  unfoldable pub read-call : Reading → After
+  unfoldable pub read-call : Reading → Left Answered Lent
   read-call r = numbered-call (call-read r) (refusal-in cs ns a (getD ts (call-read r .thread) blank) r)
 
-  pub command-read : (bytes : List ℕ) (n at : ℕ) → commandDef ts cs ns bytes n at a ≡ read-call (read (limits-of (a .wide)) (drop at (take n bytes)))
+  pub command-read : (bytes : List ℕ) (n at : ℕ) → commandDef n at a bytes (lent ts cs ns) ≡ read-call (read (limits-of (a .wide)) (drop at (take n bytes)))
   unfolding commandDef read-call numbered-call
   command-read bytes n at = ap read-call (reading-there (read (limits-of (a .wide)) (drop at (take n bytes))))
 
-  numbered-used : (k : Call) (n : ℕ) → numbered-call k n .outcome .used ≡ k .used
+  numbered-used : (k : Call) (n : ℕ) → numbered-call k n .answer .used ≡ k .used
   unfolding numbered-call refuses
   numbered-used k n = both (eqb (refusal-number (refusal-back n)) 0) (λ t. rw t (obey-obeyed ts cs ns a k .used)) (λ t. rw t)
 
-  pub read-used : (r : Reading) → read-call r .outcome .used ≡ used r
+  pub read-used : (r : Reading) → read-call r .answer .used ≡ used r
   unfolding read-call
   read-used r = numbered-used (call-read r) _ ∙ call-numbers r .0
 
-  numbered-refused : (k : Call) (n : ℕ) → refusal-number (numbered-call k n .outcome .answer .refusal) ≢ 0
-      → (numbered-call k n .threads ≡ ts) × (numbered-call k n .cpus ≡ cs) × (numbered-call k n .nodes ≡ ns) × (numbered-call k n .outcome .state ≡ a)
+  numbered-refused : (k : Call) (n : ℕ) → refusal-number (numbered-call k n .answer .answer .refusal) ≢ 0
+      → (numbered-call k n .memory .threads ≡ ts) × (numbered-call k n .memory .cpus ≡ cs) × (numbered-call k n .memory .nodes ≡ ns) × (numbered-call k n .answer .state ≡ a)
   unfolding numbered-call refuses
   numbered-refused k n h =
       both (eqb (refusal-number (refusal-back n)) 0) (λ t. absurd (h (rw t (obey-obeyed ts cs ns a k .number)))) (λ t. rw t (refl, refl, refl, refl))
 
-  pub read-refused : (r : Reading) → refusal-number (read-call r .outcome .answer .refusal) ≢ 0
-      → (read-call r .threads ≡ ts) × (read-call r .cpus ≡ cs) × (read-call r .nodes ≡ ns) × (read-call r .outcome .state ≡ a)
+  pub read-refused : (r : Reading) → refusal-number (read-call r .answer .answer .refusal) ≢ 0
+      → (read-call r .memory .threads ≡ ts) × (read-call r .memory .cpus ≡ cs) × (read-call r .memory .nodes ≡ ns) × (read-call r .answer .state ≡ a)
   unfolding read-call
   read-refused r h = numbered-refused (call-read r) _ h
 

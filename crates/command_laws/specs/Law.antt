@@ -1,4 +1,4 @@
--- WHAT IS PROVED OF ONE CALL. A reader reads all of this file, after question_laws' Stands. Assumes nothing.
+-- WHAT IS PROVED OF ONE CALL. A reader reads all of this file, after question_laws' Stands.
 use Prim.Native.Nat.{ℕ}
 use mathlib.Core.Path.{_≡_}
 use mathlib.Core.List.{List, _++_}
@@ -7,21 +7,27 @@ use Rattle.rules.specs.State.{Limits, State, start}
 use Rattle.rules.specs.Commands.{no-log, Step, step}
 use Rattle.rules.specs.Reached.{Reached, reached-start, reached-step}
 use Rattle.lines.specs.Lines.{answer-of}
-use Rattle.command.specs.Command.{After}
 use Rattle.sched_laws.specs.Sealed.{Sealed, sealed-start, sealed-step}
 use Rattle.sched_laws.specs.Late.{Late, late-start, late-step}
 use Rattle.question_laws.specs.Stands.{Stands}
-
 -- What the rules keep in every state that calls reach from the start; H: the puts and takes of each CPU's queue so far.
+use Rattle.command.specs.Lent.{Lent}
+use Rattle.lent.specs.Left.{Left}
+use Rattle.outcome.specs.declared.answer.Answered.{Answered}
+use Rattle.thread.specs.declared.Thread.{Thread}
+
 pub record Reachable (H : ℕ → List PutOrTake) (s : State) : Type 0 where
   pub reached : Reached H s
   pub sealed : Sealed s
   pub late : Late s
 
+abbrev pub lent : List Thread → List (List ℕ) → List (List ℕ) → Lent
+lent ts cs ns = record { threads = ts; cpus = cs; nodes = ns }
+
 -- What the call left stands for the state that the rules' step leaves, and the call answers what the rules answer.
-pub record As-ruled (d : After) (t : Step) : Type 0 where
-  pub stands : Stands (d .threads) (d .cpus) (d .nodes) (d .outcome .state) (t .state)
-  pub answer : answer-of (d .outcome .answer) ≡ t .answer
+pub record As-ruled (d : Left Answered Lent) (t : Step) : Type 0 where
+  pub stands : Stands (d .memory .threads) (d .memory .cpus) (d .memory .nodes) (d .answer .state) (t .state)
+  pub answer : answer-of (d .answer .answer) ≡ t .answer
 
 -- ---- for proofs: the start, and each step
 

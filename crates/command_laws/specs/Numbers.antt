@@ -1,4 +1,4 @@
--- The numbers of the questions, and the last question: a command that is obeyed was answered yes to all of them. Assumes nothing.
+-- The numbers of the questions, and the last question: a command that is obeyed was answered yes to all of them.
 use Prim.Native.Nat.{ℕ, suc, _≤_, _<_}
 use mathlib.Core.Path.{_≡_, refl}
 use mathlib.Core.Bool.{Bool, true, _&&_}

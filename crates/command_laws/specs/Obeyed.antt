@@ -1,4 +1,4 @@
--- A COMMAND THAT IS OBEYED, any of the table: memory and answer are those of the rules. Assumes nothing.
+-- A COMMAND THAT IS OBEYED, any of the table: memory and answer are those of the rules.
 use Prim.Native.Nat.{ℕ}
 use mathlib.Core.Path.{_≡_, refl}
 use mathlib.Core.List.{List}
@@ -12,17 +12,22 @@ use Rattle.rules.specs.Commands.{obeys}
 use Rattle.thread.specs.declared.Thread.{Thread}
 use Rattle.lines.specs.Lines.{refusal-number}
 use Rattle.questions.specs.declared.state.State.{State}
-use Rattle.command.specs.declared.call.Call.{Call}
-use Rattle.command.specs.Answer.{nothing-shown, shown, changed, ran}
-use Rattle.command.specs.Call.{call-of}
-use Rattle.command.specs.Command.{After, prepares, declareThread, scheduleThreadDef, scheduleCommand, hardtickDef, stattickDef, reschedDef, maybePreemptDef, donateDef, removeDonation, criticalDef, by-prepared, obeyDef}
+use Rattle.outcome.specs.declared.call.Call.{Call}
+use Rattle.outcome.specs.Answer.{nothing-shown, shown, changed, ran}
+use Rattle.outcome.specs.Call.{call-of}
+use Rattle.outcome.specs.Prepare.{prepares}
+use Rattle.command.specs.Command.{declareThread, scheduleThreadDef, scheduleCommand, hardtickCommand, stattickDef, reschedDef, maybePreemptDef, donateDef, removeDonation, criticalDef, by-prepared, obeyDef}
 use Rattle.question_laws.specs.Stands.{Stands}
 use Rattle.command_laws.specs.Law.{Reachable, As-ruled}
 use Rattle.command_laws.specs.Plain.{plain-declare-cpu, plain-add-node, plain-place-cpu, plain-seal, plain-declare-thread, plain-set-tick, plain-remove-donation, plain-set-critical}
 use Rattle.command_laws.specs.Ran.{ran-schedule-thread, ran-schedule, ran-hardtick, ran-stattick, ran-resched, ran-maybe-preempt, ran-donate}
+use Rattle.command_laws.specs.Law.{lent}
+use Rattle.command.specs.Lent.{Lent}
+use Rattle.lent.specs.Left.{Left}
+use Rattle.outcome.specs.declared.answer.Answered.{Answered}
 
 pub obey-law : {H : ℕ → List PutOrTake} {ts : List Thread} {cs ns : List (List ℕ)} {a : State} {s : rules.State} → Stands ts cs ns a s → Reachable H s
-    → (r : Request) (used : ℕ) → refusal s (asks r used) ≡ 0 → As-ruled (obeyDef ts cs ns a (call-of r used)) (obeys s r)
+    → (r : Request) (used : ℕ) → refusal s (asks r used) ≡ 0 → As-ruled (obeyDef a (call-of r used) (lent ts cs ns)) (obeys s r)
 unfolding obeyDef call-of
 obey-law m h (declare-cpu c) used e = plain-declare-cpu m h c used e
 obey-law m h (add-node p k) used e = plain-add-node m h p k used e
@@ -42,9 +47,9 @@ obey-law m h (set-critical x k) used e = plain-set-critical m h x k used e
 
 -- ---- of any memory: it is answered as obeyed, and takes its bytes
 
-pub record Obeyed (k : Call) (d : After) : Type 0 where
-  pub number : refusal-number (d .outcome .answer .refusal) ≡ 0
-  pub used : d .outcome .used ≡ k .used
+pub record Obeyed (k : Call) (d : Left Answered Lent) : Type 0 where
+  pub number : refusal-number (d .answer .answer .refusal) ≡ 0
+  pub used : d .answer .used ≡ k .used
 
 prepares-obeyed : (ts : List Thread) (cs ns : List (List ℕ)) (a : State) (k : Call) → Obeyed k (by-prepared ts (prepares cs ns a k))
 unfolding prepares changed nothing-shown refusal-number
@@ -54,8 +59,8 @@ prepares-obeyed ts cs ns a k =
     (λ t. rw t (both (eqb (k .kind) 0x03) (λ t. rw t (record { number = refl; used = refl }))
     (λ t. rw t (record { number = refl; used = refl }))))))
 
-pub obey-obeyed : (ts : List Thread) (cs ns : List (List ℕ)) (a : State) (k : Call) → Obeyed k (obeyDef ts cs ns a k)
-unfolding obeyDef declareThread scheduleThreadDef scheduleCommand hardtickDef stattickDef reschedDef maybePreemptDef donateDef removeDonation criticalDef changed ran nothing-shown shown refusal-number
+pub obey-obeyed : (ts : List Thread) (cs ns : List (List ℕ)) (a : State) (k : Call) → Obeyed k (obeyDef a k (lent ts cs ns))
+unfolding obeyDef declareThread scheduleThreadDef scheduleCommand hardtickCommand stattickDef reschedDef maybePreemptDef donateDef removeDonation criticalDef changed ran nothing-shown shown refusal-number
 obey-obeyed ts cs ns a k =
     both (leb (k .kind) 4) (λ t. rw t (prepares-obeyed ts cs ns a k))
     (λ t. rw t (both (eqb (k .kind) 0x10) (λ t. rw t (record { number = refl; used = refl }))

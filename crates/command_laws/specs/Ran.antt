@@ -1,5 +1,4 @@
 -- THE COMMANDS THAT A CPU RUNS (hex 12 to 18): over memory that stands for a state that the rules reach, each leaves and answers what the rules say.
--- Assumes nothing.
 use Prim.Native.Nat.{ℕ, _+_, _%_, _^_, _≤_, _<_}
 use mathlib.Core.Path.{_≡_, refl, sym, ap, subst, _∙_}
 use mathlib.Core.Bool.{Bool, true, false, false≢true}
@@ -28,6 +27,7 @@ use Rattle.rules.specs.Reached.{yes, value-below, blocked-new}
 use Rattle.thread.specs.declared.Thread.{Thread}
 use Rattle.thread.specs.Thread.{NONE}
 use Rattle.processor.specs.Words.{word}
+use Rattle.processor.specs.Word.{LOAD, RUNNING}
 use Rattle.memory.specs.Shows.{number-or-none, Shows, most-tick}
 use Rattle.memory.specs.Frames.{shows-alike}
 use Rattle.memory.specs.Numbers.{word-load, load-shown, running-shown}
@@ -35,15 +35,16 @@ use Rattle.lines.specs.Lines.{refusal-number, shown-option, running-option, ans
 use Rattle.topology.specs.CpuSet.{max-cpu-id}
 use Rattle.nodes.specs.Node.{lesser}
 use Rattle.questions.specs.declared.state.State.{State}
-use Rattle.sched.specs.declared.context.Context.{Context}
-use Rattle.sched.specs.World as lent
+use Rattle.step.specs.declared.context.Context.{Context}
+use Rattle.step.specs.declared.context.Scheduled.{Scheduled}
 use Rattle.sched.specs.Schedule.{scheduleDef, scheduleThread}
-use Rattle.sched.specs.Balance.{scheduleStattick}
-use Rattle.sched.specs.Ticks.{scheduleHardtick, scheduleResched, scheduleMaybePreempt}
-use Rattle.sched.specs.Donate.{Donated, donatePriority}
-use Rattle.command.specs.Answer.{accepted, running-in, shown, ran}
-use Rattle.command.specs.Call.{call-of, priority-in, context-of, flags-in}
-use Rattle.command.specs.Command.{by-ran, by-marked, by-told, scheduledThread, silent, scheduleThreadDef, scheduleCommand, hardtickDef, stattickDef, reschedDef, maybePreemptDef, donateDef}
+use Rattle.sched_ticks.specs.Balance.{scheduleStattick}
+use Rattle.sched_ticks.specs.Ticks.{scheduleHardtick, scheduleResched}
+use Rattle.sched.specs.Preempt.{scheduleMaybePreempt}
+use Rattle.sched_queues.specs.Donate.{donatePriority}
+use Rattle.outcome.specs.Answer.{accepted, running-in, shown, ran}
+use Rattle.outcome.specs.Call.{call-of, priority-in, context-of, flags-in}
+use Rattle.command.specs.Command.{scheduledThread, scheduleThreadDef, scheduleCommand, hardtickCommand, stattickDef, reschedDef, maybePreemptDef, donateDef}
 use Rattle.sched_laws.specs.Ticked.{context}
 use Rattle.sched_laws.specs.Picks.{Settled, no-one, Ends}
 use Rattle.sched_laws.specs.Scheduled as law
@@ -57,8 +58,10 @@ use Rattle.command_laws.specs.Law.{Reachable, As-ruled}
 use Rattle.command_laws.specs.Numbers.{few-accepted}
 use Rattle.command_laws.specs.Asked.{On, on-node}
 use Rattle.command_laws.specs.Plain.{one-more}
-
 -- ---- the line: what a CPU runs
+use Rattle.command_laws.specs.Law.{lent}
+use Rattle.command.specs.Lent.{in-memory, in-threads, in-cpus}
+use Rattle.lent.specs.Left.{Memory, mem, Left}
 
 running-same : (o : Option ℕ) → ((x : ℕ) → o ≡ some x → x < NONE) → running-option (running-in (number-or-none o)) ≡ some (running-of o)
 unfolding running-option running-in number-or-none running-of
@@ -74,7 +77,7 @@ module _ {H : ℕ → List PutOrTake} {ts : List Thread} {cs ns : List (List ℕ
   abbrev Soundly : World → Type 0
   Soundly v = Sound (s .limits) (s .known) H nobody-but v
 
-  abbrev Leave : lent.World → World → Type 0
+  abbrev Leave : Left ℕ Memory → World → Type 0
   Leave d v = Leaves (s .limits) (s .topology) (s .known) d v
 
   abbrev w : World
@@ -137,19 +140,19 @@ module _ {H : ℕ → List PutOrTake} {ts : List Thread} {cs ns : List (List ℕ
       → answer-of (shown cs′ c n) ≡ rule.shown v c
   unfolding answer-of shown rule.shown refusal-number shown-option
   shown-same {cs′ = cs′} v c n near d e k =
-      let p : running-option (running-in (word cs′ c 74)) ≡ some (running-of (v .cpus c .running)) =
+      let p : running-option (running-in (word cs′ c RUNNING)) ≡ some (running-of (v .cpus c .running)) =
       ap (λ (z : ℕ). running-option (running-in z)) (running-shown e (m .small) c near)
       ∙ running-same (v .cpus c .running) (λ x q. omega (arith, r .reached .numbered x (d .runs c x q .1), m .small .threads)) in
-      let l : word cs′ c 62 ≡ load (v .cpus c .queue) = word-load cs′ c ∙ load-shown e (m .small) c near in
+      let l : word cs′ c LOAD ≡ load (v .cpus c .queue) = word-load cs′ c ∙ load-shown e (m .small) c near in
       λ i. record { refused = 0; cpu = some c; running = p i; load = some (l i); wakeups = some (k i) }
 
   -- ---- a command that a CPU ran, and whose line shows CPU c
-  ran-law : (d : lent.World) (v : World) (c used : ℕ) → s .accepted < most-accepted → c < s .limits .cpus → Soundly v → Leave d v
-      → As-ruled (record { outcome = ran (d .cpus) a c (d .wakeups) used; threads = d .threads; cpus = d .cpus; nodes = ns }) (rule.ran s v (rule.shown v c))
+  ran-law : (d : Left ℕ Memory) (v : World) (c used : ℕ) → s .accepted < most-accepted → c < s .limits .cpus → Soundly v → Leave d v
+      → As-ruled (record { answer = ran (d .memory .cpus) a c (d .answer) used; memory = lent (d .memory .threads) (d .memory .cpus) ns }) (rule.ran s v (rule.shown v c))
   unfolding ran
   ran-law d v c used room near ok e = record {
     stands = stands-ran v _ room ok (e .ends);
-    answer = shown-same v c (d .wakeups) near ok (e .ends .shows) (e .counted) ∙ (unfold rule.ran in refl);
+    answer = shown-same v c (d .answer) near ok (e .ends .shows) (e .counted) ∙ (unfold rule.ran in refl);
   }
 
   -- a blocked thread goes into the queue of the CPU selected for it
@@ -158,22 +161,22 @@ module _ {H : ℕ → List PutOrTake} {ts : List Thread} {cs ns : List (List ℕ
     chosen = sched.select-cpu (s .limits) (s .topology) (s .tick) c w x none
 
     on-chosen : (o : Option ℕ) → chosen .got ≡ o → is-some o ≡ true → Under (s .limits .cpus) o
-        → As-ruled (by-ran ns (scheduleThreadDef ts cs ns a (call-of (schedule-thread c x) used))) (scheduled-on s c x (chosen .world) o)
+        → As-ruled (in-memory (lent ts cs ns) (scheduleThreadDef a (call-of (schedule-thread c x) used) ns (mem ts cs))) (scheduled-on s c x (chosen .world) o)
     unfolding is-some Under scheduled-on scheduleThreadDef call-of context-of
     on-chosen none e i u = absurd (false≢true i)
     on-chosen (some d) e i u =
         let new : (b : ℕ) → b < s .limits .cpus → New (s .limits) (s .known) nobody-but w b x = λ b h. blocked-new b x (r .reached) idle known h in
         let v : World = sched.schedule-thread-on-cpu (s .limits) (s .topology) (s .tick) c (chosen .world) d x in
         let same = select-cpu-selected (s .limits) (s .topology) (s .tick) c (s .known) (r .reached .numbered) H (on .near) w x none (safe .mild x) .same in
-        subst (λ (k : Context). As-ruled (by-ran ns (scheduledThread (scheduleThread ts cs ns k x) a (call-of (schedule-thread c x) used))) (rule.ran s v (rule.shown v d))) (told c)
-        (subst (λ (z : lent.Chosen). As-ruled (by-ran ns (scheduledThread z a (call-of (schedule-thread c x) used))) (rule.ran s v (rule.shown v d)))
+        subst (λ (k : Context). As-ruled (in-memory (lent ts cs ns) (scheduledThread a (call-of (schedule-thread c x) used) (scheduleThread k x ns (mem ts cs)))) (rule.ran s v (rule.shown v d))) (told c)
+        (subst (λ (z : Left Scheduled Memory). As-ruled (in-memory (lent ts cs ns) (scheduledThread a (call-of (schedule-thread c x) used) z)) (rule.ran s v (rule.shown v d)))
         (sym (scheduled-thread (s .limits) (s .topology) (s .tick) c (s .known) (r .reached .numbered) (m .small) early (on .near) H ns (m .tree) (on .node) (on .put-on) (m .shows) safe settled 0 no-wakeups few x known new d e))
         (ran-law _ v d used room u (ok-scheduled (s .limits) (s .topology) (s .tick) c (s .known) (r .reached .numbered) H (on .near) w (chosen .world) x d safe same (new d u))
         (wakes (s .limits) (s .topology) (s .tick) c (s .known) (r .reached .numbered) (m .small) early (on .near) H ns (m .tree) (on .node) (on .put-on) (m .shows) safe settled 0 no-wakeups few x known new d e u no-wakeups)))
 
   -- 12
   pub ran-schedule-thread : (c x used : ℕ) → refusal s (asks (schedule-thread c x) used) ≡ 0
-      → As-ruled (by-ran ns (scheduleThreadDef ts cs ns a (call-of (schedule-thread c x) used))) (obeys s (schedule-thread c x))
+      → As-ruled (in-memory (lent ts cs ns) (scheduleThreadDef a (call-of (schedule-thread c x) used) ns (mem ts cs))) (obeys s (schedule-thread c x))
   unfolding refusal concerning thread-declared thread-blocked obeys schedules
   ran-schedule-thread c x used e =
       let there = on-node s c _ (r .sealed) e in
@@ -186,50 +189,50 @@ module _ {H : ℕ → List PutOrTake} {ts : List Thread} {cs ns : List (List ℕ
       (select-cpu-selected (s .limits) (s .topology) (s .tick) c (s .known) (r .reached .numbered) H (on .near) w x none (safe .mild x) .under)
 
   -- 13
-  pub ran-schedule : (c f used : ℕ) → refusal s (asks (schedule c f) used) ≡ 0 → As-ruled (by-ran ns (scheduleCommand ts cs ns a (call-of (schedule c f) used))) (obeys s (schedule c f))
+  pub ran-schedule : (c f used : ℕ) → refusal s (asks (schedule c f) used) ≡ 0 → As-ruled (in-memory (lent ts cs ns) (scheduleCommand a (call-of (schedule c f) used) ns (mem ts cs))) (obeys s (schedule c f))
   unfolding refusal concerning scheduleCommand call-of context-of flags-in obeys rule.ran-on flags-of law.flags-in
   ran-schedule c f used e =
       let on : On s c = on-node s c _ (r .sealed) e .0 in
       let v : World = sched.schedule (s .limits) (s .topology) (s .tick) c w (flags-of f) in
       ran-law _ v c used (few-accepted s (schedule c f) used e) (on .near)
       (ok-schedule (s .limits) (s .topology) (s .tick) c (s .known) (r .reached .numbered) H (on .near) w (flags-of f) safe)
-      (subst (λ (k : Context). Leave (scheduleDef ts cs ns k (flags-in (call-of (schedule c f) used)) 0) v) (told c)
+      (subst (λ (k : Context). Leave (scheduleDef k (flags-in (call-of (schedule c f) used)) 0 ns (mem ts cs)) v) (told c)
       (shows-schedule (s .limits) (s .topology) (s .tick) c (s .known) (r .reached .numbered) (m .small) early (on .near) H ns (m .tree) (on .node) (on .put-on) (m .shows) safe settled 0 no-wakeups few
       (flags-in (call-of (schedule c f) used))))
 
   -- 14
-  pub ran-hardtick : (c used : ℕ) → refusal s (asks (hardtick c) used) ≡ 0 → As-ruled (by-ran ns (hardtickDef ts cs a (call-of (hardtick c) used))) (obeys s (hardtick c))
-  unfolding refusal concerning hardtickDef call-of context-of obeys rule.ran-on
+  pub ran-hardtick : (c used : ℕ) → refusal s (asks (hardtick c) used) ≡ 0 → As-ruled (in-memory (lent ts cs ns) (hardtickCommand a (call-of (hardtick c) used) (mem ts cs))) (obeys s (hardtick c))
+  unfolding refusal concerning hardtickCommand call-of context-of obeys rule.ran-on
   ran-hardtick c used e =
       let on : On s c = on-node s c _ (r .sealed) e .0 in
       let v : World = sched.schedule-hardtick (s .limits) (s .topology) (s .tick) c w in
       let late : w .cpus c .last-tick ≤ s .tick = unfold world-of in r .late .last c in
       ran-law _ v c used (few-accepted s (hardtick c) used e) (on .near)
       (ok-hardtick (s .limits) (s .topology) (s .tick) c (s .known) (r .reached .numbered) H (on .near) w safe)
-      (subst (λ (k : Context). Leave (silent (scheduleHardtick ts cs k)) v) (told c)
+      (subst (λ (k : Context). Leave (record { answer = 0; memory = scheduleHardtick k (mem ts cs) }) v) (told c)
       (record {
         ends = ends-hardtick (s .limits) (s .topology) (s .tick) c (s .known) (r .reached .numbered) (m .small) early (on .near) H ns (m .tree) (on .node) (on .put-on) (m .shows) safe settled 0 no-wakeups few late;
         counted = no-wakeups ∙ sym (hardtick-wakeups (s .limits) (s .topology) (s .tick) c w);
       }))
 
   -- 15
-  pub ran-stattick : (c n used : ℕ) → refusal s (asks (stattick c n) used) ≡ 0 → As-ruled (by-ran ns (stattickDef ts cs ns a (call-of (stattick c n) used))) (obeys s (stattick c n))
+  pub ran-stattick : (c n used : ℕ) → refusal s (asks (stattick c n) used) ≡ 0 → As-ruled (in-memory (lent ts cs ns) (stattickDef a (call-of (stattick c n) used) ns (mem ts cs))) (obeys s (stattick c n))
   unfolding refusal concerning stattickDef call-of context-of obeys rule.ran-on
   ran-stattick c n used e =
       let on : On s c = on-node s c _ (r .sealed) e .0 in
       let v : World = sched.schedule-stattick (s .limits) (s .topology) (s .tick) c w n in
       ran-law _ v c used (few-accepted s (stattick c n) used e) (on .near)
       (ok-stattick (s .limits) (s .topology) (s .tick) c (s .known) (r .reached .numbered) H (on .near) w n safe)
-      (subst (λ (k : Context). Leave (scheduleStattick ts cs ns k n 0) v) (told c)
+      (subst (λ (k : Context). Leave (scheduleStattick k n 0 ns (mem ts cs)) v) (told c)
       (stattick-law (s .limits) (s .topology) (s .tick) c (s .known) (r .reached .numbered) (m .small) early (on .near) H ns (m .tree) (m .shows) safe settled 0 no-wakeups few-still n))
 
   -- 16
-  pub ran-resched : (c used : ℕ) → refusal s (asks (resched c) used) ≡ 0 → As-ruled (by-marked ts ns (reschedDef ts cs a (call-of (resched c) used))) (obeys s (resched c))
+  pub ran-resched : (c used : ℕ) → refusal s (asks (resched c) used) ≡ 0 → As-ruled (in-cpus (lent ts cs ns) (reschedDef a (call-of (resched c) used) ts cs)) (obeys s (resched c))
   unfolding refusal concerning reschedDef call-of obeys rule.ran-on
   ran-resched c used e =
       let on : On s c = on-node s c _ (r .sealed) e .0 in
       let v : World = sched.schedule-resched (s .limits) (s .topology) (s .tick) c w in
-      ran-law (record { threads = ts; cpus = scheduleResched ts cs c; wakeups = 0 }) v c used (few-accepted s (resched c) used e) (on .near)
+      ran-law (record { answer = 0; memory = mem ts (scheduleResched c ts cs) }) v c used (few-accepted s (resched c) used e) (on .near)
       (ok-resched (s .limits) (s .topology) (s .tick) c (s .known) (r .reached .numbered) H (on .near) w safe)
       (record {
         ends = ends-resched (s .limits) (s .topology) (s .tick) c (s .known) (r .reached .numbered) (m .small) early (on .near) H ns (m .tree) (on .node) (on .put-on) (m .shows) safe settled 0 no-wakeups few;
@@ -237,18 +240,18 @@ module _ {H : ℕ → List PutOrTake} {ts : List Thread} {cs ns : List (List ℕ
       })
 
   -- 17
-  pub ran-maybe-preempt : (c used : ℕ) → refusal s (asks (maybe-preempt c) used) ≡ 0 → As-ruled (by-ran ns (maybePreemptDef ts cs ns a (call-of (maybe-preempt c) used))) (obeys s (maybe-preempt c))
+  pub ran-maybe-preempt : (c used : ℕ) → refusal s (asks (maybe-preempt c) used) ≡ 0 → As-ruled (in-memory (lent ts cs ns) (maybePreemptDef a (call-of (maybe-preempt c) used) ns (mem ts cs))) (obeys s (maybe-preempt c))
   unfolding refusal concerning maybePreemptDef call-of context-of obeys rule.ran-on
   ran-maybe-preempt c used e =
       let on : On s c = on-node s c _ (r .sealed) e .0 in
       let v : World = sched.schedule-maybe-preempt (s .limits) (s .topology) (s .tick) c w in
       ran-law _ v c used (few-accepted s (maybe-preempt c) used e) (on .near)
       (ok-maybe-preempt (s .limits) (s .topology) (s .tick) c (s .known) (r .reached .numbered) H (on .near) w safe)
-      (subst (λ (k : Context). Leave (scheduleMaybePreempt ts cs ns k 0) v) (told c)
+      (subst (λ (k : Context). Leave (scheduleMaybePreempt k 0 ns (mem ts cs)) v) (told c)
       (shows-maybe-preempt (s .limits) (s .topology) (s .tick) c (s .known) (r .reached .numbered) (m .small) early (on .near) H ns (m .tree) (on .node) (on .put-on) (m .shows) safe settled 0 no-wakeups few))
 
   -- 18
-  pub ran-donate : (c x k v used : ℕ) → refusal s (asks (donate c x k v) used) ≡ 0 → As-ruled (by-told cs ns (donateDef ts cs a (call-of (donate c x k v) used))) (obeys s (donate c x k v))
+  pub ran-donate : (c x k v used : ℕ) → refusal s (asks (donate c x k v) used) ≡ 0 → As-ruled (in-threads (lent ts cs ns) (donateDef a (call-of (donate c x k v) used) cs ts)) (obeys s (donate c x k v))
   unfolding refusal concerning thread-declared donateDef call-of priority-in obeys rule.ran-on
   ran-donate c x k v used e =
       let there = on-node s c _ (r .sealed) e in
@@ -257,9 +260,9 @@ module _ {H : ℕ → List PutOrTake} {ts : List Thread} {cs ns : List (List ℕ
       let p : Priority = priority (class-at k) v in
       let low : v < nr-values = value-below k v _ (known .1) in
       let u : World = sched.donate-priority (s .limits) (s .topology) (s .tick) c w x p in
-      let d : Donated = donatePriority ts cs c x p 0 in
+      let d : Left ℕ (List Thread) = donatePriority c x p 0 cs ts in
       let below : x < s .limits .threads = r .reached .numbered x (known .0) in
-      ran-law (record { threads = d .threads; cpus = cs; wakeups = d .wakeups }) u c used (few-accepted s (donate c x k v) used e) (on .near)
+      ran-law (record { answer = d .answer; memory = mem (d .memory) cs }) u c used (few-accepted s (donate c x k v) used e) (on .near)
       (ok-donate (s .limits) (s .topology) (s .tick) c (s .known) (r .reached .numbered) H (on .near) w x p low safe)
       (record {
         ends = record {

@@ -2,7 +2,6 @@
 -- file. Document 01:
 -- "A list starts from the records and state that the library's start made; each call gets what the last one returned and left, and nobody else writes them in
 -- between."
--- Assumes nothing.
 use Prim.Native.Nat.{ℕ, _≤_, _<_}
 use mathlib.Core.Path.{_≡_}
 use mathlib.Core.List.{List, [], _∷_}
@@ -20,7 +19,11 @@ use Rattle.represent.specs.Records.{marks}
 use Rattle.tree.specs.Rows.{Sized}
 use Rattle.lines.specs.declared.Answer.{Answer}
 use Rattle.questions.specs.declared.state.State.{State}
-use Rattle.command.specs.Command.{After, commandDef}
+use Rattle.lent.specs.Left.{Left}
+use Rattle.outcome.specs.declared.answer.Answered.{Answered}
+use Rattle.command.specs.Lent.{Lent}
+use Rattle.command_laws.specs.Law.{lent}
+use Rattle.command.specs.Command.{commandDef}
 use Rattle.feed.specs.declared.start.Started.the-variants as started
 use Rattle.feed.specs.Start.{startDef}
 
@@ -45,20 +48,20 @@ pub record Ready (h : Held) : Type 0 where
   pub cpus : List (List ℕ)
   pub nodes : List (List ℕ)
   pub typed : Typed threads cpus nodes
-  pub answered : startDef threads cpus nodes .answer ≡ started.Ready (h .state)
-  pub left-threads : h .threads ≡ startDef threads cpus nodes .threads
-  pub left-cpus : h .cpus ≡ startDef threads cpus nodes .cpus
-  pub left-nodes : h .nodes ≡ startDef threads cpus nodes .nodes
+  pub answered : startDef (lent threads cpus nodes) .answer ≡ started.Ready (h .state)
+  pub left-threads : h .threads ≡ startDef (lent threads cpus nodes) .memory .threads
+  pub left-cpus : h .cpus ≡ startDef (lent threads cpus nodes) .memory .cpus
+  pub left-nodes : h .nodes ≡ startDef (lent threads cpus nodes) .memory .nodes
 
 -- ---- the calls
 
 -- one call of `command` on its bytes
-abbrev pub call : Held → List ℕ → After
-call h bytes = commandDef (h .threads) (h .cpus) (h .nodes) bytes (length bytes) 0 (h .state)
+abbrev pub call : Held → List ℕ → Left Answered Lent
+call h bytes = commandDef (length bytes) 0 (h .state) bytes (lent (h .threads) (h .cpus) (h .nodes))
 
 -- what it returned and left
-abbrev pub left-by : After → Held
-left-by d = record { threads = d .threads; cpus = d .cpus; nodes = d .nodes; state = d .outcome .state }
+abbrev pub left-by : Left Answered Lent → Held
+left-by d = record { threads = d .memory .threads; cpus = d .memory .cpus; nodes = d .memory .nodes; state = d .answer .state }
 
 -- what the calls of a list left, each on its bytes; and what they answered
 unfoldable pub after : Held → List (List ℕ) → Held
@@ -67,7 +70,7 @@ after h (bytes ∷ calls) = after (left-by (call h bytes)) calls
 
 unfoldable pub answers : Held → List (List ℕ) → List Answer
 answers h [] = []
-answers h (bytes ∷ calls) = call h bytes .outcome .answer ∷ answers (left-by (call h bytes)) calls
+answers h (bytes ∷ calls) = call h bytes .answer .answer ∷ answers (left-by (call h bytes)) calls
 
 -- the rules' answers over the same bytes
 unfoldable pub ruled-answers : rules.State → List (List ℕ) → List Ruled

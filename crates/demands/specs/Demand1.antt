@@ -1,6 +1,6 @@
 -- DEMAND 1, of the library's calls.
 -- "A command that cannot be obeyed is refused by the first question of document 01 answered no, and leaves every thread, queue, CPU and lent byte as found. No
--- caller checks anything beforehand". Assumes nothing.
+-- caller checks anything beforehand".
 use Prim.Native.Nat.{ℕ}
 use mathlib.Core.Path.{_≡_, ap, _∙_}
 use mathlib.Core.Logic.{_≢_}
@@ -19,7 +19,7 @@ use Rattle.demands.specs.Demand2.{demand-2-step}
 
 -- The number that a call answers is that of the first question answered no, 0 if there is none; the questions are put to the state that the rules reach.
 pub demand-1-question : (h : Held) → Ready h → (calls : List (List ℕ)) (bytes : List ℕ)
-    → refusal-number (call (after h calls) bytes .outcome .answer .refusal) ≡ refusal (after-calls (start base-limits) calls) (read base-limits bytes)
+    → refusal-number (call (after h calls) bytes .answer .answer .refusal) ≡ refusal (after-calls (start base-limits) calls) (read base-limits bytes)
 unfolding answer-of start
 demand-1-question h ready calls bytes =
     let s = after-calls (start base-limits) calls in
@@ -27,7 +27,7 @@ demand-1-question h ready calls bytes =
     ∙ ap (λ (l : Limits). refusal s (read l bytes)) (limits-kept (start base-limits) calls)
 
 -- A refused call leaves everything as found: of all memory and states, also such as nobody made.
-pub demand-1-as-found : (h : Held) (bytes : List ℕ) → refusal-number (call h bytes .outcome .answer .refusal) ≢ 0 → left-by (call h bytes) ≡ h
+pub demand-1-as-found : (h : Held) (bytes : List ℕ) → refusal-number (call h bytes .answer .answer .refusal) ≢ 0 → left-by (call h bytes) ≡ h
 demand-1-as-found h bytes n =
     let same = command-refuses (h .threads) (h .cpus) (h .nodes) (h .state) bytes (length bytes) 0 n in
     λ i. record { threads = same .0 i; cpus = same .1 i; nodes = same .2 i; state = same .3 i }

@@ -1,5 +1,5 @@
 -- DEMAND 2, its proved half, of what the calls leave in the lent memory.
--- "Proved besides: each step gives what document 01's rules give." Assumes nothing.
+-- "Proved besides: each step gives what document 01's rules give."
 use Prim.Native.Nat.{ℕ}
 use mathlib.Core.Path.{_≡_, refl}
 use mathlib.Core.List.{List, [], _∷_, map}

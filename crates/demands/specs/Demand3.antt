@@ -5,7 +5,7 @@
 -- Document 01: "This document's rules, run over the bytes of the list, give the puts and takes of each CPU's queue in their order"; "After every call the
 -- queues it left hold exactly the threads that then wait by these puts and takes, in the order of being ahead".
 -- The calls and the queue read off the memory are defined in Calls, what is demanded of a queue and its puts and takes (AsDemanded) in the rules' Demand3,
--- waiting, being ahead, a, b and the provisos in the rules' Ahead. Assumes nothing.
+-- waiting, being ahead, a, b and the provisos in the rules' Ahead.
 use Prim.Native.Nat.{ℕ, _<_}
 use mathlib.Core.Path.{sym, subst}
 use mathlib.Core.List.{List}

@@ -1,4 +1,4 @@
--- What every list of calls keeps: the memory stands for the state that the rules reach over the same bytes. Assumes nothing.
+-- What every list of calls keeps: the memory stands for the state that the rules reach over the same bytes.
 use Prim.Native.Nat.{ℕ, _<_}
 use mathlib.Core.Path.{_≡_, sym, ap, subst}
 use mathlib.Core.Bool.{false}
@@ -20,7 +20,7 @@ use Rattle.feed.specs.declared.start.Started.the-variants as started
 use Rattle.feed.specs.Start.{noRoom, initial, startDef}
 use Rattle.question_laws.specs.Stands.{Stands}
 use Rattle.question_laws.specs.Started.{start-stands}
-use Rattle.command_laws.specs.Law.{Reachable, As-ruled, reachable-start, reachable-step}
+use Rattle.command_laws.specs.Law.{lent, Reachable, As-ruled, reachable-start, reachable-step}
 use Rattle.command_laws.specs.Command.{command-law}
 use Rattle.demands.specs.Calls.{Held, Ready, call, left-by, after, queue-in}
 
@@ -29,7 +29,7 @@ Stood h s = Stands (h .threads) (h .cpus) (h .nodes) (h .state) s
 
 -- ---- the start
 
-is-ready : (ts : List Thread) (cs ns : List (List ℕ)) (a : State) → startDef ts cs ns .answer ≡ started.Ready a → (noRoom (length ts) (length cs) (length ns) ≡ false) × (a ≡ initial)
+is-ready : (ts : List Thread) (cs ns : List (List ℕ)) (a : State) → startDef (lent ts cs ns) .answer ≡ started.Ready a → (noRoom (length ts) (length cs) (length ns) ≡ false) × (a ≡ initial)
 unfolding startDef
 is-ready ts cs ns a e =
     both (noRoom (length ts) (length cs) (length ns))

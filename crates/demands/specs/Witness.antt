@@ -1,4 +1,4 @@
--- There is memory on which `start` answers Ready: 1,024 records, 64 CPUs and 128 nodes of zeros. Assumes nothing.
+-- There is memory on which `start` answers Ready: 1,024 records, 64 CPUs and 128 nodes of zeros.
 use Prim.Native.Nat.{ℕ, _<_}
 use mathlib.Core.Path.{_≡_, refl}
 use mathlib.Core.List.{List, []}
@@ -9,6 +9,7 @@ use Rattle.thread.specs.Thread.{blank}
 use Rattle.processor.specs.Words as cpu
 use Rattle.nodes.specs.Words as node
 use Rattle.tree.specs.Rows.{Sized}
+use Rattle.command_laws.specs.Law.{lent}
 use Rattle.feed.specs.Start.{initial, noRoom, startDef}
 use Rattle.demands.specs.Calls.{Held, Ready}
 
@@ -26,9 +27,9 @@ row-long n k c h = rw (getD-replicate n c (zeros k) [] (rw (length-replicate n (
 
 abbrev pub begun : Held
 begun = record {
-  threads = startDef records (rows 64 cpu.width) (rows 128 node.width) .threads;
-  cpus = startDef records (rows 64 cpu.width) (rows 128 node.width) .cpus;
-  nodes = startDef records (rows 64 cpu.width) (rows 128 node.width) .nodes;
+  threads = startDef (lent records (rows 64 cpu.width) (rows 128 node.width)) .memory .threads;
+  cpus = startDef (lent records (rows 64 cpu.width) (rows 128 node.width)) .memory .cpus;
+  nodes = startDef (lent records (rows 64 cpu.width) (rows 128 node.width)) .memory .nodes;
   state = initial;
 }
 

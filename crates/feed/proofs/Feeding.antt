@@ -1,4 +1,4 @@
--- The loop of `run`: what is left to feed gives what feeding all gives. Assumes nothing.
+-- The loop of `run`: what is left to feed gives what feeding all gives.
 use mathlib.Core.Path.{_≡_, refl, sym, ap, _∙_}
 use Prim.Native.Nat.{ℕ, zero, suc, _+_, _-_, _<_, _≤_}
 use native.Mathlib.Nat.{sub-le}
@@ -9,11 +9,10 @@ use lib.Dec.{T as Holds, eqb, ltb}
 use borrow.Author.Tests.{ltb-true, ltb-false, eqb-true, eqb-false, lt-ltb}
 use Rattle.rules.specs.Line.{both}
 use Rattle.lines.specs.Lines.{room, refusal-number}
-use Rattle.command.specs.declared.answer.Answered.{Answered}
+use Rattle.outcome.specs.declared.answer.Answered.{Answered}
 use Rattle.feed.specs.declared.fed.Fed.{Fed}
 use Rattle.feed.specs.Fed.{COMMANDS, more, whole, atLeastOne, endsBy, nextAt, counted, answeredFed}
-use Rattle.feed.specs.Feed.{World, worldOf, nextDef, stepDef, runDef, Fedded}
-use Rattle.feed.specs.Start.{Start}
+use Rattle.feed.specs.Feed.{World, worldOf, nextDef, stepDef, runDef}
 
 holds : (t : Bool) → Holds t → t ≡ true
 holds true h = refl
@@ -49,7 +48,7 @@ module _ (bytes : List ℕ) (n : ℕ) (last : Bool) where
 
   pub inv-near : (w : World) → Holds (more bytes (w .output) n last (w .fed)) → n - stepDef bytes n w .fed .at < n - w .fed .at
   unfolding answeredFed counted
-  inv-near w h = omega (arith, inside w h, further (w .fed .at) (nextDef bytes n w .outcome .used) (endsBy (w .fed .number) (refusal-number (nextDef bytes n w .outcome .answer .refusal))) (inside w h))
+  inv-near w h = omega (arith, inside w h, further (w .fed .at) (nextDef bytes n w .answer .used) (endsBy (w .fed .number) (refusal-number (nextDef bytes n w .answer .answer .refusal))) (inside w h))
 
 abbrev pub Inv : ℕ → List ℕ → ℕ → Bool → World → World → Type 0
 Inv N bytes n last w₀ w = (k : ℕ) × ((runDef k bytes n last w ≡ runDef N bytes n last w₀) × (n - w .fed .at ≤ k))
@@ -79,13 +78,3 @@ inv-next N bytes n last w₀ w i h = inv-go N bytes n last w₀ w (i .0) (i .1 .
 pub inv-end : (N : ℕ) (bytes : List ℕ) (n : ℕ) (last : Bool) (w₀ w : World) → Inv N bytes n last w₀ w
     → Holds (not (more bytes (w .output) n last (w .fed))) → w ≡ runDef N bytes n last w₀
 inv-end N bytes n last w₀ w i h = sym (run-over (i .0) bytes n last w (fails _ h)) ∙ i .1 .0
-
-pub by-world : (x y : World) → x ≡ y → Fedded y (x .fed) (x .threads) (x .cpus) (x .nodes) (x .output)
-by-world x y e = (
-  ap (λ (z : World). z .fed) e,
-  (ap (λ (z : World). z .threads) e, (ap (λ (z : World). z .cpus) e, (ap (λ (z : World). z .nodes) e, ap (λ (z : World). z .output) e))),
-)
-
-pub by-start : (x y : Start) → x ≡ y → (x .answer ≡ y .answer) × ((x .threads ≡ y .threads) × ((x .cpus ≡ y .cpus) × (x .nodes ≡ y .nodes)))
-by-start x y e =
-    (ap (λ (z : Start). z .answer) e, (ap (λ (z : Start). z .threads) e, (ap (λ (z : Start). z .cpus) e, ap (λ (z : Start). z .nodes) e)))

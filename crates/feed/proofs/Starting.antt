@@ -1,4 +1,4 @@
--- The CPUs made new one after the other. Assumes nothing.
+-- The CPUs made new one after the other.
 use mathlib.Core.Path.{_≡_, refl}
 use Prim.Native.Nat.{ℕ, zero, suc, _+_, _≤_}
 use native.Mathlib.Omega.{arith}

@@ -1,4 +1,4 @@
--- How far a run is, and what it writes. Assumes nothing.
+-- How far a run is, and what it writes.
 use Prim.Native.Nat.{ℕ, _+_, _-_, _%_, _^_}
 use mathlib.Core.Bool.{Bool, true, false, cond, not, _||_}
 use mathlib.Core.List.{List}
@@ -10,8 +10,8 @@ use Rattle.lines.specs.declared.Rendered.{Rendered}
 use Rattle.lines.specs.declared.Rendered.the-variants as render
 use Rattle.lines.specs.Lines.{refusal-number, answer-of, room, rendered, buffer-with}
 use Rattle.questions.specs.declared.state.State.{State}
-use Rattle.command.specs.declared.answer.Answered.{Answered}
-use Rattle.command.specs.Call.{askedDef}
+use Rattle.outcome.specs.declared.answer.Answered.{Answered}
+use Rattle.outcome.specs.Call.{askedDef}
 use Rattle.feed.specs.declared.fed.Fed.{Fed}
 
 -- the phases: the header is due, commands are answered, the end line is due, it is written

@@ -1,11 +1,15 @@
--- A block of a stream: one command after the other, at most as many as there are bytes. Assumes nothing.
+-- A block of a stream: one command after the other, at most as many as there are bytes.
 use Prim.Native.Nat.{ℕ, zero, suc}
 use mathlib.Core.Path.{_≡_}
 use mathlib.Core.Bool.{Bool, cond}
 use mathlib.Core.List.{List}
 use Rattle.thread.specs.declared.Thread.{Thread}
 use Rattle.lines.specs.Lines.{buffer-with}
-use Rattle.command.specs.Command.{After, commandDef}
+use denote.Ref.{now}
+use Rattle.lent.specs.Left.{Left, Slice}
+use Rattle.outcome.specs.declared.answer.Answered.{Answered}
+use Rattle.command.specs.Lent.{Lent}
+use Rattle.command.specs.Command.{commandDef}
 use Rattle.feed.specs.declared.fed.Fed.{Fed}
 use Rattle.feed.specs.Fed.{more, lineOf, answeredFed, openedFed, openedOut, closedFed, closedOut}
 
@@ -20,15 +24,15 @@ pub record World : Type 0 where
 abbrev pub worldOf : List Thread → List (List ℕ) → List (List ℕ) → List ℕ → Fed → World
 worldOf ts cs ns out f = record { threads = ts; cpus = cs; nodes = ns; output = out; fed = f }
 
-abbrev pub nextDef : List ℕ → ℕ → World → After
-nextDef bytes n w = commandDef (w .threads) (w .cpus) (w .nodes) bytes n (w .fed .at) (w .fed .state)
+abbrev pub nextDef : List ℕ → ℕ → World → Left Answered Lent
+nextDef bytes n w = commandDef n (w .fed .at) (w .fed .state) bytes (record { threads = w .threads; cpus = w .cpus; nodes = w .nodes })
 
 -- one command, and its line
 abbrev pub stepDef : List ℕ → ℕ → World → World
 stepDef bytes n w =
-    worldOf (nextDef bytes n w .threads) (nextDef bytes n w .cpus) (nextDef bytes n w .nodes)
-    (buffer-with (w .output) (w .fed .done) (lineOf (nextDef bytes n w .outcome) (w .fed)))
-    (answeredFed (w .output) n (nextDef bytes n w .outcome) (w .fed))
+    worldOf (nextDef bytes n w .memory .threads) (nextDef bytes n w .memory .cpus) (nextDef bytes n w .memory .nodes)
+    (buffer-with (w .output) (w .fed .done) (lineOf (nextDef bytes n w .answer) (w .fed)))
+    (answeredFed (w .output) n (nextDef bytes n w .answer) (w .fed))
 
 -- at most k commands of the first n bytes
 unfoldable pub runDef : ℕ → List ℕ → ℕ → Bool → World → World
@@ -45,5 +49,8 @@ closedWorld n last w = worldOf (w .threads) (w .cpus) (w .nodes) (closedOut (w .
 unfoldable pub feedDef : List ℕ → ℕ → Bool → World → World
 feedDef bytes n last w = closedWorld n last (runDef n bytes n last (openedWorld w))
 
-abbrev pub Fedded : World → Fed → List Thread → List (List ℕ) → List (List ℕ) → List ℕ → Type 0
-Fedded w r ts cs ns out = (r ≡ w .fed) × ((ts ≡ w .threads) × ((cs ≡ w .cpus) × ((ns ≡ w .nodes) × (out ≡ w .output))))
+-- a call that is handed `fed` answers r and leaves the slices as f says
+abbrev pub feeds : (World → World) → Fed → Fed → Slice Thread → Slice (List ℕ) → Slice (List ℕ) → Slice ℕ → Type 0
+feeds f fed r threads cpus nodes output =
+    _≡_ {A = World} (worldOf (now (threads .exit)) (now (cpus .exit)) (now (nodes .exit)) (now (output .exit)) r)
+    (f (worldOf (now (threads .entry)) (now (cpus .entry)) (now (nodes .entry)) (now (output .entry)) fed))

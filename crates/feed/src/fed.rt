@@ -3,14 +3,14 @@ ghost use mathlib.Core.Path.{_≡_};
 ghost use Rattle.rules.specs.Lines.{line};
 ghost use Rattle.lines.specs.Lines.{answer-of, buffer-with};
 ghost use Rattle.feed.specs.Fed.{begin, whole, more, written, endsBy, phaseAfter, atLeastOne, nextAt, oneIf, counted, answeredFed, withOutput, atStart, openedFed, openedOut, due, closedFed, closedOut};
-use command::answer::Answered;
-use command::call::asked;
 use lines::Rendered;
 use lines::has_room;
 use lines::refusal_number;
 use lines::render_at;
 use lines::render_end;
 use lines::render_header;
+use outcome::answer::Answered;
+use outcome::call::asked;
 use questions::state::State;
 use request::Reading;
 

@@ -1,26 +1,27 @@
 // A block of a stream, through as many commands as fit.
-ghost use mathlib.Core.Path.{_≡_};
-ghost use Rattle.feed.specs.Feed.{Fedded, worldOf, runDef, feedDef};
+ghost use Rattle.feed.specs.Feed.{feeds, runDef, feedDef};
 use crate::fed::Fed;
 use crate::fed::answered;
 use crate::fed::closed;
 use crate::fed::more;
 use crate::fed::opened;
 use command::obey::command_at;
+use nodes::words::NodeWords;
+use processor::words::CpuWords;
 use thread::Thread;
 
 // The commands of the first n bytes, each answered in output, until one of the two is used up.
 fn run(
     threads: &mut [Thread],
-    cpus: &mut [[u64; 96]],
-    nodes: &mut [[u64; 32]],
+    cpus: &mut [CpuWords],
+    nodes: &mut [NodeWords],
     input: &[u8],
     output: &mut [u8],
     n: usize,
     last: bool,
     fed: Fed,
 ) -> Fed
-    ensures { λ r. ⌜ Fedded (runDef n (now (input .entry)) n last (worldOf (now (threads .entry)) (now (cpus .entry)) (now (nodes .entry)) (now (output .entry)) fed)) r (now (threads .exit)) (now (cpus .exit)) (now (nodes .exit)) (now (output .exit)) ⌝ }
+    ensures { λ r. ⌜ feeds (runDef n (now (input .entry)) n last) fed r threads cpus nodes output ⌝ }
 {
     let mut f = fed;
     while more(input, output, n, last, f) {
@@ -35,15 +36,15 @@ fn run(
 // to the front of the next block.
 pub fn feed(
     threads: &mut [Thread],
-    cpus: &mut [[u64; 96]],
-    nodes: &mut [[u64; 32]],
+    cpus: &mut [CpuWords],
+    nodes: &mut [NodeWords],
     input: &[u8],
     output: &mut [u8],
     n: usize,
     last: bool,
     fed: Fed,
 ) -> Fed
-    ensures { λ r. ⌜ Fedded (feedDef (now (input .entry)) n last (worldOf (now (threads .entry)) (now (cpus .entry)) (now (nodes .entry)) (now (output .entry)) fed)) r (now (threads .exit)) (now (cpus .exit)) (now (nodes .exit)) (now (output .exit)) ⌝ }
+    ensures { λ r. ⌜ feeds (feedDef (now (input .entry)) n last) fed r threads cpus nodes output ⌝ }
 {
     let f = opened(output, fed);
     let g = run(threads, cpus, nodes, input, output, n, last, f);

@@ -1,11 +1,14 @@
 // The library's start: all records undeclared, all CPUs new, the root alone, and the state of the base's limits.
 ghost use mathlib.Core.Path.{_≡_};
 ghost use lib.ListN.{length};
+ghost use Rattle.command.specs.Lent.{leaves-all};
 ghost use Rattle.feed.specs.Start.{newMarks, newNumbers, newCpu, newCpus, noRoom, initial, startDef};
 use lent::records::clear;
 use nodes::node::new_root;
+use nodes::words::NodeWords;
 use processor::rq::store_queue;
 use processor::words::CUR_REBALANCE_TIME;
+use processor::words::CpuWords;
 use processor::words::DECLARED;
 use processor::words::IDLE_TIMESLICE;
 use processor::words::IS_IDLE;
@@ -34,7 +37,7 @@ pub enum Started {
 }
 
 // Its places and marks: undeclared, on no node, its idle thread running.
-fn new_marks(cpus: &mut [[u64; 96]], c: u64)
+fn new_marks(cpus: &mut [CpuWords], c: u64)
     ensures { λ _. ⌜ now (cpus .exit) ≡ newMarks (now (cpus .entry)) c ⌝ }
 {
     put_word(cpus, c, DECLARED, 0);
@@ -44,7 +47,7 @@ fn new_marks(cpus: &mut [[u64; 96]], c: u64)
     put_word(cpus, c, IS_IDLE, 1);
 }
 
-fn new_numbers(cpus: &mut [[u64; 96]], c: u64)
+fn new_numbers(cpus: &mut [CpuWords], c: u64)
     ensures { λ _. ⌜ now (cpus .exit) ≡ newNumbers (now (cpus .entry)) c ⌝ }
 {
     put_word(cpus, c, MUST_REBALANCE, 0);
@@ -54,7 +57,7 @@ fn new_numbers(cpus: &mut [[u64; 96]], c: u64)
     put_word(cpus, c, IDLE_TIMESLICE, 0);
 }
 
-fn new_cpu(cpus: &mut [[u64; 96]], c: u64)
+fn new_cpu(cpus: &mut [CpuWords], c: u64)
     ensures { λ _. ⌜ now (cpus .exit) ≡ newCpu (now (cpus .entry)) c ⌝ }
 {
     store_queue(cpus, c, RunQueue::new());
@@ -63,7 +66,7 @@ fn new_cpu(cpus: &mut [[u64; 96]], c: u64)
 }
 
 // The CPUs below the limit; words past it are kept.
-fn new_cpus(cpus: &mut [[u64; 96]])
+fn new_cpus(cpus: &mut [CpuWords])
     ensures { λ _. ⌜ now (cpus .exit) ≡ newCpus 64 (now (cpus .entry)) ⌝ }
 {
     let mut c: u64 = 0;
@@ -73,7 +76,7 @@ fn new_cpus(cpus: &mut [[u64; 96]])
     }
 }
 
-fn no_room(cpus: &[[u64; 96]], nodes: &[[u64; 32]], threads: usize) -> bool
+fn no_room(cpus: &[CpuWords], nodes: &[NodeWords], threads: usize) -> bool
     ensures { λ r. ⌜ r ≡ noRoom threads (length (now (cpus .entry))) (length (now (nodes .entry))) ⌝ }
 {
     if threads < 1024 {
@@ -107,13 +110,8 @@ fn ready() -> Started
 }
 
 // Ready, or NoRoom where a slice is too short, and then nothing is changed.
-pub fn start(threads: &mut [Thread], cpus: &mut [[u64; 96]], nodes: &mut [[u64; 32]]) -> Started
-    ensures { λ r.
-        ⌜
-        (r ≡ startDef (now (threads .entry)) (now (cpus .entry)) (now (nodes .entry)) .answer)
-        × ((now (threads .exit) ≡ startDef (now (threads .entry)) (now (cpus .entry)) (now (nodes .entry)) .threads)
-        × ((now (cpus .exit) ≡ startDef (now (threads .entry)) (now (cpus .entry)) (now (nodes .entry)) .cpus) × (now (nodes .exit) ≡ startDef (now (threads .entry)) (now (cpus .entry)) (now (nodes .entry)) .nodes)))
-        ⌝ }
+pub fn start(threads: &mut [Thread], cpus: &mut [CpuWords], nodes: &mut [NodeWords]) -> Started
+    ensures { λ r. ⌜ leaves-all startDef r threads cpus nodes ⌝ }
 {
     let n = threads.len();
     if no_room(cpus, nodes, n) {

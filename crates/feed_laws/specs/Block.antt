@@ -1,4 +1,4 @@
--- One call of `feed`: what it writes and what is then left to write are what was left before. Assumes nothing.
+-- One call of `feed`: written by it, and still owed, together: what was owed before.
 use Prim.Native.Nat.{ℕ, zero, suc, _+_, _-_, _*_, _%_, _^_, _≤_, _<_}
 use mathlib.Core.Path.{_≡_, refl, sym, ap, subst, _∙_}
 use mathlib.Core.Bool.{Bool, true, false, cond, true≢false, false≢true}
@@ -18,7 +18,7 @@ use Rattle.rules.specs.Lines.{header}
 use Rattle.request.specs.Request.{limits-of}
 use Rattle.lines.specs.Lines.{room, rendered, buffer-with}
 use Rattle.lines.proofs.Laws.{rendered-whole}
-use Rattle.command.specs.Call.{reading-back}
+use Rattle.outcome.specs.Call.{reading-back}
 use Rattle.feed.specs.declared.fed.Fed.{Fed}
 use Rattle.feed.specs.Fed.{HEADER, COMMANDS, END, ENDED, not-cut, whole, more, written, withOutput, atStart, headed, openedFed, openedOut, due, endLineOf, ends-now, closedFed, closedOut}
 use Rattle.feed.specs.Feed.{World, worldOf, stepDef, runDef, openedWorld, closedWorld, feedDef}

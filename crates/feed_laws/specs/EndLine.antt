@@ -1,4 +1,4 @@
--- The rules' output of every stream ends with an end line. Assumes nothing.
+-- The rules' output of every stream ends with an end line.
 use Prim.Native.Nat.{ℕ, zero, suc, _+_}
 use mathlib.Core.Path.{_≡_, refl, ap, sym, _∙_}
 use mathlib.Core.List.{List, [], _++_, append-assoc}

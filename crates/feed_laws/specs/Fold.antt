@@ -1,4 +1,4 @@
--- Any list of calls: what they write and what is then left to write are the rules' output. Assumes nothing.
+-- Any list of calls: what they write and what is then left to write are the rules' output.
 use Prim.Native.Nat.{ℕ, _+_, _-_, _*_, _^_, _≤_, _<_}
 use mathlib.Core.Path.{_≡_, refl, sym, ap, subst, _∙_}
 use mathlib.Core.Bool.{true, true≢false, false≢true}

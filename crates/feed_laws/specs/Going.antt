@@ -1,4 +1,4 @@
--- What holds of a run between and within calls of `feed`, and what is left to write. Assumes nothing.
+-- What holds of a run between and within calls of `feed`, and what is left to write.
 use Prim.Native.Nat.{ℕ, suc, _+_, _-_, _*_, _%_, _^_, _≤_, _<_}
 use mathlib.Core.Path.{_≡_, refl, ap, _∙_}
 use mathlib.Core.Bool.{true, cond}

@@ -1,4 +1,4 @@
--- No line is longer than 48 bytes, the least buffer that is written to: neither the line of any command nor the end line. Assumes nothing.
+-- No line is longer than 48 bytes, the least buffer that is written to: neither the line of any command nor the end line.
 use Prim.Native.Nat.{ℕ, zero, suc, _+_, _/_, _^_, _≤_, _<_}
 use mathlib.Core.Path.{_≡_, refl, ap}
 use mathlib.Core.Option.{Option, none, some}

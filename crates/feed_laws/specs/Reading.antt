@@ -1,4 +1,4 @@
--- A command that stands whole at the front of some bytes reads the same whatever comes behind them; and how much it takes. Assumes nothing.
+-- A command that stands whole at the front of some bytes reads the same whatever comes behind them; and how much it takes.
 use Prim.Native.Nat.{ℕ, zero, suc, _+_, _-_, _≤_}
 use mathlib.Core.Path.{_≡_, refl, sym, ap, _∙_}
 use mathlib.Core.Bool.{Bool, true, false, cond, true≢false, false≢true}

@@ -1,4 +1,4 @@
--- One command of a block. Assumes nothing.
+-- One command of a block.
 use Prim.Native.Nat.{ℕ, suc, _+_, _-_, _≤_, _<_}
 use mathlib.Core.Path.{_≡_, refl, sym, ap, _∙_}
 use mathlib.Core.Bool.{Bool, true, false, cond, true≢false}
@@ -17,7 +17,9 @@ use Rattle.rules.specs.Requests.{read, past}
 use Rattle.rules.specs.Lines.{line, end-line, lines-from, used, ends, refused-by, last-number}
 use Rattle.request.proofs.Bytes.{past-drop}
 use Rattle.lines.specs.Lines.{refusal-number, answer-of, room}
-use Rattle.command.specs.Command.{After}
+use Rattle.lent.specs.Left.{Left}
+use Rattle.outcome.specs.declared.answer.Answered.{Answered}
+use Rattle.command.specs.Lent.{Lent}
 use Rattle.feed.specs.declared.fed.Fed.{Fed}
 use Rattle.feed.specs.Fed.{COMMANDS, END, ENDED, endsBy, phaseAfter, atLeastOne, nextAt, oneIf, counted, lineOf, answeredFed}
 use Rattle.feed.specs.Feed.{World, nextDef, stepDef}
@@ -155,7 +157,7 @@ module _ (bytes : List ℕ) (n : ℕ) (fits : n ≤ length bytes) (to-come : Lis
   abbrev st : Step
   st = step s (drop (f .at) block)
 
-  abbrev next : After
+  abbrev next : Left Answered Lent
   next = nextDef bytes n w
 
   abbrev v : World
@@ -170,25 +172,25 @@ module _ (bytes : List ℕ) (n : ℕ) (fits : n ≤ length bytes) (to-come : Lis
   ruled : As-ruled next st
   ruled = command-law (g .stands) (g .reachable) bytes n (f .at)
 
-  refused-is : refusal-number (next .outcome .answer .refusal) ≡ st .answer .refused
+  refused-is : refusal-number (next .answer .answer .refusal) ≡ st .answer .refused
   unfolding answer-of
   refused-is = ap (λ (a : Answer). a .refused) (ruled .answer)
 
-  line-is : lineOf (next .outcome) f ≡ line (f .number) (st .answer)
+  line-is : lineOf (next .answer) f ≡ line (f .number) (st .answer)
   line-is = ap (line (f .number)) (ruled .answer)
 
   number-most : f .number ≤ 4294967294
   number-most = g .goes-on (rw p (omega arith))
 
-  line-short : length (lineOf (next .outcome) f) ≤ 48
-  line-short = rw line-is (line-fits s (drop (f .at) block) (f .number) (next .outcome .answer .refusal) (g .reachable .reached) (g .base) (omega (arith, number-most)) (sym refused-is))
+  line-short : length (lineOf (next .answer) f) ≤ 48
+  line-short = rw line-is (line-fits s (drop (f .at) block) (f .number) (next .answer .answer .refusal) (g .reachable .reached) (g .base) (omega (arith, number-most)) (sym refused-is))
 
-  done-is : v .fed .done ≡ f .done + length (lineOf (next .outcome) f)
+  done-is : v .fed .done ≡ f .done + length (lineOf (next .answer) f)
   unfolding answeredFed counted
-  done-is = done-after (w .output) (f .done) (lineOf (next .outcome) f) there line-short (i .small)
+  done-is = done-after (w .output) (f .done) (lineOf (next .answer) f) there line-short (i .small)
 
-  written-is : take (v .fed .done) (v .output) ≡ take (f .done) (w .output) ++ lineOf (next .outcome) f
-  written-is = ap (λ (d : ℕ). take d (v .output)) done-is ∙ taken-after (w .output) (f .done) (lineOf (next .outcome) f) there line-short
+  written-is : take (v .fed .done) (v .output) ≡ take (f .done) (w .output) ++ lineOf (next .answer) f
+  written-is = ap (λ (d : ℕ). take d (v .output)) done-is ∙ taken-after (w .output) (f .done) (lineOf (next .answer) f) there line-short
 
   number-is : v .fed .number ≡ f .number + 1
   unfolding answeredFed counted
@@ -197,11 +199,11 @@ module _ (bytes : List ℕ) (n : ℕ) (fits : n ≤ length bytes) (to-come : Lis
   refused-now : v .fed .refused ≡ f .refused + refused-by (st .answer)
   unfolding answeredFed counted
   refused-now =
-      mod-eq-of-lt (omega (arith, number-most, g .refused-fits, one-most (refusal-number (next .outcome .answer .refusal))))
-      ∙ ap (λ (x : ℕ). f .refused + x) (one-same (refusal-number (next .outcome .answer .refusal)) (st .answer) refused-is)
+      mod-eq-of-lt (omega (arith, number-most, g .refused-fits, one-most (refusal-number (next .answer .answer .refusal))))
+      ∙ ap (λ (x : ℕ). f .refused + x) (one-same (refusal-number (next .answer .answer .refusal)) (st .answer) refused-is)
 
   abbrev ended : Bool
-  ended = endsBy (f .number) (refusal-number (next .outcome .answer .refusal))
+  ended = endsBy (f .number) (refusal-number (next .answer .answer .refusal))
 
   ended-is : ends (f .number) (st .answer .refused) ≡ ended
   ended-is = ap (ends (f .number)) (sym refused-is) ∙ sym (ends-same (f .number) _)
@@ -210,14 +212,14 @@ module _ (bytes : List ℕ) (n : ℕ) (fits : n ≤ length bytes) (to-come : Lis
       ≡ after-line s (drop (f .at) block) to-come (some-there s block to-come (f .at) in-it alike (f .number) (f .refused)) alike (f .number) (f .refused) st
   unfolding answeredFed counted
   left-is =
-      after-same s block to-come (f .at) in-it alike (f .number) (f .refused) ended (next .outcome .used) n (v .fed .number) (v .fed .refused)
+      after-same s block to-come (f .at) in-it alike (f .number) (f .refused) ended (next .answer .used) n (v .fed .number) (v .fed .refused)
       ended-is (command-used (g .stands) (g .reachable) bytes n (f .at)) (sym long) number-is refused-now
 
   pub step-same : take (v .fed .done) (v .output) ++ left (st .state) (v .fed) (drop (v .fed .at) block ++ to-come)
       ≡ take (f .done) (w .output) ++ left s f (drop (f .at) block ++ to-come)
   step-same =
       ap (λ (x : List ℕ). x ++ left (st .state) (v .fed) (drop (v .fed .at) block ++ to-come)) written-is
-      ∙ append-assoc (take (f .done) (w .output)) (lineOf (next .outcome) f) (left (st .state) (v .fed) (drop (v .fed .at) block ++ to-come))
+      ∙ append-assoc (take (f .done) (w .output)) (lineOf (next .answer) f) (left (st .state) (v .fed) (drop (v .fed .at) block ++ to-come))
       ∙ ap (λ (x : List ℕ). take (f .done) (w .output) ++ x)
       (ap (λ (x : List ℕ). x ++ left (st .state) (v .fed) (drop (v .fed .at) block ++ to-come)) line-is
       ∙ ap (λ (x : List ℕ). line (f .number) (st .answer) ++ x) left-is
@@ -233,22 +235,22 @@ module _ (bytes : List ℕ) (n : ℕ) (fits : n ≤ length bytes) (to-come : Lis
     base = limits-step s (drop (f .at) block) ∙ g .base;
     number-fits = rw number-is (omega (arith, number-most));
     goes-on = λ q. rw number-is (not-last (f .number) _ (phase-before ended q) number-most);
-    refused-fits = omega (arith, number-most, g .refused-fits, one-most (refusal-number (next .outcome .answer .refusal)));
+    refused-fits = omega (arith, number-most, g .refused-fits, one-most (refusal-number (next .answer .answer .refusal)));
     phase-fits = phase-some ended .1;
   }
 
   pub step-within : Within n (v .output) (v .fed)
   unfolding answeredFed counted
   step-within = record {
-    taken = next-further n (f .at) (next .outcome .used) ended h .1;
-    done-fits = rw (done-is, length-after (w .output) (f .done) (lineOf (next .outcome) f) there) (line-in (w .output) (f .done) (lineOf (next .outcome) f) there line-short);
-    small = rw (length-after (w .output) (f .done) (lineOf (next .outcome) f) there) (i .small);
-    short = rw done-is (omega (arith, line-short, i .short, next-further n (f .at) (next .outcome .used) ended h .0));
+    taken = next-further n (f .at) (next .answer .used) ended h .1;
+    done-fits = rw (done-is, length-after (w .output) (f .done) (lineOf (next .answer) f) there) (line-in (w .output) (f .done) (lineOf (next .answer) f) there line-short);
+    small = rw (length-after (w .output) (f .done) (lineOf (next .answer) f) there) (i .small);
+    short = rw done-is (omega (arith, line-short, i .short, next-further n (f .at) (next .answer .used) ended h .0));
   }
 
   pub step-further : f .at < v .fed .at
   unfolding answeredFed counted
-  step-further = next-further n (f .at) (next .outcome .used) ended h .0
+  step-further = next-further n (f .at) (next .answer .used) ended h .0
 
   pub step-phase : 1 ≤ v .fed .phase
   unfolding answeredFed counted

@@ -1,5 +1,5 @@
 -- There are such calls: any stream cut into blocks of at most 4,096 bytes, each fed with one buffer of 262,144 bytes, and then a call with no new byte that says
--- `last`. Assumes nothing.
+-- `last`.
 use Prim.Native.Nat.{ℕ, _≤_}
 use mathlib.Core.Path.{_≡_, refl, sym, ap, _∙_}
 use mathlib.Core.Bool.{Bool, true, false, false≢true}

@@ -72,6 +72,10 @@ pub no : {X : Type 0} (y : Bool) → Holds (not y) → (m : X) {n n′ : X} → 
 no true h m e = absurd h
 no false h m e = e
 
+-- an exit: both sides of the equation that is said, and what proves it
+pub so : {X : Type 0} (x y : X) → x ≡ y → x ≡ y
+so x y e = e
+
 -- ---- a contract that says nothing
 pub says-none : {M : Type 1} {𝓤 : URA M} {H : Heap 𝓤} {A : Atoms 𝓤} {K : Type 0} {W : Given 𝓤 H A} {Γ : List (Item 𝓤)} → K → {P : SProp 𝓤} → Step K W Γ (prop P) Γ (prop (sep 𝓤 P (emp 𝓤)))
 says-none {𝓤 = 𝓤} t {P} = step (λ s. record { prf = via 𝓤 P (s .prf) (via 𝓤 (sep 𝓤 (emp 𝓤) P) (emp∗ 𝓤 P) (comm∗ 𝓤 (emp 𝓤) P)) })
@@ -250,6 +254,15 @@ module _ {M : Type 1} {𝓤 : URA M} {H : Heap 𝓤} {A : Atoms 𝓤} {K : Type 
       → ((r : Res .type .Denot) (ws : Lasts Ds Ss) → Is (Res .type) r (Res .val r ∷ []) → Lens Ds Ss ws → ψ r ws → Seq K W (afters 𝓤 Ds Ss ws ∷ Γ) (lands C Λ E d (Res .val r) rest q))
       → Seq K W (befores 𝓤 Ss ∷ Γ) (runs C Λ E (seq (call f xs d) rest) q)
   call-slices Res Ds a φ Ss t fm ψ are ok met os k = call-any Res Ds a φ Ss t fm (λ r ws. fact 𝓤 (ψ r ws)) are ok met os (λ r ws is ls. move t (1 ∷ []) $ heard t (ψ r ws) (λ e. k r ws is ls e))
+
+  -- a callee that ensures one equation for all that it leaves: ψ is what is used of it
+  pub call-left : (Res : Datum) (Ds : List Datum) (a : Dens Ds) (φ : SProp 𝓤) (Ss : List Sl) → K → FmC 𝓤 H (W .laws) C → (ψ χ : Res .type .Denot → Lasts Ds Ss → Type 0)
+      → ((r : Res .type .Denot) (ws : Lasts Ds Ss) → χ r ws → ψ r ws) → AreD Ds a → ent 𝓤 (emp 𝓤) φ
+      → ((νs : News Ss) → ent 𝓤 (mean 𝓤 H A (asked 𝓤 Ds Res Ss νs a φ)) (C f (is-ats Ss (listed Ds a)) (λ w. mean 𝓤 H A (given 𝓤 Ds Res Ss νs (λ r ws. fact 𝓤 (χ r ws)) w))))
+      → ((k : Item 𝓤) → Opds K W (k ∷ Γ) E xs (hass Ss (listed Ds a)))
+      → ((r : Res .type .Denot) (ws : Lasts Ds Ss) → Is (Res .type) r (Res .val r ∷ []) → Lens Ds Ss ws → ψ r ws → Seq K W (afters 𝓤 Ds Ss ws ∷ Γ) (lands C Λ E d (Res .val r) rest q))
+      → Seq K W (befores 𝓤 Ss ∷ Γ) (runs C Λ E (seq (call f xs d) rest) q)
+  call-left Res Ds a φ Ss t fm ψ χ by are ok met os k = call-slices Res Ds a φ Ss t fm χ are ok met os (λ r ws is ls e. k r ws is ls (by r ws e))
 
   -- a callee that ensures nothing
   pub call-slices-none : (Res : Datum) (Ds : List Datum) (a : Dens Ds) (φ : SProp 𝓤) (Ss : List Sl) → K → FmC 𝓤 H (W .laws) C → AreD Ds a → ent 𝓤 (emp 𝓤) φ

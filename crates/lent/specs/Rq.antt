@@ -1,5 +1,5 @@
 -- Put, take (own and stealing), clock and hard tick of the run queues in lent memory: one interface over the thread records ts and the words cs of the
--- CPUs. Each is total: past the end of the slice a record is blank and a write does nothing, and so with the words of a CPU. Assumes nothing.
+-- CPUs. Each is total: past the end of the slice a record is blank and a write does nothing, and so with the words of a CPU.
 use Prim.Native.Nat.{ℕ}
 use mathlib.Core.Bool.{Bool, true, false, cond}
 use mathlib.Core.List.{List}
@@ -20,6 +20,7 @@ use Rattle.runqueue.specs.declared.rq.Front.{Front}
 use Rattle.runqueue.specs.declared.rq.Front.the-variants as front
 use Rattle.runqueue.specs.RunQueue.{rqInsert, rqFront, rqTaken, rqClock, rqHardtick}
 use Rattle.processor.specs.Queue.{queueAt, queueStored}
+use Rattle.lent.specs.Left.{Words, Memory, Left}
 use Rattle.lent.specs.declared.rq.Taken.{Taken}
 use Rattle.lent.specs.declared.rq.Taken.the-variants as taken
 
@@ -43,22 +44,18 @@ steadyIn part.Idle t = t
 unfoldable pub putIn : Thread → Part → Thread
 putIn t p = steadyIn p (with-next (with-place t WAITING) NONE)
 
--- the link of thread b, whom x came behind, leads to x
+-- thread b's link now points to x; b is NONE where x is the first of its list
 unfoldable pub linkBehind : List Thread → ℕ → ℕ → List Thread
 linkBehind ts b x = cond (eqb b NONE) ts (set ts b (with-next (recordAt ts b) x))
 
 -- the put that thread x makes into the queue of CPU c
-abbrev pub putOf : List Thread → List (List ℕ) → ℕ → ℕ → ℕ → Bool → Put
-putOf ts cs c x tick current = rqInsert (queueAt cs c) (arrivalOf (recordAt ts x) x tick current)
+abbrev pub putOf : ℕ → ℕ → ℕ → Bool → Memory → Put
+putOf c x tick current m = rqInsert (queueAt (m .cpus) c) (arrivalOf (recordAt (m .threads) x) x tick current)
 
-pub record Inserted : Type 0 where
-  pub threads : List Thread
-  pub cpus : List (List ℕ)
-
-unfoldable pub insertDef : List Thread → List (List ℕ) → ℕ → ℕ → ℕ → Bool → Inserted
-insertDef ts cs c x tick current = record {
-  threads = linkBehind (set ts x (putIn (recordAt ts x) (putOf ts cs c x tick current .part))) (putOf ts cs c x tick current .behind) x;
-  cpus = queueStored cs c (putOf ts cs c x tick current .queue);
+unfoldable pub insertDef : ℕ → ℕ → ℕ → Bool → Memory → Memory
+insertDef c x tick current m = record {
+  threads = linkBehind (set (m .threads) x (putIn (recordAt (m .threads) x) (putOf c x tick current m .part))) (putOf c x tick current m .behind) x;
+  cpus = queueStored (m .cpus) c (putOf c x tick current m .queue);
 }
 
 -- ---- a take
@@ -71,31 +68,24 @@ isNothing front.Nothing = true
 unfoldable pub leftBy : RunQueue → Front → Thread → RunQueue
 leftBy q f t = rqTaken q f NONE (t .next) (from-raw (t .«stable_priority») .value) (pinned (reads t))
 
-pub record Took : Type 0 where
-  pub answer : Taken
-  pub threads : List Thread
-  pub cpus : List (List ℕ)
-
 -- the thread that the queue found is handed out, to run; where it found none, nothing changes
-unfoldable pub tookFrom : List Thread → List (List ℕ) → ℕ → Front → Took
-tookFrom ts cs c front.Nothing = record { answer = taken.Nobody; threads = ts; cpus = cs }
-tookFrom ts cs c (front.At p b x) = record {
+unfoldable pub tookFrom : ℕ → Front → Memory → Left Taken Memory
+tookFrom c front.Nothing m = record { answer = taken.Nobody; memory = m }
+tookFrom c (front.At p b x) m = record {
   answer = taken.Thread x;
-  threads = set ts x (with-place (recordAt ts x) RUNNING);
-  cpus = queueStored cs c (leftBy (queueAt cs c) (front.At p b x) (recordAt ts x));
+  memory = record {
+    threads = set (m .threads) x (with-place (recordAt (m .threads) x) RUNNING);
+    cpus = queueStored (m .cpus) c (leftBy (queueAt (m .cpus) c) (front.At p b x) (recordAt (m .threads) x));
+  };
 }
 
-unfoldable pub takeDef : List Thread → List (List ℕ) → ℕ → Bool → Took
-takeDef ts cs c stealing = tookFrom ts cs c (rqFront (queueAt cs c) stealing)
+unfoldable pub takeDef : ℕ → Bool → Memory → Left Taken Memory
+takeDef c stealing m = tookFrom c (rqFront (queueAt (m .cpus) c) stealing) m
 
 -- ---- clock and hard tick
 
-unfoldable pub clockDef : List (List ℕ) → ℕ → List (List ℕ)
-clockDef cs c = queueStored cs c (rqClock (queueAt cs c))
+unfoldable pub clockDef : ℕ → Words → Words
+clockDef c cs = queueStored cs c (rqClock (queueAt cs c))
 
-pub record Ticked : Type 0 where
-  pub ticks : ℕ
-  pub cpus : List (List ℕ)
-
-unfoldable pub hardtickDef : List (List ℕ) → ℕ → ℕ → Ticked
-hardtickDef cs c tick = record { ticks = rqHardtick (queueAt cs c) tick .ticks; cpus = queueStored cs c (rqHardtick (queueAt cs c) tick .queue) }
+unfoldable pub hardtickDef : ℕ → ℕ → Words → Left ℕ Words
+hardtickDef c tick cs = record { answer = rqHardtick (queueAt cs c) tick .ticks; memory = queueStored cs c (rqHardtick (queueAt cs c) tick .queue) }

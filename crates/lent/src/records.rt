@@ -14,14 +14,14 @@ fn index(i: u64) -> usize
 
 fn read(threads: &[Thread], i: usize) -> Thread
     requires { ⌜ i < length (now threads) ⌝ }
-    ensures { λ r. ⌜ r ≡ getD (now (threads .entry)) i blank ⌝ }
+    ensures { λ t. ⌜ t ≡ getD (now (threads .entry)) i blank ⌝ }
 {
     threads[i]
 }
 
 fn write(threads: &mut [Thread], i: usize, t: Thread)
     requires { ⌜ i < length (now threads) ⌝ }
-    ensures { λ _. ⌜ now (threads .exit) ≡ set (now (threads .entry)) i t ⌝ }
+    ensures { λ r. ⌜ now (threads .exit) ≡ set (now (threads .entry)) i t ⌝ }
 {
     threads[i] = t;
 }

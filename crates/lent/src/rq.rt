@@ -6,12 +6,14 @@ ghost use Rattle.rules.specs.Times.{pinned};
 ghost use Rattle.thread.specs.Priority.{stable-effective-priority};
 ghost use Rattle.thread.specs.Reads.{reads};
 ghost use Rattle.thread.specs.Thread.{NONE};
+ghost use Rattle.lent.specs.Left.{leaves, leaves-one, becomes, becomes-one};
 ghost use Rattle.lent.specs.Rq.{arrivalOf, putIn, linkBehind, insertDef, isNothing, leftBy, takeDef, clockDef, hardtickDef};
 ghost use Rattle.lent.specs.declared.rq.Taken.the-variants as taken;
 use crate::records::get;
 use crate::records::set;
 use processor::rq::load_queue;
 use processor::rq::store_queue;
+use processor::words::CpuWords;
 use rules::Part;
 use runqueue::rq::Arrival;
 use runqueue::rq::Front;
@@ -76,7 +78,7 @@ fn is_none(x: u64) -> bool
     x == NONE
 }
 
-// The link of thread b, whom x came behind, is set to x.
+// Thread b's link now points to x; b is NONE where x is the first of its list.
 fn link_behind(threads: &mut [Thread], b: u64, x: u64)
     ensures { λ _. ⌜ now (threads .exit) ≡ linkBehind (now (threads .entry)) b x ⌝ }
 {
@@ -91,13 +93,13 @@ fn link_behind(threads: &mut [Thread], b: u64, x: u64)
 // Thread x goes into the queue of CPU c. current: it comes in as the current thread.
 pub fn insert(
     threads: &mut [Thread],
-    cpus: &mut [[u64; 96]],
+    cpus: &mut [CpuWords],
     c: u64,
     x: u64,
     tick: u64,
     current: bool,
 )
-    ensures { λ _. ⌜ (now (threads .exit) ≡ insertDef (now (threads .entry)) (now (cpus .entry)) c x tick current .threads) × (now (cpus .exit) ≡ insertDef (now (threads .entry)) (now (cpus .entry)) c x tick current .cpus) ⌝ }
+    ensures { λ _. ⌜ becomes (insertDef c x tick current) threads cpus ⌝ }
 {
     let t = get(threads, x);
     let a = arrival(t, x, tick, current);
@@ -144,8 +146,8 @@ fn handed_out(x: u64) -> Taken
 }
 
 // A thread is asked of the queue of CPU c: by the CPU itself, or by another that steals.
-pub fn take(threads: &mut [Thread], cpus: &mut [[u64; 96]], c: u64, stealing: bool) -> Taken
-    ensures { λ r. ⌜ (r ≡ takeDef (now (threads .entry)) (now (cpus .entry)) c stealing .answer) × ((now (threads .exit) ≡ takeDef (now (threads .entry)) (now (cpus .entry)) c stealing .threads) × (now (cpus .exit) ≡ takeDef (now (threads .entry)) (now (cpus .entry)) c stealing .cpus)) ⌝ }
+pub fn take(threads: &mut [Thread], cpus: &mut [CpuWords], c: u64, stealing: bool) -> Taken
+    ensures { λ r. ⌜ leaves (takeDef c stealing) r threads cpus ⌝ }
 {
     let q = load_queue(cpus, c);
     let front = q.front(stealing);
@@ -162,8 +164,8 @@ pub fn take(threads: &mut [Thread], cpus: &mut [[u64; 96]], c: u64, stealing: bo
 }
 
 // The insert index of CPU c's queue moves on.
-pub fn clock(cpus: &mut [[u64; 96]], c: u64)
-    ensures { λ _. ⌜ now (cpus .exit) ≡ clockDef (now (cpus .entry)) c ⌝ }
+pub fn clock(cpus: &mut [CpuWords], c: u64)
+    ensures { λ _. ⌜ becomes-one (clockDef c) cpus ⌝ }
 {
     let q = load_queue(cpus, c);
     let r = q.clock();
@@ -171,8 +173,8 @@ pub fn clock(cpus: &mut [[u64; 96]], c: u64)
 }
 
 // CPU c has its hard tick: how many ticks passed since the last.
-pub fn hardtick(cpus: &mut [[u64; 96]], c: u64, tick: u64) -> u64
-    ensures { λ r. ⌜ (r ≡ hardtickDef (now (cpus .entry)) c tick .ticks) × (now (cpus .exit) ≡ hardtickDef (now (cpus .entry)) c tick .cpus) ⌝ }
+pub fn hardtick(cpus: &mut [CpuWords], c: u64, tick: u64) -> u64
+    ensures { λ r. ⌜ leaves-one (hardtickDef c tick) r cpus ⌝ }
 {
     let q = load_queue(cpus, c);
     let h = q.hardtick(tick);

@@ -1,6 +1,7 @@
 // An answer in its bytes: the number answered, and the state of the operation's queue just after it.
 use crate::operation::Operation;
 use processor::rq::load_queue;
+use processor::words::CpuWords;
 use queue::lists::Lists;
 use runqueue::rq::RunQueue;
 use thread::NONE;
@@ -111,7 +112,7 @@ fn flag(b: bool) -> u64 {
     0
 }
 
-pub fn write_answer(out: &mut [u8], cpus: &[[u64; 96]], op: Operation, number: u64) {
+pub fn write_answer(out: &mut [u8], cpus: &[CpuWords], op: Operation, number: u64) {
     let q = load_queue(cpus, op.queue);
     let timeshare = q.timeshare;
     let counts = timeshare.priorities;

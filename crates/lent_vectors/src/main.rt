@@ -17,6 +17,7 @@ use operation::operation_in;
 use operation::prepared;
 use operation::tick_after;
 use processor::rq::store_queue;
+use processor::words::CpuWords;
 use runqueue::rq::RunQueue;
 use thread::NONE;
 use thread::Thread;
@@ -30,7 +31,7 @@ fn taken_number(t: Taken) -> u64 {
 }
 
 // What an operation answers.
-fn act(threads: &mut [Thread], cpus: &mut [[u64; 96]], op: Operation, tick: u64) -> u64 {
+fn act(threads: &mut [Thread], cpus: &mut [CpuWords], op: Operation, tick: u64) -> u64 {
     if op.kind == 1 {
         let t = get(threads, op.thread);
         let u = prepared(t, op);
@@ -65,7 +66,7 @@ fn show(line: &[u8]) -> bool {
 }
 
 // As many operations as there are, a million at most.
-fn drive(threads: &mut [Thread], cpus: &mut [[u64; 96]], line: &mut [u8], out: &mut [u8]) {
+fn drive(threads: &mut [Thread], cpus: &mut [CpuWords], line: &mut [u8], out: &mut [u8]) {
     let mut tick: u64 = 0;
     let mut left: u64 = 1000000;
     while 0 < left {
@@ -84,7 +85,7 @@ fn drive(threads: &mut [Thread], cpus: &mut [[u64; 96]], line: &mut [u8], out: &
 }
 
 // Newly made queues.
-fn start(cpus: &mut [[u64; 96]]) {
+fn start(cpus: &mut [CpuWords]) {
     let q = RunQueue::new();
     store_queue(cpus, 0, q);
     store_queue(cpus, 1, q);
@@ -92,7 +93,7 @@ fn start(cpus: &mut [[u64; 96]]) {
     store_queue(cpus, 3, q);
 }
 
-fn zeros() -> [u64; 96] {
+fn zeros() -> CpuWords {
     [0u64; 96]
 }
 

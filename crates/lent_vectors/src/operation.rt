@@ -1,5 +1,6 @@
 // An operation in its bytes. Numbers are little-endian.
 use processor::rq::load_queue;
+use processor::words::CpuWords;
 use queue::num::product;
 use rules::Priority;
 use thread::NO_DONATION;
@@ -88,7 +89,7 @@ pub fn tick_after(tick: u64, op: Operation) -> u64 {
 }
 
 // The timeslice or the deadline distance of a class in the operation's queue.
-pub fn asked(cpus: &[[u64; 96]], op: Operation) -> u64 {
+pub fn asked(cpus: &[CpuWords], op: Operation) -> u64 {
     let q = load_queue(cpus, op.queue);
     let class = class_at(op.class);
     if op.kind == 7 {

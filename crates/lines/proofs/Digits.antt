@@ -1,4 +1,4 @@
--- Decimal digits: how many there are, and a number's digits from those of its tenth. Assumes nothing.
+-- Decimal digits: how many there are, and a number's digits from those of its tenth.
 use Prim.Native.Nat.{ℕ, zero, suc, _+_, _*_, _/_, _%_, _^_, _<_, _≤_}
 use mathlib.Core.Path.{_≡_, refl, ap}
 use mathlib.Core.Bool.{Bool, true, false, cond}

@@ -1,4 +1,4 @@
--- Laws of lines: a line of document 01's numbers has at most 48 bytes, and a line that fits stands whole. Assumes nothing.
+-- Laws of lines: a line of document 01's numbers has at most 48 bytes, and a line that fits stands whole.
 use Prim.Native.Nat.{ℕ, suc, _+_, _-_, _^_, _<_, _≤_, min}
 use mathlib.Core.Path.{_≡_, refl, ap}
 use mathlib.Core.Bool.{true}

@@ -1,4 +1,4 @@
--- Writing byte after byte: one text after another, and what is left of the buffer. Assumes nothing.
+-- Writing byte after byte: one text after another, and what is left of the buffer.
 use Prim.Native.Nat.{ℕ, zero, suc, _+_, _-_, _<_, _≤_, min}
 use mathlib.Core.Path.{_≡_, refl, ap, sym, _∙_}
 use mathlib.Core.Bool.{Bool, true, false, cond}

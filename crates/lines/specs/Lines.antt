@@ -1,4 +1,4 @@
--- What the declared answer stands for, and what is left of a buffer into which a line is rendered. Assumes nothing.
+-- What the declared answer stands for, and what is left of a buffer into which a line is rendered.
 use Prim.Native.Nat.{ℕ, _+_, _-_, min}
 use mathlib.Core.Bool.{Bool, cond}
 use mathlib.Core.Option.{Option, none, some}

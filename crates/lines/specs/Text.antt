@@ -1,4 +1,4 @@
--- Writing byte after byte into a buffer: where the next byte goes, and the parts of a line. Assumes nothing.
+-- Writing byte after byte into a buffer: where the next byte goes, and the parts of a line.
 use Prim.Native.Nat.{ℕ, _+_}
 use mathlib.Core.Bool.{Bool, cond}
 use mathlib.Core.Option.{Option}

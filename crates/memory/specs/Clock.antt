@@ -1,4 +1,4 @@
--- A CLOCK AND A HARD TICK of the run queue of a CPU. Assumes nothing.
+-- A CLOCK AND A HARD TICK of the run queue of a CPU.
 use Prim.Native.Nat.{ℕ, _-_, _^_, _≤_, _<_}
 use mathlib.Core.Path.{_≡_, refl, ap}
 use mathlib.Core.Bool.{Bool}
@@ -25,7 +25,7 @@ module _ {limits : Limits} {topology : Topology} {known active : ℕ → Bool} {
   Rs d = reading-of (w .cpus d)
 
   -- CLOCK
-  pub shows-clock : (tick : ℕ) → Shows limits topology known active ts (clockDef cs c) (sched.clock limits topology tick c w)
+  pub shows-clock : (tick : ℕ) → Shows limits topology known active ts (clockDef c cs) (sched.clock limits topology tick c w)
   unfolding clockDef sched.clock with-cpu with-queue clock-reading reading-of
   shows-clock tick =
       let p : Cpu = with-queue (w .cpus c) (advance-insert-index (w .cpus c .queue)) (w .cpus c .advertised) in
@@ -35,7 +35,7 @@ module _ {limits : Limits} {topology : Topology} {known active : ℕ → Bool} {
       (places-same w (with-cpu w c p) (λ d x. ap (λ (l : List ℕ). has x l) (at-keeps (λ (u : Cpu). order (u .queue)) (w .cpus) c p (advance-order (w .cpus c .queue)) d)) (s .places))
 
   -- HARD TICK: the tick is kept, and the ticks since the last one are answered
-  pub shows-hardtick : (now : ℕ) → Shows limits topology known active ts (hardtickDef cs c now .cpus) (with-cpu w c (with-ticks (w .cpus c) now (w .cpus c .idle-timeslice)))
+  pub shows-hardtick : (now : ℕ) → Shows limits topology known active ts (hardtickDef c now cs .memory) (with-cpu w c (with-ticks (w .cpus c) now (w .cpus c .idle-timeslice)))
   unfolding hardtickDef with-cpu with-ticks hardtick-reading reading-of
   shows-hardtick now =
       let p : Cpu = with-ticks (w .cpus c) now (w .cpus c .idle-timeslice) in
@@ -44,6 +44,6 @@ module _ {limits : Limits} {topology : Topology} {known active : ℕ → Bool} {
       (words-alike (w .cpus c) p refl refl refl refl refl refl refl refl refl (s .words c near)) (s .threads) (s .queue-cpus)
       (places-same w (with-cpu w c p) (λ d x. at-keeps (λ (u : Cpu). has x (order (u .queue))) (w .cpus) c p refl d) (s .places))
 
-  pub ticks-shown : (now : ℕ) → now < 2 ^ 64 → w .cpus c .last-tick ≤ now → hardtickDef cs c now .ticks ≡ now - w .cpus c .last-tick
+  pub ticks-shown : (now : ℕ) → now < 2 ^ 64 → w .cpus c .last-tick ≤ now → hardtickDef c now cs .answer ≡ now - w .cpus c .last-tick
   unfolding reading-of
   ticks-shown now h l = ticks-law (limits .threads) (limits .cpus) ts cs Rs (s .queues) c near (fits small) now h l

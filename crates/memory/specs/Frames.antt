@@ -1,4 +1,4 @@
--- One word of a CPU that is none of its queue's is written, or fields of a record that no queue asks for. Assumes nothing.
+-- One word of a CPU that is none of its queue's is written, or fields of a record that no queue asks for.
 use Prim.Native.Nat.{ℕ, _+_, _%_, _≤_, _<_}
 use mathlib.Core.Path.{_≡_, refl, sym, ap, subst, _∙_}
 use mathlib.Core.Logic.{_≢_}
@@ -27,6 +27,7 @@ use Rattle.thread.specs.declared.place.Place.{Place}
 use Rattle.thread.specs.declared.place.Place.the-variants as place
 use Rattle.processor.specs.Words.{width, word, put-word, word-put-same, word-put-other, row-put-other, length-put}
 use Rattle.processor.specs.Queue.{queueAt, queueIn, queue-same}
+use Rattle.processor.specs.Word.{MUST-REBALANCE, PREEMPT, RAND-STATE, CUR-REBALANCE-TIME, IDLE-TIMESLICE}
 use Rattle.represent.specs.Well.{Reading}
 use Rattle.lent.specs.Rq.{recordAt}
 use Rattle.represent.specs.Records.{marks, read-set, kept, kept-there}
@@ -306,28 +307,28 @@ module _ {limits : Limits} {topology : Topology} {known active : ℕ → Bool} {
           idle-timeslice = i;
         })
 
-    pub shows-must-rebalance : Shows limits topology known active ts (put-word cs c 77 1) (with-cpu w c (set-rebalance (w .cpus c)))
+    pub shows-must-rebalance : Shows limits topology known active ts (put-word cs c MUST-REBALANCE 1) (with-cpu w c (set-rebalance (w .cpus c)))
     unfolding set-rebalance reading-of mark-in
     shows-must-rebalance =
         one-word 77 1 (set-rebalance (w .cpus c)) (omega arith) (omega arith) refl refl refl refl (was .preempt) (was .draw-state) (was .rebalance-time) (was .idle-timeslice)
 
-    pub shows-preempt : (v : ℕ) (m : Bool) → mark-in v ≡ m → Shows limits topology known active ts (put-word cs c 78 v) (with-cpu w c (with-preempt (w .cpus c) m))
+    pub shows-preempt : (v : ℕ) (m : Bool) → mark-in v ≡ m → Shows limits topology known active ts (put-word cs c PREEMPT v) (with-cpu w c (with-preempt (w .cpus c) m))
     unfolding with-preempt reading-of
     shows-preempt v m e =
         one-word 78 v (with-preempt (w .cpus c) m) (omega arith) (omega arith) refl refl refl (was .must-rebalance) e (was .draw-state) (was .rebalance-time) (was .idle-timeslice)
 
-    pub shows-draws : (v : ℕ) → Shows limits topology known active ts (put-word cs c 79 v) (with-cpu w c (with-draws (w .cpus c) v))
+    pub shows-draws : (v : ℕ) → Shows limits topology known active ts (put-word cs c RAND-STATE v) (with-cpu w c (with-draws (w .cpus c) v))
     unfolding with-draws reading-of
     shows-draws v =
         one-word 79 v (with-draws (w .cpus c) v) (omega arith) (omega arith) refl refl refl (was .must-rebalance) (was .preempt) refl (was .rebalance-time) (was .idle-timeslice)
 
-    pub shows-rebalance-time : (v : ℕ) → Shows limits topology known active ts (put-word cs c 80 v) (with-cpu w c (with-rebalance-time (w .cpus c) v))
+    pub shows-rebalance-time : (v : ℕ) → Shows limits topology known active ts (put-word cs c CUR-REBALANCE-TIME v) (with-cpu w c (with-rebalance-time (w .cpus c) v))
     unfolding with-rebalance-time reading-of
     shows-rebalance-time v =
         one-word 80 v (with-rebalance-time (w .cpus c) v) (omega arith) (omega arith) refl refl refl (was .must-rebalance) (was .preempt) (was .draw-state) refl (was .idle-timeslice)
 
     -- what the idle thread has paid; the tick of the last hard tick stays
-    pub shows-idle-timeslice : (v : ℕ) → Shows limits topology known active ts (put-word cs c 81 v) (with-cpu w c (with-ticks (w .cpus c) (w .cpus c .last-tick) v))
+    pub shows-idle-timeslice : (v : ℕ) → Shows limits topology known active ts (put-word cs c IDLE-TIMESLICE v) (with-cpu w c (with-ticks (w .cpus c) (w .cpus c .last-tick) v))
     unfolding with-ticks reading-of
     shows-idle-timeslice v =
         one-word 81 v (with-ticks (w .cpus c) (w .cpus c .last-tick) v) (omega arith) (omega arith) refl refl refl (was .must-rebalance) (was .preempt) (was .draw-state) (was .rebalance-time) refl

@@ -1,4 +1,4 @@
--- WHAT IS READ: each number that the scheduler asks of the words is the rules'. Assumes nothing.
+-- WHAT IS READ: each number that the scheduler asks of the words is the rules'.
 use Prim.Native.Nat.{ℕ, _+_, _*_, _%_, _^_, _≤_, _<_}
 use mathlib.Core.Path.{_≡_, refl, sym, ap, _∙_}
 use mathlib.Core.Bool.{Bool, cond, not}
@@ -23,6 +23,7 @@ use Rattle.processor.specs.Words.{word}
 use Rattle.processor.specs.Window.{load-at}
 use Rattle.processor.specs.Queue.{queueAt, queueIn, queueFrom, builtOf}
 use Rattle.processor.specs.Cpu as cpu
+use Rattle.processor.specs.Word.{CURRENT-PRIORITY, LOAD, MOVABLE, RUNNING}
 use Rattle.represent.specs.Linked.{below-has}
 use Rattle.represent.specs.Well.{Well}
 use Rattle.represent.specs.Operations.{empty-is, movable-same, slice-most, deadline-exact}
@@ -33,15 +34,15 @@ use borrow.Author.Tests.{ne-eqb}
 
 -- ---- words that are read by themselves
 
-pub word-priority : (cs : List (List ℕ)) (c : ℕ) → word cs c 61 ≡ queueAt cs c .«current_priority»
+pub word-priority : (cs : List (List ℕ)) (c : ℕ) → word cs c CURRENT-PRIORITY ≡ queueAt cs c .«current_priority»
 unfolding word queueAt queueIn queueFrom builtOf
 word-priority cs c = sym (load-at (getD cs c []) 56 8 8 5 (omega arith) (omega arith))
 
-pub word-load : (cs : List (List ℕ)) (c : ℕ) → word cs c 62 ≡ queueAt cs c .load
+pub word-load : (cs : List (List ℕ)) (c : ℕ) → word cs c LOAD ≡ queueAt cs c .load
 unfolding word queueAt queueIn queueFrom builtOf
 word-load cs c = sym (load-at (getD cs c []) 56 8 8 6 (omega arith) (omega arith))
 
-pub word-movable : (cs : List (List ℕ)) (c : ℕ) → word cs c 64 ≡ queueAt cs c .movable
+pub word-movable : (cs : List (List ℕ)) (c : ℕ) → word cs c MOVABLE ≡ queueAt cs c .movable
 unfolding word queueAt queueIn queueFrom builtOf
 word-movable cs c = sym (load-at (getD cs c []) 64 8 8 0 (omega arith) (omega arith))
 
@@ -105,7 +106,7 @@ module _ {limits : Limits} {topology : Topology} {known active : ℕ → Bool} {
   pub current-load-shown : cpu.current-load cs c ≡ current-load (w .cpus c)
   unfolding cpu.current-load current-load
   current-load-shown =
-      ap (λ (b : Bool). cond b ((word cs c 62 + 1) % 2 ^ 64) (word cs c 62)) (s .words c near .is-idle)
+      ap (λ (b : Bool). cond b ((word cs c LOAD + 1) % 2 ^ 64) (word cs c LOAD)) (s .words c near .is-idle)
       ∙ ap (λ n. cond (is-some (w .cpus c .running)) ((n + 1) % 2 ^ 64) n) (word-load cs c ∙ load-shown)
       ∙ one-more (load (w .cpus c .queue)) (w .cpus c .running) (omega (arith, load-most, small .threads))
 
@@ -131,5 +132,5 @@ module _ {limits : Limits} {topology : Topology} {known active : ℕ → Bool} {
       ∙ sum-exact tick d (omega arith)
 
   -- what it runs
-  pub running-shown : word cs c 74 ≡ number-or-none (w .cpus c .running)
+  pub running-shown : word cs c RUNNING ≡ number-or-none (w .cpus c .running)
   running-shown = s .words c near .running

@@ -1,4 +1,4 @@
--- A PUT AND A TAKE: what the definitions of the lent functions leave shows what `insert` and `take` of the rules leave. Assumes nothing.
+-- A PUT AND A TAKE: what the definitions of the lent functions leave shows what `insert` and `take` of the rules leave.
 use Prim.Native.Nat.{ℕ, _≤_, _<_}
 use mathlib.Core.Path.{_≡_, refl, sym, ap, subst, _∙_}
 use mathlib.Core.Logic.{_≢_}
@@ -40,7 +40,8 @@ use Rattle.represent.specs.Linked.{has-later}
 use Rattle.represent.specs.Operations.{put-has, in-ts, movable-same}
 use Rattle.lent.specs.declared.rq.Taken.{Taken}
 use Rattle.lent.specs.declared.rq.Taken.the-variants as taken
-use Rattle.lent.specs.Rq.{recordAt, arrivalOf, steadyIn, putIn, putOf, insertDef, leftBy, Took, tookFrom, takeDef}
+use Rattle.lent.specs.Left.{mem, Memory, Left}
+use Rattle.lent.specs.Rq.{recordAt, arrivalOf, steadyIn, putIn, putOf, insertDef, leftBy, tookFrom, takeDef}
 use Rattle.represent.specs.Records.{marks, length-put, field-set, kept, put-reads, put-field}
 use Rattle.represent.specs.System.{Good, arriving, put-law, Taken-as, take-law}
 use Rattle.memory.specs.Shows.{reading-of, Words-show, place-at, Places, Small, Shows}
@@ -126,11 +127,11 @@ module _ (limits : Limits) (topology : Topology) (tick us : ℕ) (known : ℕ �
         (s .threads x below)
 
     thread-there : (let a = arrivalOf (recordAt ts x) x tick current in
-        reads (putIn (recordAt ts x) (putOf ts cs c x tick current .part))
+        reads (putIn (recordAt ts x) (putOf c x tick current (mem ts cs) .part))
         ≡ cond (is-timeshare (part-for (arrival limits topology tick us (w .threads x) x current))) (steadied (w .threads x)) (w .threads x))
     unfolding part-for arrival arrivalOf reads
     thread-there =
-        put-reads (recordAt ts x) (putOf ts cs c x tick current .part)
+        put-reads (recordAt ts x) (putOf c x tick current (mem ts cs) .part)
         ∙ ap (λ (p : Part). cond (is-timeshare p) (steadied (reads (recordAt ts x))) (reads (recordAt ts x))) (put-part _ (arrivalOf (recordAt ts x) x tick current))
         ∙ ap (λ (t : times.Thread). cond (is-timeshare (part-for (arrival limits topology tick us t x current))) (steadied t) t) (s .threads x below)
 
@@ -157,27 +158,27 @@ module _ (limits : Limits) (topology : Topology) (tick us : ℕ) (known : ℕ �
     waits-still : (d z : ℕ) → z ≢ x → waits v d z ≡ waits w d z
     waits-still d z h = both (eqb d c) (λ e. rw (eqb-true d c e, waits-here z, ne-eqb x z (λ k. h (sym k)))) (λ e. waits-there d z (eqb-false d c e))
 
-    put-place-at : (z : ℕ) → place-at (insertDef ts cs c x tick current .threads) z ≡ cond (eqb z x) place.Waiting (place-at ts z)
+    put-place-at : (z : ℕ) → place-at (insertDef c x tick current (mem ts cs) .threads) z ≡ cond (eqb z x) place.Waiting (place-at ts z)
     unfolding insertDef place-in with-next
     put-place-at z =
-        put-field ts x (in-records s x below) (putOf ts cs c x tick current .part) (putOf ts cs c x tick current .behind) (λ (u : Thread). place-in (u .place)) (λ t m. refl) z
-        ∙ both (eqb z x) (λ e. rw (e, put-place (recordAt ts x) (putOf ts cs c x tick current .part))) (λ e. rw e)
+        put-field ts x (in-records s x below) (putOf c x tick current (mem ts cs) .part) (putOf c x tick current (mem ts cs) .behind) (λ (u : Thread). place-in (u .place)) (λ t m. refl) z
+        ∙ both (eqb z x) (λ e. rw (e, put-place (recordAt ts x) (putOf c x tick current (mem ts cs) .part))) (λ e. rw e)
 
-    put-places : Places (limits .threads) known (at active x false) (insertDef ts cs c x tick current .threads) v
+    put-places : Places (limits .threads) known (at active x false) (insertDef c x tick current (mem ts cs) .threads) v
     put-places =
         places-moved x place.Waiting put-place-at (n .is-known) (λ z h. refl) (λ z h. at-there active x false z h) waits-still (λ d h. refl)
         (λ h. absurd (false≢true (sym (at-here active x false) ∙ h))) (λ a f. absurd (true≢false (sym (waits-here x ∙ rw (eq-eqb x x refl)) ∙ f c))) (s .places)
 
     -- PUT
-    pub shows-insert : (let d = insertDef ts cs c x tick current in
+    pub shows-insert : (let d = insertDef c x tick current (mem ts cs) in
         Shows limits topology known (at active x false) (d .threads) (d .cpus) (insert-thread limits topology tick us w c x current))
     unfolding insertDef insert-thread noted with-thread with-cpu
     shows-insert =
-        shows-stored s c (insertDef ts cs c x tick current .threads) (putOf ts cs c x tick current .queue) there v refl (length-put ts x (in-records s x below) (putOf ts cs c x tick current .part) (putOf ts cs c x tick current .behind))
-        (subst (λ (R : Reading). Good (limits .threads) (limits .cpus) (insertDef ts cs c x tick current .threads) (insertDef ts cs c x tick current .cpus) (at (λ d. reading-of (w .cpus d)) c R)) read-there
+        shows-stored s c (insertDef c x tick current (mem ts cs) .threads) (putOf c x tick current (mem ts cs) .queue) there v refl (length-put ts x (in-records s x below) (putOf c x tick current (mem ts cs) .part) (putOf c x tick current (mem ts cs) .behind))
+        (subst (λ (R : Reading). Good (limits .threads) (limits .cpus) (insertDef c x tick current (mem ts cs) .threads) (insertDef c x tick current (mem ts cs) .cpus) (at (λ d. reading-of (w .cpus d)) c R)) read-there
         (put-law (limits .threads) (limits .cpus) ts cs (λ y. reading-of (w .cpus y)) (s .queues) c (n .near) (fits small) x tick current below nobody-reads))
         (words-queue cs c (w .cpus c) _ _ (s .words c (n .near)))
-        (λ z h. put-field ts x (in-records s x below) (putOf ts cs c x tick current .part) (putOf ts cs c x tick current .behind) reads reads-next z
+        (λ z h. put-field ts x (in-records s x below) (putOf c x tick current (mem ts cs) .part) (putOf c x tick current (mem ts cs) .behind) reads reads-next z
         ∙ (unfold at in both (eqb z x) (λ e. rw e thread-there) (λ e. rw e (s .threads z h))))
         (λ z h. unfold at in both (eqb z x) (λ e. rw e (steady-home (limits .cpus) (is-timeshare (part-for (arrival limits topology tick us (w .threads x) x current))) (w .threads x) (s .queue-cpus x below))) (λ e. rw e (s .queue-cpus z h)))
         put-places
@@ -212,9 +213,9 @@ as-taken none = taken.Nobody
 as-taken (some x) = taken.Thread x
 
 -- a take answers what the rules hand out, and leaves what the rules leave
-pub record Take-shows (limits : Limits) (topology : Topology) (known active : ℕ → Bool) (d : Took) (g : Got) : Type 0 where
+pub record Take-shows (limits : Limits) (topology : Topology) (known active : ℕ → Bool) (d : Left Taken Memory) (g : Got) : Type 0 where
   pub answer : d .answer ≡ as-taken (g .got)
-  pub left : Shows limits topology known (active-with active (g .got)) (d .threads) (d .cpus) (g .world)
+  pub left : Shows limits topology known (active-with active (g .got)) (d .memory .threads) (d .memory .cpus) (g .world)
 
 module _ (limits : Limits) (topology : Topology) (tick us : ℕ) (known : ℕ → Bool) (numbered : (x : ℕ) → known x ≡ true → x < limits .threads) (small : Small limits) (H : ℕ → List PutOrTake) where
   module _ {active but : ℕ → Bool} {ts : List Thread} {cs : List (List ℕ)} {w : World} (s : Shows limits topology known active ts cs w) (safe : Sound limits known H but w) (c : ℕ) (near : c < limits .cpus) where
@@ -281,9 +282,9 @@ module _ (limits : Limits) (topology : Topology) (tick us : ℕ) (known : ℕ �
             (λ d h. absurd (true≢false (sym h ∙ kept-taken .handed-free x (unfold handed-out in refl) d))) (λ h. refl) (λ a f. absurd (true≢false (sym (at-here active x true) ∙ a))) (s .places)
 
         some-shows : (p′ : Part) (b′ : ℕ)
-            → Good (limits .threads) (limits .cpus) (tookFrom ts cs c (front.At p′ b′ x) .threads) (tookFrom ts cs c (front.At p′ b′ x) .cpus)
+            → Good (limits .threads) (limits .cpus) (tookFrom c (front.At p′ b′ x) (mem ts cs) .memory .threads) (tookFrom c (front.At p′ b′ x) (mem ts cs) .memory .cpus)
             (at (λ d. reading-of (w .cpus d)) c (take-reading (marks ts .value) (reading-of (w .cpus c)) p b))
-            → Take-shows limits topology known active (tookFrom ts cs c (front.At p′ b′ x)) got
+            → Take-shows limits topology known active (tookFrom c (front.At p′ b′ x) (mem ts cs)) got
         unfolding tookFrom handed-out active-with as-taken noted with-cpu
         some-shows p′ b′ g = record {
           answer = refl;
@@ -296,23 +297,23 @@ module _ (limits : Limits) (topology : Topology) (tick us : ℕ) (known : ℕ �
               take-places;
         }
 
-      none-shows : Take-shows limits topology known active (tookFrom ts cs c front.Nothing) (handed-out limits topology tick us w c stealing nobody)
+      none-shows : Take-shows limits topology known active (tookFrom c front.Nothing (mem ts cs)) (handed-out limits topology tick us w c stealing nobody)
       unfolding tookFrom handed-out active-with as-taken noted
       none-shows = record {
         answer = refl;
         left = shows-alike w (noted w c (a-take stealing none)) (λ d. refl) (λ x. refl) s;
       }
 
-      go : (f : Front) (n : Next) → asked (pinned-in w) Q stealing ≡ n → Taken-as (limits .threads) (limits .cpus) ts cs (λ d. reading-of (w .cpus d)) c (tookFrom ts cs c f) n
-          → Take-shows limits topology known active (tookFrom ts cs c f) (handed-out limits topology tick us w c stealing n)
+      go : (f : Front) (n : Next) → asked (pinned-in w) Q stealing ≡ n → Taken-as (limits .threads) (limits .cpus) ts cs (λ d. reading-of (w .cpus d)) c (tookFrom c f (mem ts cs)) n
+          → Take-shows limits topology known active (tookFrom c f (mem ts cs)) (handed-out limits topology tick us w c stealing n)
       unfolding Taken-as tookFrom
       go front.Nothing nobody a e = none-shows
       go front.Nothing (next-in p b x) a e = let z : _≡_ {A = Taken} taken.Nobody (taken.Thread x) = e .0 in let y : _≡_ {A = ℕ} 0 1 = cc in absurd (omega arith)
-      go (front.At p′ b′ x′) nobody a e = let z : _≡_ {A = Taken} (taken.Thread x′) taken.Nobody = ap (λ (d : Took). d .answer) e in let y : _≡_ {A = ℕ} 0 1 = cc in absurd (omega arith)
+      go (front.At p′ b′ x′) nobody a e = let z : _≡_ {A = Taken} (taken.Thread x′) taken.Nobody = ap (λ (d : Left Taken Memory). d .answer) e in let y : _≡_ {A = ℕ} 0 1 = cc in absurd (omega arith)
       go (front.At p′ b′ x′) (next-in p b x) a e =
           let z : _≡_ {A = Taken} (taken.Thread x′) (taken.Thread x) = e .0 in
           let y : x′ ≡ x = cc in
-          subst (λ (u : ℕ). Take-shows limits topology known active (tookFrom ts cs c (front.At p′ b′ x′)) (handed-out limits topology tick us w c stealing (next-in p b u))) y
+          subst (λ (u : ℕ). Take-shows limits topology known active (tookFrom c (front.At p′ b′ x′) (mem ts cs)) (handed-out limits topology tick us w c stealing (next-in p b u))) y
           (some-shows p b x′ (a ∙ ap (next-in p b) (sym y)) p′ b′ (e .1))
 
       asked-as : asked (marks ts .pinned) (reading-of (w .cpus c) .queue) stealing ≡ asked (pinned-in w) Q stealing
@@ -320,8 +321,8 @@ module _ (limits : Limits) (topology : Topology) (tick us : ℕ) (known : ℕ �
       asked-as = asked-same (marks ts .pinned) (pinned-in w) Q stealing pins-same
 
       -- TAKE
-      pub shows-take : Take-shows limits topology known active (takeDef ts cs c stealing) (take-thread limits topology tick us w c stealing)
+      pub shows-take : Take-shows limits topology known active (takeDef c stealing (mem ts cs)) (take-thread limits topology tick us w c stealing)
       unfolding takeDef take-thread
       shows-take = go (rqFront (queueAt cs c) stealing) (asked (pinned-in w) Q stealing) refl
-          (subst (λ (n : Next). Taken-as (limits .threads) (limits .cpus) ts cs (λ d. reading-of (w .cpus d)) c (takeDef ts cs c stealing) n) asked-as
+          (subst (λ (n : Next). Taken-as (limits .threads) (limits .cpus) ts cs (λ d. reading-of (w .cpus d)) c (takeDef c stealing (mem ts cs)) n) asked-as
           (take-law (limits .threads) (limits .cpus) ts cs (λ d. reading-of (w .cpus d)) (s .queues) c near (fits small) stealing))

@@ -1,5 +1,5 @@
 -- WHAT LENT MEMORY SHOWS: thread records ts and words cs of the CPUs that show the CPUs and threads of the rules' World w. A reader reads all of this
--- file. Assumes nothing.
+-- file.
 use Prim.Native.Nat.{ℕ, _^_, _≤_, _<_}
 use mathlib.Core.Path.{_≡_}
 use mathlib.Core.Bool.{Bool, true, false, not}
@@ -19,6 +19,7 @@ use Rattle.thread.specs.Thread.{NONE}
 use Rattle.thread.specs.Reads.{reads}
 use Rattle.thread.specs.Place.{place-in}
 use Rattle.processor.specs.Words.{width, word}
+use Rattle.processor.specs.Word.{DECLARED, PLACED, RUNNING, OWN-PRIORITY, IS-IDLE, MUST-REBALANCE, PREEMPT, RAND-STATE, CUR-REBALANCE-TIME, IDLE-TIMESLICE}
 use Rattle.represent.specs.Well.{Reading}
 use Rattle.lent.specs.Rq.{recordAt}
 use Rattle.represent.specs.System.{Good}
@@ -40,16 +41,16 @@ mark-in n = not (eqb n 0)
 
 -- Its words beside those of the run queue, said by the numbers that they have in processor's words.rt: of the first two the topology speaks.
 pub record Words-say (topology : Topology) (c : ℕ) (said : ℕ → ℕ) (p : Cpu) : Type 0 where
-  pub declared : mark-in (said 72) ≡ topology .declared c
-  pub placed : said 73 ≡ number-or-none (topology .placed c)
-  pub running : said 74 ≡ number-or-none (p .running)
-  pub own-priority : from-raw (said 75) ≡ p .own-priority
-  pub is-idle : eqb (said 76) 0 ≡ is-some (p .running)
-  pub must-rebalance : mark-in (said 77) ≡ p .must-rebalance
-  pub preempt : mark-in (said 78) ≡ p .preempt
-  pub draw-state : said 79 ≡ p .draw-state
-  pub rebalance-time : said 80 ≡ p .rebalance-time
-  pub idle-timeslice : said 81 ≡ p .idle-timeslice
+  pub declared : mark-in (said DECLARED) ≡ topology .declared c
+  pub placed : said PLACED ≡ number-or-none (topology .placed c)
+  pub running : said RUNNING ≡ number-or-none (p .running)
+  pub own-priority : from-raw (said OWN-PRIORITY) ≡ p .own-priority
+  pub is-idle : eqb (said IS-IDLE) 0 ≡ is-some (p .running)
+  pub must-rebalance : mark-in (said MUST-REBALANCE) ≡ p .must-rebalance
+  pub preempt : mark-in (said PREEMPT) ≡ p .preempt
+  pub draw-state : said RAND-STATE ≡ p .draw-state
+  pub rebalance-time : said CUR-REBALANCE-TIME ≡ p .rebalance-time
+  pub idle-timeslice : said IDLE-TIMESLICE ≡ p .idle-timeslice
 
 abbrev pub Words-show : Topology → List (List ℕ) → ℕ → Cpu → Type 0
 Words-show topology cs c p = Words-say topology c (word cs c) p

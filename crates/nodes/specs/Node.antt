@@ -1,4 +1,4 @@
--- One node in its words, and the changes of the tree (CPUTopoNode, sched.rs). Assumes nothing.
+-- One node in its words, and the changes of the tree (CPUTopoNode, sched.rs).
 use Prim.Native.Nat.{ℕ, zero, suc, _+_, _-_, _/_, _<_}
 use mathlib.Core.Path.{_≡_, refl, _∙_}
 use mathlib.Core.Bool.{Bool, true, false, cond}

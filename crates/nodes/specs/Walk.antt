@@ -1,4 +1,4 @@
--- The orders in which the nodes and CPUs of a tree in words are met. Assumes nothing.
+-- The orders in which the nodes and CPUs of a tree in words are met.
 use Prim.Native.Nat.{ℕ, zero, suc, _+_, _-_, _≤_, _<_}
 use mathlib.Core.Path.{_≡_}
 use mathlib.Core.Bool.{Bool, cond}

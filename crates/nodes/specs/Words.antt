@@ -1,4 +1,4 @@
--- Rows of words: one word read, one written. Assumes nothing.
+-- Rows of words: one word read, one written.
 use Prim.Native.Nat.{ℕ, _%_, _≤_}
 use mathlib.Core.Path.{_≡_}
 use mathlib.Core.List.{List, []}

@@ -1,15 +1,15 @@
 // One node: what it is at first, its CPUs, and its place in the tree.
 ghost use mathlib.Core.Path.{_≡_};
 ghost use Rattle.nodes.specs.Node.{lesser, greater, new-node, put-node, new-root, add-child, has-children, has-cpus, contains-at, put-cpu, set-cpu, first-of, end-of};
+use crate::words::NodeWords;
 use crate::words::put_word;
 use crate::words::word;
 use topology::cpuset::MAX_CPU_ID;
 use topology::cpuset::bit;
 use topology::cpuset::set_bit;
 
-// The words of a node. CHILDREN: 1 if it has children. FIRST and END: its CPUs are numbered from FIRST to below END. NEXT and PREV: the nodes
-// around it in the order in which a search meets them, children before their parent, the root's NEXT being the first of all. SET: sixteen words, the CPUs
-// on it or below it.
+// The words of a node. CHILDREN: 1 if it has children. FIRST and END: its CPUs are numbered from FIRST to below END. NEXT and PREV:
+// a ring of all nodes in post-order, children before their parent; the root's NEXT is the first of all. SET: sixteen words, the CPUs on it or below it.
 pub const LEVEL_TYPE: usize = 0;
 
 pub const PARENT: usize = 1;
@@ -51,7 +51,7 @@ pub fn greater(a: u64, b: u64) -> u64
 }
 
 // A node without children and CPUs, between two in the order of a search.
-pub fn new_node(level_type: u64, parent: u64, prev: u64, next: u64) -> [u64; 32]
+pub fn new_node(level_type: u64, parent: u64, prev: u64, next: u64) -> NodeWords
     ensures { λ r. ⌜ r ≡ new-node «level_type» parent prev next ⌝ }
 {
     let mut row = [0u64; 32];
@@ -64,7 +64,7 @@ pub fn new_node(level_type: u64, parent: u64, prev: u64, next: u64) -> [u64; 32]
 }
 
 // The words of a node stored; nothing past the end of the slice.
-pub fn put_node(nodes: &mut [[u64; 32]], n: u64, row: [u64; 32])
+pub fn put_node(nodes: &mut [NodeWords], n: u64, row: NodeWords)
     ensures { λ r. ⌜ now (nodes .exit) ≡ put-node (now (nodes .entry)) n row ⌝ }
 {
     let i = n as usize;
@@ -74,7 +74,7 @@ pub fn put_node(nodes: &mut [[u64; 32]], n: u64, row: [u64; 32])
 }
 
 // Node 0, the root, alone.
-pub fn new_root(nodes: &mut [[u64; 32]])
+pub fn new_root(nodes: &mut [NodeWords])
     ensures { λ r. ⌜ now (nodes .exit) ≡ new-root (now (nodes .entry)) ⌝ }
 {
     let row = new_node(SYSTEM, 0, 0, 0);
@@ -82,7 +82,7 @@ pub fn new_root(nodes: &mut [[u64; 32]])
 }
 
 // Node n becomes the new last child of the parent: a search meets it just before its parent.
-pub fn add_child(nodes: &mut [[u64; 32]], n: u64, parent: u64, level_type: u64)
+pub fn add_child(nodes: &mut [NodeWords], n: u64, parent: u64, level_type: u64)
     ensures { λ r. ⌜ now (nodes .exit) ≡ add-child (now (nodes .entry)) n parent «level_type» ⌝ }
 {
     let prev = word(nodes, parent, PREV);
@@ -93,14 +93,14 @@ pub fn add_child(nodes: &mut [[u64; 32]], n: u64, parent: u64, level_type: u64)
     put_word(nodes, parent, CHILDREN, 1);
 }
 
-pub fn has_children(nodes: &[[u64; 32]], n: u64) -> bool
+pub fn has_children(nodes: &[NodeWords], n: u64) -> bool
     ensures { λ r. ⌜ r ≡ has-children (now (nodes .entry)) n ⌝ }
 {
     0 < word(nodes, n, CHILDREN)
 }
 
 // Has it CPUs of its own, not below it?
-pub fn has_cpus(nodes: &[[u64; 32]], n: u64) -> bool
+pub fn has_cpus(nodes: &[NodeWords], n: u64) -> bool
     ensures { λ r. ⌜ r ≡ has-cpus (now (nodes .entry)) n ⌝ }
 {
     if has_children(nodes, n) {
@@ -110,7 +110,7 @@ pub fn has_cpus(nodes: &[[u64; 32]], n: u64) -> bool
 }
 
 // Is the CPU on the node or below it?
-pub fn contains(nodes: &[[u64; 32]], n: u64, cpu: u64) -> bool
+pub fn contains(nodes: &[NodeWords], n: u64, cpu: u64) -> bool
     ensures { λ r. ⌜ r ≡ contains-at (now (nodes .entry)) n cpu ⌝ }
 {
     if cpu < MAX_CPU_ID {
@@ -121,20 +121,20 @@ pub fn contains(nodes: &[[u64; 32]], n: u64, cpu: u64) -> bool
 }
 
 // The CPUs of a node are from `first` to below `end`, and below the limit.
-pub fn first(nodes: &[[u64; 32]], n: u64) -> u64
+pub fn first(nodes: &[NodeWords], n: u64) -> u64
     ensures { λ r. ⌜ r ≡ first-of (now (nodes .entry)) n ⌝ }
 {
     word(nodes, n, FIRST)
 }
 
-pub fn end(nodes: &[[u64; 32]], n: u64, limit: u64) -> u64
+pub fn end(nodes: &[NodeWords], n: u64, limit: u64) -> u64
     ensures { λ r. ⌜ r ≡ end-of (now (nodes .entry)) n limit ⌝ }
 {
     lesser(word(nodes, n, END), limit)
 }
 
 // A CPU put on one node.
-pub fn put_cpu(nodes: &mut [[u64; 32]], n: u64, cpu: u64)
+pub fn put_cpu(nodes: &mut [NodeWords], n: u64, cpu: u64)
     ensures { λ r. ⌜ now (nodes .exit) ≡ put-cpu (now (nodes .entry)) n cpu ⌝ }
 {
     if cpu < MAX_CPU_ID {
@@ -149,7 +149,7 @@ pub fn put_cpu(nodes: &mut [[u64; 32]], n: u64, cpu: u64)
 }
 
 // A CPU put on a node and all nodes above.
-pub fn set_cpu(nodes: &mut [[u64; 32]], node: u64, cpu: u64)
+pub fn set_cpu(nodes: &mut [NodeWords], node: u64, cpu: u64)
     ensures { λ r. ⌜ now (nodes .exit) ≡ set-cpu (now (nodes .entry)) node cpu ⌝ }
 {
     let mut n = node;

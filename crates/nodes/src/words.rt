@@ -4,7 +4,10 @@ ghost use Rattle.nodes.specs.Words.{word, put-word};
 
 pub const WORDS: usize = 32;
 
-pub fn word(nodes: &[[u64; 32]], n: u64, w: usize) -> u64
+// The words of one node.
+pub type NodeWords = [u64; 32];
+
+pub fn word(nodes: &[NodeWords], n: u64, w: usize) -> u64
     ensures { λ r. ⌜ r ≡ word (now (nodes .entry)) n w ⌝ }
 {
     let i = n as usize;
@@ -15,7 +18,7 @@ pub fn word(nodes: &[[u64; 32]], n: u64, w: usize) -> u64
     0
 }
 
-pub fn put_word(nodes: &mut [[u64; 32]], n: u64, w: usize, v: u64)
+pub fn put_word(nodes: &mut [NodeWords], n: u64, w: usize, v: u64)
     ensures { λ r. ⌜ now (nodes .exit) ≡ put-word (now (nodes .entry)) n w v ⌝ }
 {
     let i = n as usize;

@@ -1,4 +1,5 @@
 pub mod Window
+pub mod Word
 pub mod Words
 pub mod Queue
 pub mod Cpu

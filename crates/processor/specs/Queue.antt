@@ -1,5 +1,4 @@
 -- A run queue in the first 72 words of a CPU: a load after a store gives the queue again, and neither another word nor another CPU is touched.
--- Assumes nothing.
 use Prim.Native.Nat.{ℕ, zero, suc, _+_, _%_, _≤_, _<_}
 use lib.Dec.{eqb, ltb}
 use borrow.Author.Tests.{eqb-true, eqb-false, ltb-true, ltb-false}

@@ -1,4 +1,4 @@
--- For the proof of the draw. Assumes nothing.
+-- For the proof of the draw.
 use Prim.Native.Nat.{ℕ, _+_, _*_, _/_, _%_}
 use mathlib.Core.Path.{_≡_, sym, ap, _∙_}
 use native.Mathlib.Nat.{mul-add-mod-self-left}

@@ -1,4 +1,4 @@
--- The words of all CPUs, a row to a CPU: one word read, one written. Assumes nothing.
+-- The words of all CPUs, a row to a CPU: one word read, one written.
 use Prim.Native.Nat.{ℕ, _%_, _≤_, _<_}
 use mathlib.Core.Path.{_≡_, refl, sym, ap, _∙_}
 use mathlib.Core.List.{List, []}

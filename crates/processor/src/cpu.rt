@@ -2,6 +2,7 @@
 ghost use mathlib.Core.Path.{_≡_};
 ghost use Rattle.processor.specs.Cpu.{current-load, current-priority};
 use crate::words::CURRENT_PRIORITY;
+use crate::words::CpuWords;
 use crate::words::IS_IDLE;
 use crate::words::LOAD;
 use crate::words::OWN_PRIORITY;
@@ -11,7 +12,7 @@ use thread::priority::from_raw;
 use thread::priority::max;
 
 // The queue load plus 1 unless idle.
-pub fn current_load(cpus: &[[u64; 96]], c: u64) -> u64
+pub fn current_load(cpus: &[CpuWords], c: u64) -> u64
     ensures { λ r. ⌜ r ≡ current-load (now (cpus .entry)) c ⌝ }
 {
     let load = word(cpus, c, LOAD);
@@ -22,7 +23,7 @@ pub fn current_load(cpus: &[[u64; 96]], c: u64) -> u64
 }
 
 // The greater of what its queue advertises and what it runs at.
-pub fn current_priority(cpus: &[[u64; 96]], c: u64) -> Priority
+pub fn current_priority(cpus: &[CpuWords], c: u64) -> Priority
     ensures { λ r. ⌜ r ≡ current-priority (now (cpus .entry)) c ⌝ }
 {
     let said = from_raw(word(cpus, c, CURRENT_PRIORITY));

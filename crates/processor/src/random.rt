@@ -3,6 +3,7 @@ ghost use Prim.Native.Nat.{_*_, _%_, _^_};
 ghost use mathlib.Core.Path.{_≡_};
 ghost use Rattle.rules.specs.Draw.{seed, next-state, draw};
 ghost use Rattle.processor.specs.Words.{word, put-word};
+use crate::words::CpuWords;
 use crate::words::RAND_STATE;
 use crate::words::put_word;
 use crate::words::word;
@@ -43,7 +44,7 @@ pub fn draw(state: u64) -> u64
 }
 
 // One draw of CPU c.
-pub fn quick_random(cpus: &mut [[u64; 96]], c: u64) -> u64
+pub fn quick_random(cpus: &mut [CpuWords], c: u64) -> u64
     ensures answer { λ r. ⌜ r ≡ draw (next-state c (word (now (cpus .entry)) c 79)) ⌝ }
     ensures state { λ r. ⌜ now (cpus .exit) ≡ put-word (now (cpus .entry)) c 79 (next-state c (word (now (cpus .entry)) c 79)) ⌝ }
 {

@@ -3,12 +3,13 @@ ghost use Prim.Native.Nat.{_≤_, _+_};
 ghost use mathlib.Core.Path.{_≡_};
 ghost use Rattle.processor.specs.Window.{loadN, placeN};
 ghost use Rattle.processor.specs.Queue.{listsAt, listsStored, firstEight, lastTwo, builtOf, queueIn, queueInto, queueAt, queueStored};
+use crate::words::CpuWords;
 use queue::lists::Lists;
 use queue::pq::PriorityQueue;
 use queue::timeshare::TimeshareQueue;
 use runqueue::rq::RunQueue;
 
-fn load(row: &[u64; 96], at: usize) -> [u64; 8]
+fn load(row: &CpuWords, at: usize) -> [u64; 8]
     requires { ⌜ at + 8 ≤ 96 ⌝ }
     ensures { λ r. ⌜ r ≡ loadN (now (row .entry)) at 8 8 ⌝ }
 {
@@ -22,7 +23,7 @@ fn load(row: &[u64; 96], at: usize) -> [u64; 8]
     out
 }
 
-fn store(row: &mut [u64; 96], at: usize, v: [u64; 8])
+fn store(row: &mut CpuWords, at: usize, v: [u64; 8])
     requires { ⌜ at + 8 ≤ 96 ⌝ }
     ensures { λ r. ⌜ now (row .exit) ≡ placeN (now (row .entry)) at v 8 ⌝ }
 {
@@ -35,7 +36,7 @@ fn store(row: &mut [u64; 96], at: usize, v: [u64; 8])
 }
 
 // First and last threads, sixteen words.
-fn load_lists(row: &[u64; 96], at: usize) -> Lists
+fn load_lists(row: &CpuWords, at: usize) -> Lists
     requires { ⌜ at + 16 ≤ 96 ⌝ }
     ensures { λ r. ⌜ r ≡ listsAt (now (row .entry)) at ⌝ }
 {
@@ -44,7 +45,7 @@ fn load_lists(row: &[u64; 96], at: usize) -> Lists
     Lists { heads, tails }
 }
 
-fn store_lists(row: &mut [u64; 96], at: usize, l: Lists)
+fn store_lists(row: &mut CpuWords, at: usize, l: Lists)
     requires { ⌜ at + 16 ≤ 96 ⌝ }
     ensures { λ r. ⌜ now (row .exit) ≡ listsStored (now (row .entry)) at l ⌝ }
 {
@@ -109,7 +110,7 @@ fn built(a: Lists, c: [u64; 8], d: Lists, f: Lists, s: [u64; 8], t: [u64; 8]) ->
     }
 }
 
-fn queue_in(row: &[u64; 96]) -> RunQueue
+fn queue_in(row: &CpuWords) -> RunQueue
     ensures { λ r. ⌜ r ≡ queueIn (now (row .entry)) ⌝ }
 {
     let a = load_lists(row, 0);
@@ -121,7 +122,7 @@ fn queue_in(row: &[u64; 96]) -> RunQueue
     built(a, c, d, f, s, t)
 }
 
-fn queue_into(row: &mut [u64; 96], q: RunQueue)
+fn queue_into(row: &mut CpuWords, q: RunQueue)
     ensures { λ r. ⌜ now (row .exit) ≡ queueInto (now (row .entry)) q ⌝ }
 {
     let realtime = q.realtime;
@@ -140,7 +141,7 @@ fn queue_into(row: &mut [u64; 96], q: RunQueue)
 }
 
 // The run queue of CPU c.
-pub fn load_queue(cpus: &[[u64; 96]], c: u64) -> RunQueue
+pub fn load_queue(cpus: &[CpuWords], c: u64) -> RunQueue
     ensures { λ r. ⌜ r ≡ queueAt (now (cpus .entry)) c ⌝ }
 {
     let i = c as usize;
@@ -151,7 +152,7 @@ pub fn load_queue(cpus: &[[u64; 96]], c: u64) -> RunQueue
     queue_in(&none)
 }
 
-pub fn store_queue(cpus: &mut [[u64; 96]], c: u64, q: RunQueue)
+pub fn store_queue(cpus: &mut [CpuWords], c: u64, q: RunQueue)
     ensures { λ r. ⌜ now (cpus .exit) ≡ queueStored (now (cpus .entry)) c q ⌝ }
 {
     let i = c as usize;

@@ -2,6 +2,9 @@
 ghost use mathlib.Core.Path.{_≡_};
 ghost use Rattle.processor.specs.Words.{word, put-word};
 
+// The words of one CPU.
+pub type CpuWords = [u64; 96];
+
 // The words of the run queue are the first 72. Of them are read by themselves:
 pub const CURRENT_PRIORITY: usize = 61;
 
@@ -40,7 +43,7 @@ pub const CUR_REBALANCE_TIME: usize = 80;
 // What its idle thread has paid of its timeslice.
 pub const IDLE_TIMESLICE: usize = 81;
 
-pub fn word(cpus: &[[u64; 96]], c: u64, w: usize) -> u64
+pub fn word(cpus: &[CpuWords], c: u64, w: usize) -> u64
     ensures { λ r. ⌜ r ≡ word (now (cpus .entry)) c w ⌝ }
 {
     let i = c as usize;
@@ -51,7 +54,7 @@ pub fn word(cpus: &[[u64; 96]], c: u64, w: usize) -> u64
     0
 }
 
-pub fn put_word(cpus: &mut [[u64; 96]], c: u64, w: usize, v: u64)
+pub fn put_word(cpus: &mut [CpuWords], c: u64, w: usize, v: u64)
     ensures { λ r. ⌜ now (cpus .exit) ≡ put-word (now (cpus .entry)) c w v ⌝ }
 {
     let i = c as usize;

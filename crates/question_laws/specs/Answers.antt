@@ -1,5 +1,5 @@
 -- THE QUESTIONS: each, asked of memory that stands for a state which the rules reach, is answered as the rules answer it; so the refusal of every reading
--- is that of the rules. Assumes nothing.
+-- is that of the rules.
 use Prim.Native.Nat.{ℕ, zero, suc, min, _<_}
 use mathlib.Core.Path.{_≡_, refl, sym, ap, _∙_}
 use mathlib.Core.Bool.{Bool, true, false, not, _&&_, _||_, true≢false, Bool·not-not, or-true}
@@ -28,6 +28,7 @@ use Rattle.thread.specs.declared.place.Place.the-variants as place
 use Rattle.thread.specs.Thread.{NONE, BLOCKED, RUNNING, WAITING}
 use Rattle.thread.specs.Place.{place-in, is-declared}
 use Rattle.processor.specs.Words.{word}
+use Rattle.processor.specs.Word.{DECLARED, PLACED}
 use Rattle.lent.specs.Rq.{recordAt}
 use Rattle.memory.specs.Shows.{mark-in, place-at}
 use Rattle.memory.specs.Numbers.{none-number}
@@ -152,10 +153,10 @@ module _ {H : ℕ → List PutOrTake} {ts : List Thread} {cs ns : List (List ℕ
   sealed-same = ap (question 3) (m .sealed)
 
   -- 4
-  pub declared-word : (c : ℕ) → c < s .limits .cpus → mark-in (word cs c 72) ≡ s .topology .declared c
+  pub declared-word : (c : ℕ) → c < s .limits .cpus → mark-in (word cs c DECLARED) ≡ s .topology .declared c
   declared-word c h = m .shows .words c h .declared
 
-  pub unplaced-word : (c : ℕ) → c < s .limits .cpus → eqb (word cs c 73) NONE ≡ not (is-some (s .topology .placed c))
+  pub unplaced-word : (c : ℕ) → c < s .limits .cpus → eqb (word cs c PLACED) NONE ≡ not (is-some (s .topology .placed c))
   unfolding nr-nodes
   unplaced-word c h =
       rw (m .shows .words c h .placed)
@@ -166,7 +167,7 @@ module _ {H : ℕ → List PutOrTake} {ts : List Thread} {cs ns : List (List ℕ
   unfolding ask.declared rules-ask.declared
   declared-same c =
       rw (← cpus-are)
-      (both (ltb c (s .limits .cpus)) (λ e. rw (e, mark-test (word cs c 72)) (declared-word c (ltb-true _ _ e))) (λ e. rw e))
+      (both (ltb c (s .limits .cpus)) (λ e. rw (e, mark-test (word cs c DECLARED)) (declared-word c (ltb-true _ _ e))) (λ e. rw e))
 
   pub cpu-declared-same : (c : ℕ) → ask.cpu-declared cs a c ≡ rules-ask.cpu-declared s c
   unfolding ask.cpu-declared rules-ask.cpu-declared
@@ -177,7 +178,7 @@ module _ {H : ℕ → List PutOrTake} {ts : List Thread} {cs ns : List (List ℕ
   cpu-new-same c =
       rw (← cpus-are)
       (ap (question 4)
-      (both (ltb c (s .limits .cpus)) (λ e. rw (e, zero-test (word cs c 72)) (ap not (declared-word c (ltb-true _ _ e)))) (λ e. rw e)))
+      (both (ltb c (s .limits .cpus)) (λ e. rw (e, zero-test (word cs c DECLARED)) (ap not (declared-word c (ltb-true _ _ e)))) (λ e. rw e)))
 
   pub cpu-unplaced-same : (c : ℕ) → ask.cpu-unplaced cs a c ≡ rules-ask.cpu-unplaced s c
   unfolding ask.cpu-unplaced rules-ask.cpu-unplaced rules-ask.declared
@@ -266,7 +267,7 @@ module _ {H : ℕ → List PutOrTake} {ts : List Thread} {cs ns : List (List ℕ
   pub placed-if-declared-same : (c : ℕ) → c < s .limits .cpus → ask.placed-if-declared cs c ≡ rules-ask.placed-if-declared s c
   unfolding ask.placed-if-declared rules-ask.placed-if-declared
   placed-if-declared-same c h =
-      rw (mark-test (word cs c 72), declared-word c h, unplaced-word c h, Bool·not-not (is-some (s .topology .placed c)))
+      rw (mark-test (word cs c DECLARED), declared-word c h, unplaced-word c h, Bool·not-not (is-some (s .topology .placed c)))
       (both (s .topology .declared c) (λ e. rw e) (λ e. rw e))
 
   pub all-placed-same : ask.all-placed cs a ≡ rules-ask.all-placed s

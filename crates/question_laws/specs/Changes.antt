@@ -1,5 +1,5 @@
 -- THE COMMANDS THAT TOUCH NO QUEUE (hex 01 to 04, 10, 11, 19, 1A): memory that stands for a state stands, once such a command is obeyed, for the state that
--- the rules leave. Assumes nothing.
+-- the rules leave.
 use Prim.Native.Nat.{ℕ, zero, suc, _+_, _^_, _≤_, _<_}
 use mathlib.Core.Path.{_≡_, refl, sym, ap, subst, _∙_}
 use mathlib.Core.Bool.{Bool, true, false, cond, not, _&&_, true≢false}
@@ -32,6 +32,7 @@ use Rattle.thread.specs.Time.{field-of, named-field, named-none}
 use Rattle.thread.specs.Reads.{reads, named, cpu-in}
 use Rattle.thread.specs.Place.{place-in, new, reads-new, critical-mark}
 use Rattle.processor.specs.Words.{width, word, put-word, word-put-other}
+use Rattle.processor.specs.Word.{DECLARED, PLACED}
 use Rattle.nodes.specs.Node.{put-node, linked, add-child, put-cpu, set-cpu-up, set-cpu, length-put-cpu}
 use Rattle.nodes.specs.Words.{length-put as length-node}
 use Rattle.lent.specs.Rq.{recordAt}
@@ -44,7 +45,7 @@ use Rattle.tree.specs.Grown.{tree-child}
 use Rattle.tree.specs.Placed.{tree-declared, tree-placed}
 use Rattle.questions.specs.declared.state.State.{State}
 use Rattle.question_laws.specs.Stands.{limits-in, runs, Stands}
-use Rattle.command.specs.Call.{pin-number}
+use Rattle.outcome.specs.Call.{pin-number}
 
 -- The state by value after a command: the limits stay, and one command more is accepted.
 pub record Counted (a b : State) (sealed : Bool) (tick node-count : ℕ) : Type 0 where
@@ -82,7 +83,7 @@ module _ {limits : Limits} {topology : Topology} {known active : ℕ → Bool} {
         (λ e. rw (e, eqb-true d c e) (word-here cs c u i v (in-rows s c near) (s .rows c near) h l))
         (λ e. rw (e, word-put-other cs c d u i v (λ r q. eqb-false d c e q)) (both (eqb i u) (λ q. rw (q, eqb-true i u q)) (λ q. rw q)))
 
-    declared-words : (d : ℕ) → d < limits .cpus → Words-show (with-cpu-declared topology c) (put-word cs c 72 1) d (w .cpus d)
+    declared-words : (d : ℕ) → d < limits .cpus → Words-show (with-cpu-declared topology c) (put-word cs c DECLARED 1) d (w .cpus d)
     unfolding with-cpu-declared at mark-in
     declared-words d h =
         let was : Words-show topology cs d (w .cpus d) = s .words d h in
@@ -99,7 +100,7 @@ module _ {limits : Limits} {topology : Topology} {known active : ℕ → Bool} {
           idle-timeslice = was .idle-timeslice;
         })
 
-    placed-words : (n d : ℕ) → d < limits .cpus → Words-show (with-placed topology n c) (put-word cs c 73 n) d (w .cpus d)
+    placed-words : (n d : ℕ) → d < limits .cpus → Words-show (with-placed topology n c) (put-word cs c PLACED n) d (w .cpus d)
     unfolding with-placed at number-or-none
     placed-words n d h =
         let was : Words-show topology cs d (w .cpus d) = s .words d h in
@@ -116,10 +117,10 @@ module _ {limits : Limits} {topology : Topology} {known active : ℕ → Bool} {
           idle-timeslice = was .idle-timeslice;
         })
 
-    shows-declared : Shows limits (with-cpu-declared topology c) known active ts (put-word cs c 72 1) w
+    shows-declared : Shows limits (with-cpu-declared topology c) known active ts (put-word cs c DECLARED 1) w
     shows-declared = shows-words s _ _ c w (beside-put cs c 72 1 (in-rows s c near) (omega arith) (omega arith)) (λ d. refl) (λ x. refl) declared-words
 
-    shows-placed : (n : ℕ) → Shows limits (with-placed topology n c) known active ts (put-word cs c 73 n) w
+    shows-placed : (n : ℕ) → Shows limits (with-placed topology n c) known active ts (put-word cs c PLACED n) w
     shows-placed n = shows-words s _ _ c w (beside-put cs c 73 n (in-rows s c near) (omega arith) (omega arith)) (λ d. refl) (λ x. refl) (placed-words n)
 
   -- the record of a thread that is not known, and so neither runs nor waits, is written as that of one declared
@@ -165,12 +166,12 @@ module _ {H : ℕ → List PutOrTake} {ts : List Thread} {cs ns : List (List ℕ
 
   -- 01
   pub stands-declare-cpu : (c used : ℕ) (b : State) → Counted a b (s .sealed) (s .tick) (length (s .topology .nodes)) → refusal s (asks (declare-cpu c) used) ≡ 0
-      → Stands ts (put-word cs c 72 1) ns b (obeys s (declare-cpu c) .state)
+      → Stands ts (put-word cs c DECLARED 1) ns b (obeys s (declare-cpu c) .state)
   unfolding obeys refusal concerning open-yet cpu-new with-cpu-declared
   stands-declare-cpu c used b n e =
       let new = yes 3 _ _ (yes 2 _ _ e .1) in
       let near : c < s .limits .cpus = ltb-true _ _ (and-left (ltb c (s .limits .cpus)) (not (s .topology .declared c)) (new .0)) in
-      stands-changed ts (put-word cs c 72 1) ns b (with-cpu-declared (s .topology) c) (s .sealed) (s .tick) (s .known) (s .threads) n
+      stands-changed ts (put-word cs c DECLARED 1) ns b (with-cpu-declared (s .topology) c) (s .sealed) (s .tick) (s .known) (s .threads) n
       (tree-declared (s .limits) ns (s .topology) c (m .tree)) (m .rows) (shows-declared shows-now c near) (m .nodes-fit) (m .tick-fits)
 
   -- 02
@@ -195,7 +196,7 @@ module _ {H : ℕ → List PutOrTake} {ts : List Thread} {cs ns : List (List ℕ
 
   -- 03
   pub stands-place-cpu : (n c used : ℕ) (b : State) → Counted a b (s .sealed) (s .tick) (length (s .topology .nodes)) → refusal s (asks (place-cpu n c) used) ≡ 0
-      → Stands ts (put-word cs c 73 n) (set-cpu ns n c) b (obeys s (place-cpu n c) .state)
+      → Stands ts (put-word cs c PLACED n) (set-cpu ns n c) b (obeys s (place-cpu n c) .state)
   unfolding obeys refusal concerning open-yet cpu-unplaced declared node-exists node-childless with-placed nr-nodes set-cpu
   stands-place-cpu n c used b k e =
       let free = yes 3 _ _ (yes 2 _ _ e .1) in
@@ -206,7 +207,7 @@ module _ {H : ℕ → List PutOrTake} {ts : List Thread} {cs ns : List (List ℕ
       let near : c < s .limits .cpus = ltb-true _ _ (and-left (ltb c (s .limits .cpus)) (s .topology .declared c) named) in
       let unplaced : s .topology .placed c ≡ none =
       no-some (s .topology .placed c) (not-true _ (and-right (ltb c (s .limits .cpus) && s .topology .declared c) (not (is-some (s .topology .placed c))) (free .0))) in
-      stands-changed ts (put-word cs c 73 n) (set-cpu ns n c) b (with-placed (s .topology) n c) (s .sealed) (s .tick) (s .known) (s .threads) k
+      stands-changed ts (put-word cs c PLACED n) (set-cpu ns n c) b (with-placed (s .topology) n c) (s .sealed) (s .tick) (s .known) (s .threads) k
       (tree-placed (s .limits) ns (s .topology) (m .tree) n c there (childless .0) near unplaced) (rw (length-placed (length ns) ns n c) (m .rows)) (shows-placed shows-now c near n) (m .nodes-fit) (m .tick-fits)
 
   -- 04

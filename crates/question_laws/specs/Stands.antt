@@ -1,5 +1,5 @@
 -- WHAT LENT MEMORY STANDS FOR: thread records ts, words cs of the CPUs, words ns of the nodes and the state by value, of one State of the rules. A reader
--- reads all of this file, after memory's Shows and tree's Tree. Assumes nothing.
+-- reads all of this file, after memory's Shows and tree's Tree.
 use Prim.Native.Nat.{ℕ, _^_, _≤_}
 use mathlib.Core.Path.{_≡_}
 use mathlib.Core.Bool.{Bool}

@@ -1,4 +1,4 @@
--- THE LIBRARY'S START: cleared records, new CPUs and the root alone stand for the rules' start. Any limits. Assumes nothing.
+-- THE LIBRARY'S START: cleared records, new CPUs and the root alone stand for the rules' start. Any limits.
 use Prim.Native.Nat.{ℕ, zero, suc, _≤_, _<_}
 use mathlib.Core.Path.{_≡_, refl, sym, _∙_}
 use mathlib.Core.Logic.{_≢_}
@@ -24,6 +24,7 @@ use Rattle.queue.specs.Timeshare.{noTimeshare}
 use Rattle.runqueue.specs.RunQueue.{noRunQueue}
 use Rattle.processor.specs.Words.{width, word}
 use Rattle.processor.specs.Queue.{queueAt, queueStored, Eights, queue-after-store, queue-elsewhere, row-length-store, length-store}
+use Rattle.processor.specs.Word.{DECLARED, PLACED, RUNNING, OWN-PRIORITY, IS-IDLE, MUST-REBALANCE, PREEMPT, RAND-STATE, CUR-REBALANCE-TIME, IDLE-TIMESLICE}
 use Rattle.topology.specs.CpuSet.{max-cpu-id}
 use Rattle.nodes.specs.Node.{new-root, put-node}
 use Rattle.lent.specs.Rq.{recordAt}
@@ -68,8 +69,8 @@ module _ (cs : List (List ℕ)) (c : ℕ) (h : c < length cs) (l : length (getD 
   long-stored = row-length-store cs c c noRunQueue ∙ l
 
   all-written : Written stored (newCpu cs c) c
-      (λ i. cond (eqb i 81) 0 (cond (eqb i 80) 0 (cond (eqb i 79) 0 (cond (eqb i 78) 0 (cond (eqb i 77) 0
-      (cond (eqb i 76) 1 (cond (eqb i 75) 0 (cond (eqb i 74) NONE (cond (eqb i 73) NONE (cond (eqb i 72) 0 (word stored c i)))))))))))
+      (λ i. cond (eqb i IDLE-TIMESLICE) 0 (cond (eqb i CUR-REBALANCE-TIME) 0 (cond (eqb i RAND-STATE) 0 (cond (eqb i PREEMPT) 0 (cond (eqb i MUST-REBALANCE) 0
+      (cond (eqb i IS-IDLE) 1 (cond (eqb i OWN-PRIORITY) 0 (cond (eqb i RUNNING) NONE (cond (eqb i PLACED) NONE (cond (eqb i DECLARED) 0 (word stored c i)))))))))))
   unfolding newCpu newMarks newNumbers
   all-written =
       written-put 81 0 in-stored long-stored (omega arith) (omega arith)

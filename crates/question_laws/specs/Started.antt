@@ -1,4 +1,4 @@
--- WHAT `start` LEAVES stands for the rules' start with the base's limits. Assumes nothing.
+-- WHAT `start` LEAVES stands for the rules' start with the base's limits.
 use Prim.Native.Nat.{ℕ, _≤_, _<_}
 use mathlib.Core.Path.{_≡_, refl}
 use mathlib.Core.Bool.{true, false, true≢false}
@@ -34,7 +34,7 @@ small-base = record { cpus = omega arith; threads = omega arith; shortest = omeg
 
 pub start-stands : (ts : List Thread) (cs ns : List (List ℕ)) → noRoom (length ts) (length cs) (length ns) ≡ false → length ts ≤ NONE
     → ((c : ℕ) → c < length cs → length (getD cs c []) ≡ width) → Sized ns
-    → Stands (startDef ts cs ns .threads) (startDef ts cs ns .cpus) (startDef ts cs ns .nodes) initial (start base-limits)
+    → Stands (startDef (record { threads = ts; cpus = cs; nodes = ns }) .memory .threads) (startDef (record { threads = ts; cpus = cs; nodes = ns }) .memory .cpus) (startDef (record { threads = ts; cpus = cs; nodes = ns }) .memory .nodes) initial (start base-limits)
 unfolding startDef base-limits limits-in initial request.width max-cpu-id
 start-stands ts cs ns e most rows sized =
     let r : (1024 ≤ length ts) × ((64 ≤ length cs) × (128 ≤ length ns)) = room-enough (length ts) (length cs) (length ns) e in

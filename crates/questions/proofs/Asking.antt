@@ -1,4 +1,4 @@
--- One question after another, and a test of all numbers below an end. Assumes nothing.
+-- One question after another, and a test of all numbers below an end.
 use Prim.Native.Nat.{ℕ, zero, suc, _+_, _<_, _≤_}
 use mathlib.Core.Path.{_≡_, refl, sym, _∙_}
 use mathlib.Core.Bool.{Bool, true, false, cond, _&&_}

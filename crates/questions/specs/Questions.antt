@@ -1,5 +1,5 @@
 -- The questions of document 01 as lent memory answers them: the words of the CPUs and nodes, the record of the thread that is named, and the state.
--- The same questions in the same order as in the rules. Assumes nothing.
+-- The same questions in the same order as in the rules.
 use Prim.Native.Nat.{ℕ, zero, suc, min}
 use mathlib.Core.Bool.{Bool, true, false, cond, not, _&&_}
 use mathlib.Core.Option.{Option, none, some}
@@ -12,16 +12,10 @@ use Rattle.rules.specs.Questions.{Question, question, priority-in-range, at-mos
 use Rattle.thread.specs.declared.Thread.{Thread}
 use Rattle.thread.specs.Thread.{NONE, BLOCKED}
 use Rattle.thread.specs.Place.{place-in, is-declared}
+use Rattle.processor.specs.Word.{DECLARED, PLACED}
 use Rattle.processor.specs.Words.{word}
 use Rattle.nodes.specs.Node.{has-children, has-cpus}
 use Rattle.questions.specs.declared.state.State.{State}
-
--- the words of a CPU that the questions look at: 1 if it is declared, and the node on which it was put
-abbrev pub DECLARED : ℕ
-DECLARED = 72
-
-abbrev pub PLACED : ℕ
-PLACED = 73
 
 -- 3
 unfoldable pub open-yet : State → Question

@@ -6,13 +6,14 @@ ghost use Rattle.request.specs.Request.{pin-option};
 ghost use Rattle.rules.specs.State.{all-below};
 ghost use Rattle.questions.specs.Questions.{declared, cpu-new, cpu-unplaced, pin-declared, placed-if-declared, all-placed};
 use crate::state::State;
+use processor::words::CpuWords;
 use processor::words::DECLARED;
 use processor::words::PLACED;
 use processor::words::word;
 use request::Pin;
 use thread::NONE;
 
-pub fn declared(cpus: &[[u64; 96]], state: State, c: u64) -> bool
+pub fn declared(cpus: &[CpuWords], state: State, c: u64) -> bool
     ensures { λ r. ⌜ r ≡ declared (now (cpus .entry)) state c ⌝ }
 {
     if c < state.cpus {
@@ -21,7 +22,7 @@ pub fn declared(cpus: &[[u64; 96]], state: State, c: u64) -> bool
     false
 }
 
-pub fn new(cpus: &[[u64; 96]], state: State, c: u64) -> bool
+pub fn new(cpus: &[CpuWords], state: State, c: u64) -> bool
     ensures { λ r. ⌜ r ≡ cpu-new (now (cpus .entry)) state c .answer ⌝ }
 {
     if c < state.cpus {
@@ -30,7 +31,7 @@ pub fn new(cpus: &[[u64; 96]], state: State, c: u64) -> bool
     false
 }
 
-pub fn unplaced(cpus: &[[u64; 96]], state: State, c: u64) -> bool
+pub fn unplaced(cpus: &[CpuWords], state: State, c: u64) -> bool
     ensures { λ r. ⌜ r ≡ cpu-unplaced (now (cpus .entry)) state c .answer ⌝ }
 {
     if declared(cpus, state, c) {
@@ -39,7 +40,7 @@ pub fn unplaced(cpus: &[[u64; 96]], state: State, c: u64) -> bool
     false
 }
 
-pub fn pin_declared(cpus: &[[u64; 96]], state: State, pin: Pin) -> bool
+pub fn pin_declared(cpus: &[CpuWords], state: State, pin: Pin) -> bool
     ensures { λ r. ⌜ r ≡ pin-declared (now (cpus .entry)) state (pin-option pin) .answer ⌝ }
 {
     match pin {
@@ -48,7 +49,7 @@ pub fn pin_declared(cpus: &[[u64; 96]], state: State, pin: Pin) -> bool
     }
 }
 
-fn placed_if_declared(cpus: &[[u64; 96]], c: u64) -> bool
+fn placed_if_declared(cpus: &[CpuWords], c: u64) -> bool
     ensures { λ r. ⌜ r ≡ placed-if-declared (now (cpus .entry)) c ⌝ }
 {
     if 0 < word(cpus, c, DECLARED) {
@@ -68,7 +69,7 @@ fn lesser(a: u64, b: usize) -> u64
 }
 
 // The CPU numbers are gone through one after the other.
-fn every_placed(cpus: &[[u64; 96]], limit: u64) -> bool
+fn every_placed(cpus: &[CpuWords], limit: u64) -> bool
     ensures { λ r. ⌜ r ≡ all-below (min limit (length (now (cpus .entry)))) (placed-if-declared (now (cpus .entry))) ⌝ }
 {
     let end = lesser(limit, cpus.len());
@@ -83,7 +84,7 @@ fn every_placed(cpus: &[[u64; 96]], limit: u64) -> bool
     true
 }
 
-pub fn all_placed(cpus: &[[u64; 96]], state: State) -> bool
+pub fn all_placed(cpus: &[CpuWords], state: State) -> bool
     ensures { λ r. ⌜ r ≡ all-placed (now (cpus .entry)) state .answer ⌝ }
 {
     if declared(cpus, state, 0) {

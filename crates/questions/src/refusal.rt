@@ -14,6 +14,8 @@ use crate::state::State;
 use lines::Refusal;
 use nodes::node::has_children;
 use nodes::node::has_cpus;
+use nodes::words::NodeWords;
+use processor::words::CpuWords;
 use request::Pin;
 use request::Reading;
 use request::Request;
@@ -32,7 +34,7 @@ fn last(state: State) -> Refusal
     Refusal::TooMany
 }
 
-fn declare_cpu(cpus: &[[u64; 96]], state: State, c: u64) -> Refusal
+fn declare_cpu(cpus: &[CpuWords], state: State, c: u64) -> Refusal
     ensures { λ r. ⌜ refusal-number r ≡ first-no (open-yet state ∷ cpu-new (now (cpus .entry)) state c ∷ room state ∷ []) ⌝ }
 {
     if state.sealed {
@@ -45,7 +47,7 @@ fn declare_cpu(cpus: &[[u64; 96]], state: State, c: u64) -> Refusal
 }
 
 // Of a new child node, whose type is in range or not.
-fn add_node(nodes: &[[u64; 32]], state: State, p: u64, ranges: bool) -> Refusal
+fn add_node(nodes: &[NodeWords], state: State, p: u64, ranges: bool) -> Refusal
     ensures { λ r. ⌜ refusal-number r ≡ first-no (open-yet state ∷ question 6 ranges ∷ node-exists state p ∷ parent-without-cpus (now (nodes .entry)) p ∷ node-fits state ∷ room state ∷ []) ⌝ }
 {
     if state.sealed {
@@ -64,7 +66,7 @@ fn add_node(nodes: &[[u64; 32]], state: State, p: u64, ranges: bool) -> Refusal
     Refusal::OutOfRange
 }
 
-fn place_cpu(cpus: &[[u64; 96]], nodes: &[[u64; 32]], state: State, n: u64, c: u64) -> Refusal
+fn place_cpu(cpus: &[CpuWords], nodes: &[NodeWords], state: State, n: u64, c: u64) -> Refusal
     ensures { λ r. ⌜ refusal-number r ≡ first-no (open-yet state ∷ cpu-unplaced (now (cpus .entry)) state c ∷ node-exists state n ∷ node-childless (now (nodes .entry)) n ∷ room state ∷ []) ⌝ }
 {
     if state.sealed {
@@ -82,7 +84,7 @@ fn place_cpu(cpus: &[[u64; 96]], nodes: &[[u64; 32]], state: State, n: u64, c: u
     Refusal::Cpu
 }
 
-fn seal(cpus: &[[u64; 96]], state: State) -> Refusal
+fn seal(cpus: &[CpuWords], state: State) -> Refusal
     ensures { λ r. ⌜ refusal-number r ≡ first-no (open-yet state ∷ all-placed (now (cpus .entry)) state ∷ room state ∷ []) ⌝ }
 {
     if state.sealed {
@@ -108,7 +110,7 @@ fn thread_new(x: u64, t: Thread) -> bool
 }
 
 fn declare_thread(
-    cpus: &[[u64; 96]],
+    cpus: &[CpuWords],
     state: State,
     t: Thread,
     x: u64,
@@ -144,7 +146,7 @@ fn set_tick(state: State, tick: u64) -> Refusal
     Refusal::WrongSideOfSeal
 }
 
-fn schedule_thread(cpus: &[[u64; 96]], state: State, t: Thread, c: u64) -> Refusal
+fn schedule_thread(cpus: &[CpuWords], state: State, t: Thread, c: u64) -> Refusal
     ensures { λ r. ⌜ refusal-number r ≡ first-no (sealed-now state ∷ cpu-declared (now (cpus .entry)) state c ∷ thread-declared t ∷ thread-blocked t ∷ room state ∷ []) ⌝ }
 {
     if state.sealed {
@@ -163,7 +165,7 @@ fn schedule_thread(cpus: &[[u64; 96]], state: State, t: Thread, c: u64) -> Refus
 }
 
 // Of a command that CPU c runs, whose other operands are in range or not.
-fn on_cpu(cpus: &[[u64; 96]], state: State, c: u64, ranges: bool) -> Refusal
+fn on_cpu(cpus: &[CpuWords], state: State, c: u64, ranges: bool) -> Refusal
     ensures { λ r. ⌜ refusal-number r ≡ first-no (sealed-now state ∷ cpu-declared (now (cpus .entry)) state c ∷ question 6 ranges ∷ room state ∷ []) ⌝ }
 {
     if state.sealed {
@@ -178,7 +180,7 @@ fn on_cpu(cpus: &[[u64; 96]], state: State, c: u64, ranges: bool) -> Refusal
     Refusal::WrongSideOfSeal
 }
 
-fn donate(cpus: &[[u64; 96]], state: State, t: Thread, c: u64, ranges: bool) -> Refusal
+fn donate(cpus: &[CpuWords], state: State, t: Thread, c: u64, ranges: bool) -> Refusal
     ensures { λ r. ⌜ refusal-number r ≡ first-no (sealed-now state ∷ cpu-declared (now (cpus .entry)) state c ∷ thread-declared t ∷ question 6 ranges ∷ room state ∷ []) ⌝ }
 {
     if state.sealed {
@@ -214,8 +216,8 @@ fn of_thread(state: State, t: Thread, ranges: bool) -> Refusal
 
 // Of a request; t is the record of the thread that it names.
 fn asked(
-    cpus: &[[u64; 96]],
-    nodes: &[[u64; 32]],
+    cpus: &[CpuWords],
+    nodes: &[NodeWords],
     state: State,
     t: Thread,
     request: Request,
@@ -257,8 +259,8 @@ fn asked(
 
 // The refusal of what was read; t is the record of the thread that it names.
 pub fn refusal_of(
-    cpus: &[[u64; 96]],
-    nodes: &[[u64; 32]],
+    cpus: &[CpuWords],
+    nodes: &[NodeWords],
     state: State,
     t: Thread,
     reading: Reading,

@@ -1,4 +1,4 @@
--- The lists as the code has them: the first and the last thread of each. Assumes nothing.
+-- The lists as the code has them: the first and the last thread of each.
 use Prim.Native.Nat.{ℕ, zero, suc, _+_, _-_, _*_, _%_, _≤_, _<_}
 use mathlib.Core.Path.{_≡_}
 use native.Mathlib.Omega.{arith}

@@ -1,4 +1,4 @@
--- Sums, differences and products modulo 2^64: what the code's counters do on any numbers. Assumes nothing.
+-- Sums, differences and products modulo 2^64: what the code's counters do on any numbers.
 use Prim.Native.Nat.{ℕ, _+_, _-_, _*_, _%_, _^_, _≤_, _<_}
 use mathlib.Core.Path.{_≡_}
 use native.Mathlib.Nat.{mul-le-mul}

@@ -1,4 +1,4 @@
--- The realtime and the idle part as the code has them. Assumes nothing.
+-- The realtime and the idle part as the code has them.
 use Prim.Native.Nat.{ℕ}
 use mathlib.Core.Bool.{Bool, cond}
 use lib.Dec.{eqb}

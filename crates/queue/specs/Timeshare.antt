@@ -1,4 +1,4 @@
--- The timeshare part as the code has it. Assumes nothing.
+-- The timeshare part as the code has it.
 use Prim.Native.Nat.{ℕ, zero, suc, _+_, _-_, _*_, _/_, _%_, _≤_}
 use mathlib.Core.Path.{_≡_, refl}
 use native.Mathlib.Omega.{arith}

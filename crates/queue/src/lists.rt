@@ -50,7 +50,7 @@ impl Lists {
         }
     }
 
-    // The thread that stands behind `previous` (NONE: at the head) and leads to `next` leaves. Whoever has the records leads `previous` to `next`.
+    // Removes the thread between previous (NONE: it is the first) and next; the caller relinks previous.
     pub fn unlink(mut self, bucket: u64, previous: u64, next: u64) -> Self
         ensures { λ r. ⌜ r ≡ unlinked self bucket previous next ⌝ }
     {

@@ -5,6 +5,8 @@ use feed::fed::begin;
 use feed::feed::feed;
 use feed::start::Started;
 use feed::start::start;
+use nodes::words::NodeWords;
+use processor::words::CpuWords;
 use questions::state::State;
 use thread::Thread;
 use thread::blank;
@@ -76,8 +78,8 @@ fn turns() -> u64 {
 
 fn serve(
     threads: &mut [Thread],
-    cpus: &mut [[u64; 96]],
-    nodes: &mut [[u64; 32]],
+    cpus: &mut [CpuWords],
+    nodes: &mut [NodeWords],
     input: &mut [u8],
     output: &mut [u8],
     begun: Serving,
@@ -130,11 +132,11 @@ fn nothing() -> Fed {
     }
 }
 
-fn no_cpu() -> [u64; 96] {
+fn no_cpu() -> CpuWords {
     [0; 96]
 }
 
-fn no_node() -> [u64; 32] {
+fn no_node() -> NodeWords {
     [0; 32]
 }
 

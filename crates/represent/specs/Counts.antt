@@ -1,4 +1,4 @@
--- Counts: how many of a line have a mark, and the code's sums, which go round, on numbers that stay small. Assumes nothing.
+-- Counts: how many of a line have a mark, and the code's sums, which go round, on numbers that stay small.
 use Prim.Native.Nat.{ℕ, suc, _+_, _-_, _/_, _≤_, _<_}
 use mathlib.Core.Path.{_≡_, refl, _∙_}
 use mathlib.Core.Bool.{Bool, true, false, cond, not}

@@ -1,5 +1,4 @@
 -- One list of threads that runs through the thread records: from the first by each one's link to the last, whose link leads nowhere.
--- Assumes nothing.
 use Prim.Native.Nat.{ℕ, zero, suc, _≤_, _<_}
 use mathlib.Core.Path.{_≡_, refl, sym, _∙_}
 use mathlib.Core.Logic.{_⊎_, inl, inr}

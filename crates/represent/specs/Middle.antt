@@ -1,5 +1,5 @@
 -- A LEAVING FROM THE MIDDLE OF A BUCKET: `unlink` with the thread before, whose link is led past the one that leaves. In the base nobody stands before
--- a thread that leaves. Assumes nothing.
+-- a thread that leaves.
 use Prim.Native.Nat.{ℕ, _<_}
 use mathlib.Core.Path.{_≡_, refl, sym, _∙_}
 use mathlib.Core.Bool.{true, false, cond, true≢false}

@@ -1,4 +1,4 @@
--- THE LAWS OF ONE RUN QUEUE: what a put, a look, a take, a clock and a hard tick of the code's run queue do is what the rules' do. Assumes nothing.
+-- THE LAWS OF ONE RUN QUEUE: what a put, a look, a take, a clock and a hard tick of the code's run queue do is what the rules' do.
 use Prim.Native.Nat.{ℕ, zero, suc, _+_, _-_, _*_, _/_, _%_, _^_, _≤_, _<_}
 use mathlib.Core.Path.{_≡_, refl, sym, ap, _∙_}
 use mathlib.Core.Bool.{Bool, true, false, cond, _&&_, _||_, true≢false}

@@ -1,4 +1,4 @@
--- The parts of a run queue, with their counts: what a put, a take and a look do to them. Assumes nothing.
+-- The parts of a run queue, with their counts: what a put, a take and a look do to them.
 use Prim.Native.Nat.{ℕ, zero, suc, _+_, _-_, _*_, _/_, _%_, _≤_, _<_}
 use mathlib.Core.Path.{_≡_, refl, sym, ap, _∙_}
 use mathlib.Core.Bool.{Bool, true, false, cond, false≢true}

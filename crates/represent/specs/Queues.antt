@@ -1,4 +1,4 @@
--- THE RUN QUEUES OF ALL CPUS OVER ONE SLICE OF RECORDS: what one does leaves the others as they are. Assumes nothing.
+-- THE RUN QUEUES OF ALL CPUS OVER ONE SLICE OF RECORDS: what one does leaves the others as they are.
 use Prim.Native.Nat.{ℕ, _≤_, _<_}
 use mathlib.Core.Path.{_≡_, refl, sym, _∙_}
 use mathlib.Core.Bool.{Bool, true, false, _&&_, true≢false}

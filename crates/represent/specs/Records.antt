@@ -1,4 +1,4 @@
--- THE RECORDS: what run queues ask of a list of thread records, and that the writes of a put and of a take are those of Well.antt. Assumes nothing.
+-- THE RECORDS: what run queues ask of a list of thread records, and that the writes of a put and of a take are those of Well.antt.
 use Prim.Native.Nat.{ℕ, _<_}
 use mathlib.Core.Path.{_≡_, refl, ap, _∙_}
 use mathlib.Core.Logic.{inl, inr}

@@ -1,4 +1,4 @@
--- One part of a run queue: the code's first and last threads of each list, and the links, show the buckets. Assumes nothing.
+-- One part of a run queue: the code's first and last threads of each list, and the links, show the buckets.
 use Prim.Native.Nat.{ℕ, zero, suc, _+_, _-_, _%_, _≤_, _<_}
 use mathlib.Core.Path.{_≡_, refl, sym, ap, _∙_}
 use mathlib.Core.Bool.{true, false, cond, true≢false}

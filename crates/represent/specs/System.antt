@@ -1,6 +1,6 @@
 -- THE LAWS OF PUT, TAKE, STEAL, CLOCK AND HARD TICK IN LENT MEMORY: over the thread records ts and the words cs of n CPUs, each leaves what is well
 -- formed well formed; the queue of its CPU then reads as the rules' function of what it read before, and every other CPU's reads as before.
--- Any number of CPUs and threads. Assumes nothing.
+-- Any number of CPUs and threads.
 use Prim.Native.Nat.{ℕ, _-_, _^_, _≤_, _<_}
 use mathlib.Core.Path.{_≡_, refl, sym, subst, _∙_}
 use mathlib.Core.Logic.{inl, inr}
@@ -35,8 +35,10 @@ use Rattle.represent.specs.Linked.{Behind-in}
 use Rattle.represent.specs.Well.{Marks, Reading, Well, reading, new-reading, put-reading, take-reading, clock-reading, hardtick-reading, marks-after}
 use Rattle.represent.specs.Operations.{reading-is, hardtick-ticks, put-behind, new-well}
 use Rattle.represent.specs.Queues.{waits, All-well, Agree, All-follow, all-frame, all-take, all-put, all-clock, all-hardtick}
+use Rattle.lent.specs.declared.rq.Taken.{Taken}
 use Rattle.lent.specs.declared.rq.Taken.the-variants as taken
-use Rattle.lent.specs.Rq.{recordAt, arrivalOf, putOf, insertDef, leftBy, Took, tookFrom, takeDef, clockDef, hardtickDef}
+use Rattle.lent.specs.Left.{Memory, mem, Left}
+use Rattle.lent.specs.Rq.{recordAt, arrivalOf, putOf, insertDef, leftBy, tookFrom, takeDef, clockDef, hardtickDef}
 use Rattle.represent.specs.Records.{marks, marks-kept, marks-put, length-put}
 
 -- ---- what a reader reads
@@ -54,10 +56,10 @@ abbrev pub arriving : List Thread → ℕ → ℕ → Bool → Arrival
 arriving ts x tick current = arrivalOf (recordAt ts x) x tick current
 
 -- A take at CPU c where the rules ask for a: nobody comes out and nothing changes, or the thread that the rules hand out.
-unfoldable pub Taken-as : ℕ → ℕ → List Thread → List (List ℕ) → (ℕ → Reading) → ℕ → Took → Next → Type 0
-Taken-as limit n ts cs Rs c d nobody = d ≡ record { answer = taken.Nobody; threads = ts; cpus = cs }
+unfoldable pub Taken-as : ℕ → ℕ → List Thread → List (List ℕ) → (ℕ → Reading) → ℕ → Left Taken Memory → Next → Type 0
+Taken-as limit n ts cs Rs c d nobody = d ≡ record { answer = taken.Nobody; memory = mem ts cs }
 Taken-as limit n ts cs Rs c d (next-in p b x) =
-    (d .answer ≡ taken.Thread x) × Good limit n (d .threads) (d .cpus) (at Rs c (take-reading (marks ts .value) (Rs c) p b))
+    (d .answer ≡ taken.Thread x) × Good limit n (d .memory .threads) (d .memory .cpus) (at Rs c (take-reading (marks ts .value) (Rs c) p b))
 
 -- ---- for proofs
 
@@ -130,30 +132,30 @@ module _ (limit n : ℕ) (ts : List Thread) (cs : List (List ℕ)) (Rs : ℕ →
     module _ (small : limit ≤ NONE) where
       -- A PUT of a thread that waits nowhere
       pub put-law : (x tick : ℕ) (current : Bool) → x < limit → ((d : ℕ) → d < n → waits Rs d x ≡ false)
-          → (let d = insertDef ts cs c x tick current in
+          → (let d = insertDef c x tick current (mem ts cs) in
           Good limit n (d .threads) (d .cpus) (at Rs c (put-reading (Rs c) (arriving ts x tick current))))
       unfolding insertDef
       put-law x tick current xn free =
           let a : Arrival = arriving ts x tick current in
-          let u : Put = putOf ts cs c x tick current in
+          let u : Put = putOf c x tick current (mem ts cs) in
           let xl : x < length ts = omega (arith, g .records) in
           let vn = arrival-value (recordAt ts x) x tick current in
           let tn : a .thread < limit = unfold arrivalOf in xn in
           let pin : marks ts .pinned (a .thread) ≡ a .pinned = unfold arrivalOf marks in refl in
           let fr : (d : ℕ) → d < n → waits Rs d (a .thread) ≡ false = unfold arrivalOf in free in
           let k : Behind-in (length ts) (u .behind) = behind-more limit (length ts) (u .behind) (g .records) (put-behind limit small (marks ts) (queueAt cs c) (Rs c) (g .shows .each c cn) a vn tn (fr c cn) pin) in
-          let e : marks (insertDef ts cs c x tick current .threads) ≡ marks-after (marks ts) u a = marks-put ts x xl (u .part) (u .behind) k ∙ (unfold marks-after arrivalOf in refl) in
-          stored (insertDef ts cs c x tick current .threads) (u .queue) _ (rw (length-put ts x xl (u .part) (u .behind)) (g .records))
+          let e : marks (insertDef c x tick current (mem ts cs) .threads) ≡ marks-after (marks ts) u a = marks-put ts x xl (u .part) (u .behind) k ∙ (unfold marks-after arrivalOf in refl) in
+          stored (insertDef c x tick current (mem ts cs) .threads) (u .queue) _ (rw (length-put ts x xl (u .part) (u .behind)) (g .records))
           (subst (λ (m : Marks). All-well limit n m (at (queueAt cs) c (u .queue)) (at Rs c (put-reading (Rs c) a))) (sym e)
           (all-put limit n (marks ts) (queueAt cs) Rs (g .shows) c cn small a vn tn pin fr))
 
-      nothing-law : (a : Next) → a ≡ nobody → Taken-as limit n ts cs Rs c (tookFrom ts cs c front.Nothing) a
+      nothing-law : (a : Next) → a ≡ nobody → Taken-as limit n ts cs Rs c (tookFrom c front.Nothing (mem ts cs)) a
       unfolding Taken-as tookFrom
       nothing-law a e = rw e
 
       some-law : (p : Part) (b x : ℕ) (a : Next) → a ≡ next-in p b x
           → All-well limit n (marks ts) (at (queueAt cs) c (rqTaken (queueAt cs c) (front.At p b x) NONE (marks ts .next x) (marks ts .value x) (marks ts .pinned x))) (at Rs c (take-reading (marks ts .value) (Rs c) p b))
-          → Taken-as limit n ts cs Rs c (tookFrom ts cs c (front.At p b x)) a
+          → Taken-as limit n ts cs Rs c (tookFrom c (front.At p b x) (mem ts cs)) a
       unfolding Taken-as tookFrom
       some-law p b x a e w =
           let t : Thread = with-place (recordAt ts x) RUNNING in
@@ -166,25 +168,25 @@ module _ (limit n : ℕ) (ts : List Thread) (cs : List (List ℕ)) (Rs : ℕ →
           )
 
       -- A TAKE, the CPU's own or stealing
-      pub take-law : (stealing : Bool) → Taken-as limit n ts cs Rs c (takeDef ts cs c stealing) (asked (marks ts .pinned) (Rs c .queue) stealing)
+      pub take-law : (stealing : Bool) → Taken-as limit n ts cs Rs c (takeDef c stealing (mem ts cs)) (asked (marks ts .pinned) (Rs c .queue) stealing)
       unfolding takeDef
       take-law stealing = go (rqFront (queueAt cs c) stealing) (asked (marks ts .pinned) (Rs c .queue) stealing) (all-take limit n (marks ts) (queueAt cs) Rs (g .shows) c cn small stealing)
         where
-          go : (f : Front) (a : Next) → All-follow limit n (marks ts) (queueAt cs) Rs c f a → Taken-as limit n ts cs Rs c (tookFrom ts cs c f) a
+          go : (f : Front) (a : Next) → All-follow limit n (marks ts) (queueAt cs) Rs c f a → Taken-as limit n ts cs Rs c (tookFrom c f (mem ts cs)) a
           go front.Nothing a e = nothing-law a (unfold All-follow in e)
           go (front.At p b x) a e = some-law p b x a (unfold All-follow in e .0) (unfold All-follow in e .1)
 
       -- A CLOCK
-      pub clock-law : Good limit n ts (clockDef cs c) (at Rs c (clock-reading (Rs c)))
+      pub clock-law : Good limit n ts (clockDef c cs) (at Rs c (clock-reading (Rs c)))
       unfolding clockDef
       clock-law = stored ts (rqClock (queueAt cs c)) _ (g .records) (all-clock limit n (marks ts) (queueAt cs) Rs (g .shows) c cn small)
 
       -- A HARD TICK: the queue, and the ticks since the last one
-      pub hardtick-law : (now : ℕ) → Good limit n ts (hardtickDef cs c now .cpus) (at Rs c (hardtick-reading (Rs c) now))
+      pub hardtick-law : (now : ℕ) → Good limit n ts (hardtickDef c now cs .memory) (at Rs c (hardtick-reading (Rs c) now))
       unfolding hardtickDef
       hardtick-law now = stored ts (rqHardtick (queueAt cs c) now .queue) _ (g .records) (all-hardtick limit n (marks ts) (queueAt cs) Rs (g .shows) c cn small now)
 
-      pub ticks-law : (now : ℕ) → now < 2 ^ 64 → Rs c .last-tick ≤ now → hardtickDef cs c now .ticks ≡ now - Rs c .last-tick
+      pub ticks-law : (now : ℕ) → now < 2 ^ 64 → Rs c .last-tick ≤ now → hardtickDef c now cs .answer ≡ now - Rs c .last-tick
       unfolding hardtickDef
       ticks-law now h l = hardtick-ticks limit small (marks ts) (queueAt cs c) (Rs c) (g .shows .each c cn) now h l
 

@@ -1,5 +1,5 @@
 -- WHAT ONE RUN QUEUE READS AS. The code's run queue has heads, tails and counters, the thread records have links; document 01's queue is lists.
--- A reader reads all of this file, and the first part of Linked, Shown and Parts. Assumes nothing.
+-- A reader reads all of this file, and the first part of Linked, Shown and Parts.
 use Prim.Native.Nat.{ℕ}
 use mathlib.Core.Path.{_≡_}
 use mathlib.Core.Bool.{Bool}

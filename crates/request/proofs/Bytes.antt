@@ -1,4 +1,4 @@
--- Operands as numbers of bytes: where they are, how they are put together, how large they are. Assumes nothing.
+-- Operands as numbers of bytes: where they are, how they are put together, how large they are.
 use Prim.Native.Nat.{ℕ, zero, suc, _+_, _*_, _^_, _-_, _<_, _≤_}
 use mathlib.Core.Path.{_≡_, refl, ap, sym, _∙_}
 use mathlib.Core.Bool.{Bool, true, false, cond}

@@ -1,4 +1,4 @@
--- Laws of reading: how large an operand is, and which of the limits reading asks. Assumes nothing.
+-- Laws of reading: how large an operand is, and which of the limits reading asks.
 use Prim.Native.Nat.{ℕ, _^_, _<_}
 use mathlib.Core.Path.{_≡_, refl}
 use mathlib.Core.Bool.{cond}

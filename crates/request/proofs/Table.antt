@@ -1,4 +1,4 @@
--- Which bytes are in the table of commands. Assumes nothing.
+-- Which bytes are in the table of commands.
 use Prim.Native.Nat.{ℕ, zero, suc, _+_, _<_, _≤_}
 use mathlib.Core.Path.{_≡_, refl, sym, _∙_}
 use mathlib.Core.Bool.{Bool, true, false, cond, not, _&&_, _||_}

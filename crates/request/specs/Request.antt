@@ -1,4 +1,4 @@
--- What the declared requests stand for, and reading by parts. Assumes nothing.
+-- What the declared requests stand for, and reading by parts.
 use Prim.Native.Nat.{ℕ, zero, suc, _+_}
 use mathlib.Core.Bool.{Bool, true, false, cond}
 use mathlib.Core.Option.{Option, none, some}

@@ -1,5 +1,5 @@
 -- What document 01 says over the puts and takes of one queue, and over nothing else: who waits, who is ahead of whom, a, b, the takes by number, and what
--- the bound asks of the arrivals. Assumes nothing.
+-- the bound asks of the arrivals.
 use Prim.Native.Nat.{ℕ, suc, _+_, _-_, _%_}
 use mathlib.Core.Path.{_≡_}
 use mathlib.Core.Logic.{_⊎_}

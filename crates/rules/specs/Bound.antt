@@ -1,4 +1,4 @@
--- How long a timeshare thread can wait: at most k threads leave until it has left, and k falls with each of them. Assumes nothing.
+-- How long a timeshare thread can wait: at most k threads leave until it has left, and k falls with each of them.
 use Prim.Native.Nat.{ℕ, zero, suc, _+_, _-_, _*_, _≤_, _<_}
 use mathlib.Core.Path.{_≡_, refl, sym, ap, _∙_}
 use mathlib.Core.Logic.{_≢_}

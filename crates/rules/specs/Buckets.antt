@@ -1,4 +1,4 @@
--- n buckets of threads, each with the oldest first, read round from an index. Any number of buckets. Assumes nothing.
+-- n buckets of threads, each with the oldest first, read round from an index. Any number of buckets.
 use Prim.Native.Nat.{ℕ, zero, suc, _+_, _-_, _%_, _≤_, _<_}
 use mathlib.Core.Path.{_≡_, refl, sym, ap, _∙_}
 use mathlib.Core.Logic.{_≢_}

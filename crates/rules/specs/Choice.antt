@@ -1,4 +1,4 @@
--- The choice of a CPU (sched.rs): each search as a function of what it reads, with the draw state that it leaves. Assumes nothing.
+-- The choice of a CPU (sched.rs): each search as a function of what it reads, with the draw state that it leaves.
 use Prim.Native.Nat.{ℕ, zero, suc, _+_, _-_, _*_, _%_}
 use mathlib.Core.Bool.{Bool, true, false, cond, not, _&&_, _||_}
 use mathlib.Core.Option.{Option, none, some}

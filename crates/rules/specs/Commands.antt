@@ -1,4 +1,4 @@
--- What each obeyed command does, and the answer that is shown. Assumes nothing.
+-- What each obeyed command does, and the answer that is shown.
 use Prim.Native.Nat.{ℕ, zero, suc, _+_}
 use mathlib.Core.Bool.{Bool, true, false, cond}
 use mathlib.Core.Option.{Option, none, some}

@@ -1,4 +1,4 @@
--- Every definition of the rules under one name, for theorems that compute them: `unfolding computed`. Assumes nothing.
+-- Every definition of the rules under one name, for theorems that compute them: `unfolding computed`.
 use Prim.Native.Nat.{ℕ}
 use Rattle.rules.specs.Line.{has, ahead}
 use Rattle.rules.specs.Buckets.{bucket, around, oldest, scan, join, pop}

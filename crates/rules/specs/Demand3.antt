@@ -6,7 +6,7 @@
 -- A CPU's own take finds nothing exactly when nobody waits in its queue, a stealing one exactly when nobody unpinned does.
 -- A timeshare thread is gone within 8,192 of those takes, if nobody arrives while it waits in the realtime part, as the current thread, or in timeshare while
 -- the filling and emptying buckets are the same.
--- Waiting, being ahead, a, b, and what is asked of the arrivals are defined in Ahead.antt, over the puts and takes alone. Assumes nothing.
+-- Waiting, being ahead, a, b, and what is asked of the arrivals are defined in Ahead.antt, over the puts and takes alone.
 use Prim.Native.Nat.{ℕ, _+_, _≤_, _<_, _*_}
 use mathlib.Core.Path.{_≡_, refl, _∙_}
 use mathlib.Core.Logic.{_↔_}

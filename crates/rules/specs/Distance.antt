@@ -1,4 +1,4 @@
--- How far a thread's bucket is from the index that a round starts at, and how that falls. Any number of buckets. Assumes nothing.
+-- How far a thread's bucket is from the index that a round starts at, and how that falls. Any number of buckets.
 use Prim.Native.Nat.{ℕ, zero, suc, _+_, _-_, _*_, _%_, _≤_, _<_}
 use mathlib.Core.Path.{_≡_, refl, sym, ap, _∙_}
 use mathlib.Core.Logic.{_≢_}

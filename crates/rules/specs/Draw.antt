@@ -1,4 +1,4 @@
--- The draw (`quick_random`, utils.rs). Assumes nothing.
+-- The draw (`quick_random`, utils.rs).
 use Prim.Native.Nat.{ℕ, _+_, _*_, _/_, _%_, _^_}
 use mathlib.Core.Bool.{Bool, cond}
 use lib.Dec.{eqb}

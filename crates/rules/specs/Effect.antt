@@ -1,4 +1,4 @@
--- What a put, a leaving and `advance_insert_index` do to a queue's buckets and to its order. Assumes nothing.
+-- What a put, a leaving and `advance_insert_index` do to a queue's buckets and to its order.
 use Prim.Native.Nat.{ℕ, zero, suc, _+_, _%_, _<_}
 use mathlib.Core.Path.{_≡_, refl, sym, ap, _∙_}
 use mathlib.Core.Bool.{Bool, true, false, not, _&&_, false≢true}

@@ -1,4 +1,4 @@
--- Document 01's worked example and empty input, computed by the definitions. Assumes nothing.
+-- Document 01's worked example and empty input, computed by the definitions.
 use Prim.Native.Nat.{ℕ}
 use mathlib.Core.Path.{_≡_, refl}
 use mathlib.Core.List.{List, [], _∷_}

@@ -1,5 +1,5 @@
 -- A queue's buckets hold the threads of the puts that wait, each in the part and bucket of its put, oldest first; and so how many stand before a thread in the
--- queue's order is how many are ahead of it by document 01. Assumes nothing.
+-- queue's order is how many are ahead of it by document 01.
 use Prim.Native.Nat.{ℕ, zero, suc, _+_, _-_, _%_, _≤_, _<_}
 use mathlib.Core.Path.{_≡_, refl, sym, _∙_}
 use mathlib.Core.Bool.{Bool, true, false, cond, _&&_, _||_}

@@ -1,4 +1,4 @@
--- The queue's order is that of being ahead. Assumes nothing.
+-- The queue's order is that of being ahead.
 use Prim.Native.Nat.{ℕ, _≤_, _<_}
 use mathlib.Core.Path.{_≡_, sym}
 use mathlib.Core.Logic.{_↔_, _⊎_, inl, inr}

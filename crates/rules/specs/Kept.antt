@@ -1,4 +1,4 @@
--- What every put, take and `advance_insert_index` keeps of a queue and its puts and takes, and what follows of demand 3 for one queue. Assumes nothing.
+-- What every put, take and `advance_insert_index` keeps of a queue and its puts and takes, and what follows of demand 3 for one queue.
 use Prim.Native.Nat.{ℕ, suc, _+_, _*_, _≤_, _<_}
 use mathlib.Core.Path.{_≡_, refl, sym, ap, subst, _∙_}
 use mathlib.Core.Logic.{_≢_, _↔_, inl, inr}

@@ -1,4 +1,4 @@
--- "What the program prints": lines as bytes, and the whole output of a run. Assumes nothing.
+-- "What the program prints": lines as bytes, and the whole output of a run.
 use Prim.Native.Nat.{ℕ, zero, suc, _+_, _/_, _%_}
 use mathlib.Core.Bool.{Bool, true, false, cond, _||_}
 use mathlib.Core.Option.{Option, none, some}

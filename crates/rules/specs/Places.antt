@@ -1,4 +1,4 @@
--- Every thread is in one place, and a queue's load is its puts less the threads handed out: for every list of calls from the start. Assumes nothing.
+-- Every thread is in one place, and a queue's load is its puts less the threads handed out: for every list of calls from the start.
 use Prim.Native.Nat.{ℕ, zero, suc, _+_, _<_}
 use mathlib.Core.Path.{_≡_, refl, sym, ap, _∙_}
 use mathlib.Core.Logic.{_↔_}

@@ -1,4 +1,4 @@
--- Priorities (thread/priority.rs). Assumes nothing.
+-- Priorities (thread/priority.rs).
 use Prim.Native.Nat.{ℕ, _+_, _*_, _/_, _%_}
 use mathlib.Core.Bool.{Bool, true, false, cond, not, _&&_, _||_}
 use mathlib.Core.Option.{Option, none, some}

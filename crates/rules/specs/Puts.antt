@@ -1,4 +1,4 @@
--- Document 01's puts and takes, as the rules give them beside state and answer. Assumes nothing.
+-- Document 01's puts and takes, as the rules give them beside state and answer.
 use Prim.Native.Nat.{ℕ}
 use mathlib.Core.Bool.{Bool, _&&_}
 use mathlib.Core.Option.{Option}

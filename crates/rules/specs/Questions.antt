@@ -1,4 +1,4 @@
--- "Questions put to each command, in order. A no gives the number, changes nothing, and no later question is put." Assumes nothing.
+-- "Questions put to each command, in order. A no gives the number, changes nothing, and no later question is put."
 use Prim.Native.Nat.{ℕ, zero, suc, _^_}
 use mathlib.Core.Bool.{Bool, true, false, cond, not, _&&_, _||_}
 use mathlib.Core.Option.{Option, none, some}

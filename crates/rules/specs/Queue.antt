@@ -1,5 +1,5 @@
 -- A run queue by document 01, its buckets as lists of thread numbers: what a put, a take and `advance_insert_index` do to it, the order of those who
--- wait, and the priority that a CPU advertises. Assumes nothing.
+-- wait, and the priority that a CPU advertises.
 use Prim.Native.Nat.{ℕ, zero, suc, _+_, _-_, _*_, _/_, _%_}
 use mathlib.Core.Bool.{Bool, true, false, cond, not, _&&_}
 use mathlib.Core.Option.{Option, none, some}

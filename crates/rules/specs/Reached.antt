@@ -1,4 +1,4 @@
--- What every call keeps, and so every list of calls from the start. Assumes nothing.
+-- What every call keeps, and so every list of calls from the start.
 use Prim.Native.Nat.{ℕ, zero, suc, _≤_, _<_}
 use mathlib.Core.Path.{_≡_, refl, sym, subst, _∙_}
 use mathlib.Core.Bool.{Bool, true, false, not, _&&_, true≢false, false≢true}

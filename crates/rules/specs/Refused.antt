@@ -1,4 +1,4 @@
--- A refused call leaves the state as it was and makes no puts and takes; its number is that of the first question answered no. Assumes nothing.
+-- A refused call leaves the state as it was and makes no puts and takes; its number is that of the first question answered no.
 use Prim.Native.Nat.{ℕ}
 use mathlib.Core.Path.{_≡_, refl, sym, _∙_}
 use mathlib.Core.Logic.{_≢_}

@@ -1,4 +1,4 @@
--- The commands: their bytes, their operands, what they ask. Assumes nothing.
+-- The commands: their bytes, their operands, what they ask.
 use Prim.Native.Nat.{ℕ, zero, suc, _+_, _*_, _/_, _%_}
 use mathlib.Core.Bool.{Bool, true, false, cond}
 use mathlib.Core.Option.{Option, none, some}

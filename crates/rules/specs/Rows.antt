@@ -1,4 +1,4 @@
--- "Edge table (rows to be proved)": the ten rows, as numbers, checked against the definitions by one theorem over the table. Assumes nothing.
+-- "Edge table (rows to be proved)": the ten rows, as numbers, checked against the definitions by one theorem over the table.
 use Prim.Native.Nat.{ℕ, zero, suc}
 use mathlib.Core.Path.{_≡_, refl}
 use mathlib.Core.Bool.{Bool, true, false}

@@ -1,5 +1,5 @@
 -- One run of 83 commands beside the original Rust: the bytes, and the answers of the Rust (oracle/). Among them are steals, a `balance` that moves two
--- threads, donations, and refusals where several questions would be answered no. Every other run is executed by a test program. Assumes nothing.
+-- threads, donations, and refusals where several questions would be answered no. Every other run is executed by a test program.
 use Prim.Native.Nat.{ℕ}
 use mathlib.Core.Path.{_≡_, refl}
 use mathlib.Core.List.{List, [], _∷_}

@@ -1,4 +1,4 @@
--- Scheduling (sched.rs): puts, takes, steals, `balance`, `do_schedule`, ticks, preemption and donation, each in the order of the Rust. Assumes nothing.
+-- Scheduling (sched.rs): puts, takes, steals, `balance`, `do_schedule`, ticks, preemption and donation, each in the order of the Rust.
 use Prim.Native.Nat.{ℕ, zero, suc, _+_, _-_, _*_, _%_}
 use mathlib.Core.Bool.{Bool, true, false, cond, not, _&&_, _||_}
 use mathlib.Core.Option.{Option, none, some}

@@ -1,5 +1,4 @@
 -- What the rules keep of all CPUs and threads: each queue is that of its puts and takes, a thread waits in one queue, runs on one CPU, or does neither.
--- Assumes nothing.
 use Prim.Native.Nat.{ℕ, _+_, _<_}
 use mathlib.Core.Path.{_≡_, refl, sym, ap, subst, _∙_}
 use mathlib.Core.Logic.{_≢_, _⊎_, inl, inr}

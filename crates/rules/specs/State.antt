@@ -1,4 +1,4 @@
--- What the rules keep: limits, topology, CPUs, threads, and beside them the puts and takes that a command makes. Assumes nothing.
+-- What the rules keep: limits, topology, CPUs, threads, and beside them the puts and takes that a command makes.
 use Prim.Native.Nat.{ℕ, zero, suc, _+_}
 use mathlib.Core.Bool.{Bool, true, false, cond, not, _&&_, _||_}
 use mathlib.Core.Option.{Option, none, some}

@@ -1,4 +1,4 @@
--- Every function of Schedule.antt keeps what Sound.antt says. Assumes nothing.
+-- Every function of Schedule.antt keeps what Sound.antt says.
 use Prim.Native.Nat.{ℕ, zero, suc, _+_, _-_, _%_, _≤_, _<_}
 use mathlib.Core.Path.{_≡_, refl, sym, ap, _∙_}
 use mathlib.Core.Logic.{_≢_}

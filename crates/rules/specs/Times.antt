@@ -1,4 +1,4 @@
--- Timeslices, deadlines and what a thread keeps of its times (thread/time.rs, rq.rs). Assumes nothing.
+-- Timeslices, deadlines and what a thread keeps of its times (thread/time.rs, rq.rs).
 use Prim.Native.Nat.{ℕ, _+_, _*_, _/_, _%_, _^_}
 use mathlib.Core.Bool.{Bool, true, false, cond}
 use mathlib.Core.Option.{Option, none, some}

@@ -1,4 +1,4 @@
--- The tree of nodes: children, what lies below, the CPUs of a node (sched.rs, CPUTopoNode). Assumes nothing.
+-- The tree of nodes: children, what lies below, the CPUs of a node (sched.rs, CPUTopoNode).
 use Prim.Native.Nat.{ℕ, zero, suc, _+_}
 use mathlib.Core.Bool.{Bool, true, false, cond, not, _&&_, _||_}
 use mathlib.Core.Option.{Option, none, some}

@@ -1,4 +1,4 @@
--- Who waits, as puts and takes are added at the end: lemmas of Puts.antt. Assumes nothing.
+-- Who waits, as puts and takes are added at the end: lemmas of Puts.antt.
 use Prim.Native.Nat.{ℕ, suc, _+_, _<_}
 use mathlib.Core.Path.{_≡_, refl, sym, ap, _∙_}
 use mathlib.Core.Bool.{Bool, true, false, cond, _||_, true≢false, false≢true, or-false, or-assoc}

@@ -1,4 +1,4 @@
--- Lists of calls in which what Demand3.antt says is not said of nothing, computed by the definitions. Assumes nothing.
+-- Lists of calls that meet the hypotheses of demand 3, computed by the definitions.
 use Prim.Native.Nat.{ℕ, _+_}
 use mathlib.Core.Path.{_≡_, refl}
 use mathlib.Core.Bool.{Bool, true, false, cond, _&&_, Bool·beq}

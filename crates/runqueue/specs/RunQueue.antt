@@ -1,4 +1,4 @@
--- The run queue as the code has it. Assumes nothing.
+-- The run queue as the code has it.
 use Prim.Native.Nat.{ℕ}
 use mathlib.Core.Path.{_≡_, sym, ap}
 use mathlib.Core.Bool.{Bool, true, cond, _&&_}

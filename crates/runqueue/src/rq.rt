@@ -46,7 +46,7 @@ pub struct Arrival {
     pub pinned: bool,
 }
 
-// The queue, whose record's link has to be set to the thread (NONE: nobody's), and the part that it came into. The Rust answers whether that is not idle.
+// behind: whose link the caller must set to the thread that came in, NONE for nobody. part: where it came in; the Rust answers whether that is not idle.
 pub struct Put {
     pub queue: RunQueue,
     pub behind: u64,

@@ -1,6 +1,2 @@
-pub mod Balance
-pub mod Donate
-pub mod Queues
+pub mod Preempt
 pub mod Schedule
-pub mod Ticks
-pub mod World

@@ -1,5 +1,4 @@
 -- `switch_to`, `do_schedule` and `schedule`, and the command that schedules a blocked thread. cur is the thread running, NONE the idle thread.
--- Assumes nothing.
 use Prim.Native.Nat.{ℕ}
 use mathlib.Core.Bool.{Bool, false, cond, _||_}
 use mathlib.Core.List.{List}
@@ -12,95 +11,100 @@ use Rattle.thread.specs.Thread.{NONE}
 use Rattle.thread.specs.Reads.{critical-in}
 use Rattle.thread.specs.Time.{moving-to-active}
 use Rattle.lent.specs.declared.rq.Taken.{Taken}
-use Rattle.lent.specs.Rq.{recordAt, Took, takeDef}
+use Rattle.lent.specs.Left.{Words, Memory, Left}
+use Rattle.lent.specs.Rq.{recordAt, takeDef}
 use Rattle.step.specs.Option.{isNone, cpuOf}
 use Rattle.step.specs.Choose.{selectFor, selectedFor, reinsertAt}
 use Rattle.step.specs.Preempt.{rqHasHigher}
 use Rattle.step.specs.Running.{runningAt, mustRebalance, ranBy, ranIdle}
 use Rattle.step.specs.Time.{resetTime}
-use Rattle.sched.specs.declared.context.Context.{Context}
-use Rattle.sched.specs.declared.context.SchedFlags.{SchedFlags}
-use Rattle.sched.specs.declared.context.Scheduled.{Scheduled}
-use Rattle.sched.specs.World.{Memory, World, Chosen, after}
-use Rattle.sched.specs.Queues.{isNobody, threadOf, scheduleThreadOnCpu, wakeDef, blockDef, trySteal}
+use Rattle.step.specs.declared.context.Context.{Context}
+use Rattle.step.specs.declared.context.SchedFlags.{SchedFlags}
+use Rattle.step.specs.declared.context.Scheduled.{Scheduled}
+use Rattle.sched_queues.specs.Queues.{isNobody, threadOf, scheduleThreadOnCpu, wakeDef, blockDef, trySteal}
 
 -- thread x runs on CPU us
-unfoldable pub switchTo : List Thread → List (List ℕ) → ℕ → ℕ → Memory
-switchTo ts cs us x =
-    record { threads = set ts x (moving-to-active (recordAt ts x) us); cpus = ranBy cs us x (moving-to-active (recordAt ts x) us) }
+unfoldable pub switchTo : ℕ → ℕ → Memory → Memory
+switchTo us x m = record {
+  threads = set (m .threads) x (moving-to-active (recordAt (m .threads) x) us);
+  cpus = ranBy (m .cpus) us x (moving-to-active (recordAt (m .threads) x) us);
+}
 
 -- the own queue handed out thread y: one that takes itself back is not switched to
-unfoldable pub runTaken : List Thread → List (List ℕ) → ℕ → ℕ → ℕ → Memory
-runTaken ts cs us cur y = cond (eqb y cur) (record { threads = ts; cpus = cs }) (switchTo ts cs us y)
+unfoldable pub runTaken : ℕ → ℕ → ℕ → Memory → Memory
+runTaken us cur y m = cond (eqb y cur) m (switchTo us y m)
 
 -- the idle thread runs on, or is switched to
-unfoldable pub idleUnless : List (List ℕ) → ℕ → ℕ → List (List ℕ)
-idleUnless cs us cur = cond (eqb cur NONE) cs (ranIdle cs us)
+unfoldable pub idleUnless : ℕ → ℕ → Words → Words
+idleUnless us cur cs = cond (eqb cur NONE) cs (ranIdle cs us)
 
-unfoldable pub runStolen : List Thread → List (List ℕ) → ℕ → ℕ → Taken → Memory
-runStolen ts cs us cur stolen = cond (isNobody stolen) (record { threads = ts; cpus = idleUnless cs us cur }) (switchTo ts cs us (threadOf stolen))
+unfoldable pub runStolen : ℕ → ℕ → Taken → Memory → Memory
+runStolen us cur stolen m =
+    cond (isNobody stolen) (record { threads = m .threads; cpus = idleUnless us cur (m .cpus) }) (switchTo us (threadOf stolen) m)
 
 -- the next thread of the own queue, else one that is stolen
-unfoldable pub pickStolen : Context → ℕ → Took → Memory
-pickStolen k cur g = runStolen (g .threads) (g .cpus) (k .us) cur (g .answer)
+unfoldable pub pickStolen : Context → ℕ → Left Taken Memory → Memory
+pickStolen k cur g = runStolen (k .us) cur (g .answer) (g .memory)
 
-unfoldable pub pickTaken : List (List ℕ) → Context → ℕ → Took → Memory
-pickTaken ns k cur g =
-    cond (isNobody (g .answer)) (pickStolen k cur (trySteal (g .threads) (g .cpus) ns k)) (runTaken (g .threads) (g .cpus) (k .us) cur (threadOf (g .answer)))
+unfoldable pub pickTaken : Context → ℕ → Words → Left Taken Memory → Memory
+pickTaken k cur ns g =
+    cond (isNobody (g .answer)) (pickStolen k cur (trySteal k ns (g .memory))) (runTaken (k .us) cur (threadOf (g .answer)) (g .memory))
 
-unfoldable pub pickNext : List Thread → List (List ℕ) → List (List ℕ) → Context → ℕ → Memory
-pickNext ts cs ns k cur = pickTaken ns k cur (takeDef ts cs (k .us) false)
+unfoldable pub pickNext : Context → ℕ → Words → Memory → Memory
+pickNext k cur ns m = pickTaken k cur ns (takeDef (k .us) false m)
 
 -- preempted, or to be moved to another CPU, or something higher waits; for a thread that yields, also something equal
 unfoldable pub mustMove : List (List ℕ) → ℕ → Thread → SchedFlags → Bool
 mustMove cs us t f = f .preempt || (mustRebalance cs us || rqHasHigher cs us t (f .yields))
 
-unfoldable pub reinsertedDef : List Thread → List (List ℕ) → Context → OptionCpu → ℕ → ℕ → World
-reinsertedDef ts cs k chosen x wakeups =
-    cond (isNone chosen) (record { threads = ts; cpus = cs; wakeups = wakeups }) (scheduleThreadOnCpu ts cs k (cpuOf chosen) x wakeups)
+unfoldable pub reinsertedDef : Context → OptionCpu → ℕ → ℕ → Memory → Left ℕ Memory
+reinsertedDef k chosen x wakeups m = cond (isNone chosen) (record { answer = wakeups; memory = m }) (scheduleThreadOnCpu k (cpuOf chosen) x wakeups m)
 
 -- the deadline of thread x is set anew on CPU us
-unfoldable pub resetThreadTime : List Thread → List (List ℕ) → Context → ℕ → List Thread
-resetThreadTime ts cs k x = set ts x (resetTime cs (k .us) (k .tick) (k .shortest) (recordAt ts x))
+unfoldable pub resetThreadTime : Context → ℕ → Words → List Thread → List Thread
+resetThreadTime k x cs ts = set ts x (resetTime cs (k .us) (k .tick) (k .shortest) (recordAt ts x))
 
 -- the next is picked after what was done
-unfoldable pub thenNext : List (List ℕ) → Context → ℕ → World → World
-thenNext ns k cur w = after (pickNext (w .threads) (w .cpus) ns k cur) (w .wakeups)
+unfoldable pub thenNext : Context → ℕ → Words → Left ℕ Memory → Left ℕ Memory
+thenNext k cur ns w = record { answer = w .answer; memory = pickNext k cur ns (w .memory) }
 
 -- the thread running goes back into a queue, and the next is picked; or it runs on with its deadline set anew
-unfoldable pub reinsertDef : List Thread → List (List ℕ) → List (List ℕ) → Context → ℕ → SchedFlags → ℕ → World
-reinsertDef ts cs ns k cur f wakeups =
-    cond (mustMove cs (k .us) (recordAt ts cur) f)
-    (thenNext ns k cur
-    (reinsertedDef ts (reinsertAt cs ns (k .us) (k .limit) (recordAt ts cur) .cpus) k (reinsertAt cs ns (k .us) (k .limit) (recordAt ts cur) .chosen) cur wakeups))
-    (cond (f .yields) (thenNext ns k cur (scheduleThreadOnCpu ts cs k (k .us) cur wakeups))
-    (record { threads = resetThreadTime ts cs k cur; cpus = cs; wakeups = wakeups }))
+unfoldable pub reinsertDef : Context → ℕ → SchedFlags → ℕ → Words → Memory → Left ℕ Memory
+reinsertDef k cur f wakeups ns m =
+    cond (mustMove (m .cpus) (k .us) (recordAt (m .threads) cur) f)
+    (thenNext k cur ns
+    (reinsertedDef k (reinsertAt (m .cpus) ns (k .us) (k .limit) (recordAt (m .threads) cur) .chosen) cur wakeups
+    (record { threads = m .threads; cpus = reinsertAt (m .cpus) ns (k .us) (k .limit) (recordAt (m .threads) cur) .cpus })))
+    (cond (f .yields) (thenNext k cur ns (scheduleThreadOnCpu k (k .us) cur wakeups m))
+    (record { answer = wakeups; memory = record { threads = resetThreadTime k cur (m .cpus) (m .threads); cpus = m .cpus } }))
 
 -- "without reinsert the thread running is blocked, the idle thread never"
-unfoldable pub doSchedule : List Thread → List (List ℕ) → List (List ℕ) → Context → SchedFlags → ℕ → World
-doSchedule ts cs ns k f wakeups =
-    cond (eqb (runningAt cs (k .us)) NONE) (after (pickNext ts cs ns k (runningAt cs (k .us))) wakeups)
-    (cond (f .reinsert) (reinsertDef ts cs ns k (runningAt cs (k .us)) f wakeups)
-    (after (pickNext (blockDef ts (runningAt cs (k .us))) cs ns k (runningAt cs (k .us))) wakeups))
+unfoldable pub doSchedule : Context → SchedFlags → ℕ → Words → Memory → Left ℕ Memory
+doSchedule k f wakeups ns m =
+    cond (eqb (runningAt (m .cpus) (k .us)) NONE) (record { answer = wakeups; memory = pickNext k (runningAt (m .cpus) (k .us)) ns m })
+    (cond (f .reinsert) (reinsertDef k (runningAt (m .cpus) (k .us)) f wakeups ns m)
+    (record {
+      answer = wakeups;
+      memory = pickNext k (runningAt (m .cpus) (k .us)) ns (record { threads = blockDef (runningAt (m .cpus) (k .us)) (m .threads); cpus = m .cpus });
+    }))
 
 -- "with a critical thread running it changes nothing"
-unfoldable pub scheduleDef : List Thread → List (List ℕ) → List (List ℕ) → Context → SchedFlags → ℕ → World
-scheduleDef ts cs ns k f wakeups =
-    cond (critical-in (recordAt ts (runningAt cs (k .us)) .critical)) (record { threads = ts; cpus = cs; wakeups = wakeups }) (doSchedule ts cs ns k f wakeups)
+unfoldable pub scheduleDef : Context → SchedFlags → ℕ → Words → Memory → Left ℕ Memory
+scheduleDef k f wakeups ns m =
+    cond (critical-in (recordAt (m .threads) (runningAt (m .cpus) (k .us)) .critical)) (record { answer = wakeups; memory = m }) (doSchedule k f wakeups ns m)
 
 abbrev pub scheduled : ℕ → ℕ → Scheduled
 scheduled c wakeups = record { cpu = c; wakeups = wakeups }
 
 -- `schedule_thread`: on the CPU selected for it
-unfoldable pub scheduledOn : Context → ℕ → OptionCpu → List Thread → List (List ℕ) → Chosen
-scheduledOn k x chosen ts cs =
-    cond (isNone chosen) (record { answer = scheduled (k .us) 0; threads = ts; cpus = cs })
-    (record {
-      answer = scheduled (cpuOf chosen) (wakeDef ts cs k (cpuOf chosen) x 0 .wakeups);
-      threads = wakeDef ts cs k (cpuOf chosen) x 0 .threads;
-      cpus = wakeDef ts cs k (cpuOf chosen) x 0 .cpus;
-    })
+abbrev pub woken : ℕ → Left ℕ Memory → Left Scheduled Memory
+woken c w = record { answer = scheduled c (w .answer); memory = w .memory }
 
-unfoldable pub scheduleThread : List Thread → List (List ℕ) → List (List ℕ) → Context → ℕ → Chosen
-scheduleThread ts cs ns k x =
-    scheduledOn k x (selectFor cs ns (k .us) (k .limit) (recordAt ts x) cpu.None) ts (selectedFor cs ns (k .us) (k .limit) (recordAt ts x) cpu.None)
+unfoldable pub scheduledOn : Context → ℕ → OptionCpu → Memory → Left Scheduled Memory
+scheduledOn k x chosen m =
+    cond (isNone chosen) (record { answer = scheduled (k .us) 0; memory = m }) (woken (cpuOf chosen) (wakeDef k (cpuOf chosen) x 0 m))
+
+unfoldable pub scheduleThread : Context → ℕ → Words → Memory → Left Scheduled Memory
+scheduleThread k x ns m =
+    scheduledOn k x (selectFor (m .cpus) ns (k .us) (k .limit) (recordAt (m .threads) x) cpu.None)
+    (record { threads = m .threads; cpus = selectedFor (m .cpus) ns (k .us) (k .limit) (recordAt (m .threads) x) cpu.None })

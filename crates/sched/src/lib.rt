@@ -1,8 +1,4 @@
-// Scheduling (processor/sched.rs) over the lent thread records and the words of the CPUs. Each function is a straight line: what it decides, it asks
-// of the crates below.
-pub mod balance;
-pub mod context;
-pub mod donate;
-pub mod queues;
+// A CPU switches from one thread to the next (processor/sched.rs), over the lent thread records and the words of the CPUs. Each function is a straight line:
+// what it decides, it asks of the crates below.
+pub mod preempt;
 pub mod schedule;
-pub mod ticks;

@@ -1,24 +1,28 @@
 // `switch_to`, `do_schedule` and `schedule`, and the command that schedules a blocked thread.
 ghost use mathlib.Core.Path.{_≡_};
 ghost use lib.Dec.{eqb};
+ghost use Rattle.lent.specs.Left.{becomes, becomes-one, becomes-over, leaves, leaves-over};
 ghost use Rattle.thread.specs.Thread.{NONE};
 ghost use Rattle.thread.specs.declared.time.OptionCpu.the-variants as cpu;
 ghost use Rattle.sched.specs.Schedule.{switchTo, runTaken, idleUnless, runStolen, pickNext, mustMove, reinsertedDef, resetThreadTime, reinsertDef, doSchedule, scheduleDef, scheduled, scheduleThread};
-use crate::context::Context;
-use crate::context::SchedFlags;
-use crate::context::Scheduled;
-use crate::queues::block;
-use crate::queues::is_nobody;
-use crate::queues::schedule_thread_on_cpu;
-use crate::queues::thread_of;
-use crate::queues::try_steal;
-use crate::queues::wake;
 use lent::records::get;
 use lent::records::set;
 use lent::rq::Taken;
 use lent::rq::take;
+use nodes::words::NodeWords;
+use processor::words::CpuWords;
+use sched_queues::queues::block;
+use sched_queues::queues::is_idle;
+use sched_queues::queues::is_nobody;
+use sched_queues::queues::schedule_thread_on_cpu;
+use sched_queues::queues::thread_of;
+use sched_queues::queues::try_steal;
+use sched_queues::queues::wake;
 use step::choose::reinsert_at;
 use step::choose::select_for;
+use step::context::Context;
+use step::context::SchedFlags;
+use step::context::Scheduled;
 use step::option::cpu_of;
 use step::option::is_none;
 use step::preempt::rq_has_higher;
@@ -32,8 +36,8 @@ use thread::Thread;
 use thread::time::OptionCpu;
 
 // Thread x runs on CPU us.
-pub fn switch_to(threads: &mut [Thread], cpus: &mut [[u64; 96]], us: u64, x: u64)
-    ensures { λ _. ⌜ (now (threads .exit) ≡ switchTo (now (threads .entry)) (now (cpus .entry)) us x .threads) × (now (cpus .exit) ≡ switchTo (now (threads .entry)) (now (cpus .entry)) us x .cpus) ⌝ }
+pub fn switch_to(threads: &mut [Thread], cpus: &mut [CpuWords], us: u64, x: u64)
+    ensures { λ _. ⌜ becomes (switchTo us x) threads cpus ⌝ }
 {
     let t = get(threads, x);
     let u = t.moving_to_active(us);
@@ -42,8 +46,8 @@ pub fn switch_to(threads: &mut [Thread], cpus: &mut [[u64; 96]], us: u64, x: u64
 }
 
 // The own queue handed out thread y: one that takes itself back is not switched to.
-pub fn run_taken(threads: &mut [Thread], cpus: &mut [[u64; 96]], us: u64, cur: u64, y: u64)
-    ensures { λ _. ⌜ (now (threads .exit) ≡ runTaken (now (threads .entry)) (now (cpus .entry)) us cur y .threads) × (now (cpus .exit) ≡ runTaken (now (threads .entry)) (now (cpus .entry)) us cur y .cpus) ⌝ }
+pub fn run_taken(threads: &mut [Thread], cpus: &mut [CpuWords], us: u64, cur: u64, y: u64)
+    ensures { λ _. ⌜ becomes (runTaken us cur y) threads cpus ⌝ }
 {
     if y == cur {
         return;
@@ -52,8 +56,8 @@ pub fn run_taken(threads: &mut [Thread], cpus: &mut [[u64; 96]], us: u64, cur: u
 }
 
 // A thread was stolen, or the idle thread runs on, or is switched to.
-pub fn run_stolen(threads: &mut [Thread], cpus: &mut [[u64; 96]], us: u64, cur: u64, stolen: Taken)
-    ensures { λ _. ⌜ (now (threads .exit) ≡ runStolen (now (threads .entry)) (now (cpus .entry)) us cur stolen .threads) × (now (cpus .exit) ≡ runStolen (now (threads .entry)) (now (cpus .entry)) us cur stolen .cpus) ⌝ }
+pub fn run_stolen(threads: &mut [Thread], cpus: &mut [CpuWords], us: u64, cur: u64, stolen: Taken)
+    ensures { λ _. ⌜ becomes (runStolen us cur stolen) threads cpus ⌝ }
 {
     if is_nobody(stolen) {
         idle_unless(cpus, us, cur);
@@ -64,8 +68,8 @@ pub fn run_stolen(threads: &mut [Thread], cpus: &mut [[u64; 96]], us: u64, cur: 
 }
 
 // The idle thread is switched to, if it does not run already.
-pub fn idle_unless(cpus: &mut [[u64; 96]], us: u64, cur: u64)
-    ensures { λ _. ⌜ now (cpus .exit) ≡ idleUnless (now (cpus .entry)) us cur ⌝ }
+pub fn idle_unless(cpus: &mut [CpuWords], us: u64, cur: u64)
+    ensures { λ _. ⌜ becomes-one (idleUnless us cur) cpus ⌝ }
 {
     if cur == NONE {
         return;
@@ -76,12 +80,12 @@ pub fn idle_unless(cpus: &mut [[u64; 96]], us: u64, cur: u64)
 // The next thread of the own queue, else one that is stolen, else the idle thread.
 pub fn pick_next(
     threads: &mut [Thread],
-    cpus: &mut [[u64; 96]],
-    nodes: &[[u64; 32]],
+    cpus: &mut [CpuWords],
+    nodes: &[NodeWords],
     k: Context,
     cur: u64,
 )
-    ensures { λ _. ⌜ (now (threads .exit) ≡ pickNext (now (threads .entry)) (now (cpus .entry)) (now (nodes .entry)) k cur .threads) × (now (cpus .exit) ≡ pickNext (now (threads .entry)) (now (cpus .entry)) (now (nodes .entry)) k cur .cpus) ⌝ }
+    ensures { λ _. ⌜ becomes-over (pickNext k cur) threads cpus nodes ⌝ }
 {
     let us = k.us;
     let next = take(threads, cpus, us, false);
@@ -95,7 +99,7 @@ pub fn pick_next(
 }
 
 // Does the thread running, whose record is t, go back into a queue although it does not yield?
-pub fn must_move(cpus: &[[u64; 96]], us: u64, t: Thread, flags: SchedFlags) -> bool
+pub fn must_move(cpus: &[CpuWords], us: u64, t: Thread, flags: SchedFlags) -> bool
     ensures { λ r. ⌜ r ≡ mustMove (now (cpus .entry)) us t flags ⌝ }
 {
     if flags.preempt {
@@ -109,17 +113,13 @@ pub fn must_move(cpus: &[[u64; 96]], us: u64, t: Thread, flags: SchedFlags) -> b
 
 pub fn reinserted(
     threads: &mut [Thread],
-    cpus: &mut [[u64; 96]],
+    cpus: &mut [CpuWords],
     k: Context,
     chosen: OptionCpu,
     x: u64,
     wakeups: u64,
 ) -> u64
-    ensures { λ r.
-        ⌜
-        (r ≡ reinsertedDef (now (threads .entry)) (now (cpus .entry)) k chosen x wakeups .wakeups)
-        × ((now (threads .exit) ≡ reinsertedDef (now (threads .entry)) (now (cpus .entry)) k chosen x wakeups .threads) × (now (cpus .exit) ≡ reinsertedDef (now (threads .entry)) (now (cpus .entry)) k chosen x wakeups .cpus))
-        ⌝ }
+    ensures { λ r. ⌜ leaves (reinsertedDef k chosen x wakeups) r threads cpus ⌝ }
 {
     if is_none(chosen) {
         return wakeups;
@@ -129,8 +129,8 @@ pub fn reinserted(
 }
 
 // The deadline of thread x is set anew on CPU us.
-pub fn reset_thread_time(threads: &mut [Thread], cpus: &[[u64; 96]], k: Context, x: u64)
-    ensures { λ _. ⌜ now (threads .exit) ≡ resetThreadTime (now (threads .entry)) (now (cpus .entry)) k x ⌝ }
+pub fn reset_thread_time(threads: &mut [Thread], cpus: &[CpuWords], k: Context, x: u64)
+    ensures { λ _. ⌜ becomes-one (resetThreadTime k x (now (cpus .entry))) threads ⌝ }
 {
     let us = k.us;
     let tick = k.tick;
@@ -143,18 +143,14 @@ pub fn reset_thread_time(threads: &mut [Thread], cpus: &[[u64; 96]], k: Context,
 // The thread running, cur, goes back into a queue, and the next is picked; or it runs on with its deadline set anew.
 pub fn reinsert(
     threads: &mut [Thread],
-    cpus: &mut [[u64; 96]],
-    nodes: &[[u64; 32]],
+    cpus: &mut [CpuWords],
+    nodes: &[NodeWords],
     k: Context,
     cur: u64,
     flags: SchedFlags,
     wakeups: u64,
 ) -> u64
-    ensures { λ r.
-        ⌜
-        (r ≡ reinsertDef (now (threads .entry)) (now (cpus .entry)) (now (nodes .entry)) k cur flags wakeups .wakeups)
-        × ((now (threads .exit) ≡ reinsertDef (now (threads .entry)) (now (cpus .entry)) (now (nodes .entry)) k cur flags wakeups .threads) × (now (cpus .exit) ≡ reinsertDef (now (threads .entry)) (now (cpus .entry)) (now (nodes .entry)) k cur flags wakeups .cpus))
-        ⌝ }
+    ensures { λ r. ⌜ leaves-over (reinsertDef k cur flags wakeups) r threads cpus nodes ⌝ }
 {
     let us = k.us;
     let limit = k.limit;
@@ -178,17 +174,13 @@ pub fn reinsert(
 // Without reinsert the thread running is blocked, the idle thread never.
 pub fn do_schedule(
     threads: &mut [Thread],
-    cpus: &mut [[u64; 96]],
-    nodes: &[[u64; 32]],
+    cpus: &mut [CpuWords],
+    nodes: &[NodeWords],
     k: Context,
     flags: SchedFlags,
     wakeups: u64,
 ) -> u64
-    ensures { λ r.
-        ⌜
-        (r ≡ doSchedule (now (threads .entry)) (now (cpus .entry)) (now (nodes .entry)) k flags wakeups .wakeups)
-        × ((now (threads .exit) ≡ doSchedule (now (threads .entry)) (now (cpus .entry)) (now (nodes .entry)) k flags wakeups .threads) × (now (cpus .exit) ≡ doSchedule (now (threads .entry)) (now (cpus .entry)) (now (nodes .entry)) k flags wakeups .cpus))
-        ⌝ }
+    ensures { λ r. ⌜ leaves-over (doSchedule k flags wakeups) r threads cpus nodes ⌝ }
 {
     let us = k.us;
     let cur = running(cpus, us);
@@ -208,17 +200,13 @@ pub fn do_schedule(
 // With a critical thread running it changes nothing.
 pub fn schedule(
     threads: &mut [Thread],
-    cpus: &mut [[u64; 96]],
-    nodes: &[[u64; 32]],
+    cpus: &mut [CpuWords],
+    nodes: &[NodeWords],
     k: Context,
     flags: SchedFlags,
     wakeups: u64,
 ) -> u64
-    ensures { λ r.
-        ⌜
-        (r ≡ scheduleDef (now (threads .entry)) (now (cpus .entry)) (now (nodes .entry)) k flags wakeups .wakeups)
-        × ((now (threads .exit) ≡ scheduleDef (now (threads .entry)) (now (cpus .entry)) (now (nodes .entry)) k flags wakeups .threads) × (now (cpus .exit) ≡ scheduleDef (now (threads .entry)) (now (cpus .entry)) (now (nodes .entry)) k flags wakeups .cpus))
-        ⌝ }
+    ensures { λ r. ⌜ leaves-over (scheduleDef k flags wakeups) r threads cpus nodes ⌝ }
 {
     let us = k.us;
     let cur = running(cpus, us);
@@ -227,12 +215,6 @@ pub fn schedule(
         return wakeups;
     }
     do_schedule(threads, cpus, nodes, k, flags, wakeups)
-}
-
-pub fn is_idle(cur: u64) -> bool
-    ensures { λ r. ⌜ r ≡ eqb cur NONE ⌝ }
-{
-    cur == NONE
 }
 
 fn scheduled(cpu: u64, wakeups: u64) -> Scheduled
@@ -250,16 +232,12 @@ fn none() -> OptionCpu
 // A blocked thread goes into the queue of the CPU selected for it.
 pub fn schedule_thread(
     threads: &mut [Thread],
-    cpus: &mut [[u64; 96]],
-    nodes: &[[u64; 32]],
+    cpus: &mut [CpuWords],
+    nodes: &[NodeWords],
     k: Context,
     x: u64,
 ) -> Scheduled
-    ensures { λ r.
-        ⌜
-        (r ≡ scheduleThread (now (threads .entry)) (now (cpus .entry)) (now (nodes .entry)) k x .answer)
-        × ((now (threads .exit) ≡ scheduleThread (now (threads .entry)) (now (cpus .entry)) (now (nodes .entry)) k x .threads) × (now (cpus .exit) ≡ scheduleThread (now (threads .entry)) (now (cpus .entry)) (now (nodes .entry)) k x .cpus))
-        ⌝ }
+    ensures { λ r. ⌜ leaves-over (scheduleThread k x) r threads cpus nodes ⌝ }
 {
     let us = k.us;
     let limit = k.limit;

@@ -1,4 +1,4 @@
--- THE COMMANDS THAT A CPU RUNS, over records and words: hex 12, 14, 16 and 17; 13 is in Scheduled.antt. Assumes nothing.
+-- THE COMMANDS THAT A CPU RUNS, over records and words: hex 12, 14, 16 and 17; 13 is in Scheduled.antt.
 use Prim.Native.Nat.{ℕ, _≤_, _<_}
 use mathlib.Core.Path.{_≡_, refl, sym, ap, _∙_}
 use mathlib.Core.Logic.{_≢_}
@@ -21,6 +21,7 @@ use Rattle.thread.specs.declared.time.OptionCpu.{OptionCpu}
 use Rattle.thread.specs.declared.time.OptionCpu.the-variants as cpu
 use Rattle.thread.specs.Reads.{named}
 use Rattle.thread.specs.Thread.{NONE}
+use Rattle.lent.specs.Left.{mem}
 use Rattle.lent.specs.Rq.{recordAt}
 use Rattle.memory.specs.Shows.{Small, Shows, most-tick}
 use Rattle.tree.specs.Tree.{Tree, number-is}
@@ -29,10 +30,11 @@ use Rattle.choice.specs.Reads.{as-cpu}
 use Rattle.step.specs.Option.{isNone, cpuOf}
 use Rattle.step.specs.Choose.{selectFor, selectedFor}
 use Rattle.step.specs.Preempt.{swapped}
-use Rattle.sched.specs.declared.context.Context.{Context}
-use Rattle.sched.specs.Queues.{wakeDef}
+use Rattle.step.specs.declared.context.Context.{Context}
+use Rattle.sched_queues.specs.Queues.{wakeDef}
 use Rattle.sched.specs.Schedule.{scheduleDef, scheduledOn, scheduleThread}
-use Rattle.sched.specs.Ticks.{scheduleHardtick, scheduleResched, scheduleMaybePreempt, preempting}
+use Rattle.sched_ticks.specs.Ticks.{scheduleHardtick, scheduleResched}
+use Rattle.sched.specs.Preempt.{scheduleMaybePreempt, preempting}
 use Rattle.sched_laws.specs.Steps.{swapped-mark, shows-swapped, unswapped}
 use Rattle.sched_laws.specs.Ticks.{shows-resched}
 use Rattle.sched_laws.specs.Crowd.{visited-placed}
@@ -100,14 +102,14 @@ module _ (limits : Limits) (topology : Topology) (tick us : ℕ) (known : ℕ �
     abbrev cleared : World
     cleared = with-cpu w us (with-preempt (w .cpus us) false)
 
-    obeyed : w .cpus us .preempt ≡ true → Leaves limits topology known (scheduleDef ts (swapped cs us .cpus) ns k preempting wakeups) (sched.schedule limits topology tick us cleared (record { yield = false; preempt = true; again = true }))
+    obeyed : w .cpus us .preempt ≡ true → Leaves limits topology known (scheduleDef k preempting wakeups ns (mem ts (swapped cs us .cpus))) (sched.schedule limits topology tick us cleared (record { yield = false; preempt = true; again = true }))
     unfolding flags-in with-cpu with-preempt
     obeyed e =
         shows-schedule limits topology tick us known numbered small early us-in H ns tree node put-on (shows-swapped limits topology tick us known numbered small early s us-in e)
         (sound-same (same-cpu-changed limits w us (with-preempt (w .cpus us) false) refl refl) safe) (settled-same w cleared (at-keeps (λ (p : Cpu). p .running) (w .cpus) us (with-preempt (w .cpus us) false) refl) st)
         wakeups count few preempting
 
-    pub shows-maybe-preempt : Leaves limits topology known (scheduleMaybePreempt ts cs ns k wakeups) (sched.schedule-maybe-preempt limits topology tick us w)
+    pub shows-maybe-preempt : Leaves limits topology known (scheduleMaybePreempt k wakeups ns (mem ts cs)) (sched.schedule-maybe-preempt limits topology tick us w)
     unfolding scheduleMaybePreempt sched.schedule-maybe-preempt context with-preempt
     shows-maybe-preempt =
         both (w .cpus us .preempt)
@@ -119,7 +121,7 @@ module _ (limits : Limits) (topology : Topology) (tick us : ℕ) (known : ℕ �
     runs-known : (x : ℕ) → w .cpus us .running ≡ some x → known x ≡ true
     runs-known x e = safe .runs us x e .1
 
-    pub ends-resched : Ends limits topology known ts (scheduleResched ts cs us) (sched.schedule-resched limits topology tick us w)
+    pub ends-resched : Ends limits topology known ts (scheduleResched us ts cs) (sched.schedule-resched limits topology tick us w)
     unfolding scheduleResched sched.schedule-resched
     ends-resched = record {
       active = active;
@@ -128,7 +130,7 @@ module _ (limits : Limits) (topology : Topology) (tick us : ℕ) (known : ℕ �
     }
 
     -- 14: `schedule_hardtick`
-    pub ends-hardtick : w .cpus us .last-tick ≤ tick → Ends limits topology known (scheduleHardtick ts cs k .threads) (scheduleHardtick ts cs k .cpus) (sched.schedule-hardtick limits topology tick us w)
+    pub ends-hardtick : w .cpus us .last-tick ≤ tick → Ends limits topology known (scheduleHardtick k (mem ts cs) .threads) (scheduleHardtick k (mem ts cs) .cpus) (sched.schedule-hardtick limits topology tick us w)
     ends-hardtick late = record {
       active = active;
       shows = shows-schedule-hardtick limits topology tick us known numbered small early us-in s runs-known late;
@@ -166,7 +168,7 @@ module _ (limits : Limits) (topology : Topology) (tick us : ℕ) (known : ℕ �
       }
 
       pub wakes : (c : ℕ) → selected .got ≡ some c → c < limits .cpus → 0 ≡ w .wakeups
-          → (let d = wakeDef ts (selectedFor cs ns us (limits .cpus) (recordAt ts x) cpu.None) k c x 0 in
+          → (let d = wakeDef k c x 0 (mem ts (selectedFor cs ns us (limits .cpus) (recordAt ts x) cpu.None)) in
           Leaves limits topology known d (sched.schedule-thread-on-cpu limits topology tick us (selected .world) c x))
       unfolding wakeDef
       wakes c g near zero-now =
@@ -183,7 +185,7 @@ module _ (limits : Limits) (topology : Topology) (tick us : ℕ) (known : ℕ �
 
       -- what the definition answers and leaves, once the CPU is known
       pub scheduled-thread : (c : ℕ) → selected .got ≡ some c
-          → (let d = wakeDef ts (selectedFor cs ns us (limits .cpus) (recordAt ts x) cpu.None) k c x 0 in
-          scheduleThread ts cs ns k x ≡ record { answer = record { cpu = c; wakeups = d .wakeups }; threads = d .threads; cpus = d .cpus })
+          → (let d = wakeDef k c x 0 (mem ts (selectedFor cs ns us (limits .cpus) (recordAt ts x) cpu.None)) in
+          scheduleThread k x ns (mem ts cs) ≡ record { answer = record { cpu = c; wakeups = d .answer }; memory = d .memory })
       unfolding scheduleThread scheduledOn context isNone cpuOf as-cpu
-      scheduled-thread c g = ap (λ (o : OptionCpu). scheduledOn k x o ts (selectedFor cs ns us (limits .cpus) (recordAt ts x) cpu.None)) (chosen-is ∙ ap as-cpu g)
+      scheduled-thread c g = ap (λ (o : OptionCpu). scheduledOn k x o (mem ts (selectedFor cs ns us (limits .cpus) (recordAt ts x) cpu.None))) (chosen-is ∙ ap as-cpu g)

@@ -1,4 +1,4 @@
--- A CPU THAT WAS PUT ON A NODE IS VISITED, so that a search of the whole tree finds a CPU. Assumes nothing.
+-- A CPU THAT WAS PUT ON A NODE IS VISITED, so that a search of the whole tree finds a CPU.
 use Prim.Native.Nat.{ℕ, zero, suc}
 use mathlib.Core.Path.{_≡_, refl, _∙_}
 use mathlib.Core.Logic.{_≢_}

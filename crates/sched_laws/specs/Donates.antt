@@ -1,4 +1,4 @@
--- DONATION (hex 18) over records and words; its removal (19) and the critical mark (1A) are in memory's Frames.antt. Assumes nothing.
+-- DONATION (hex 18) over records and words; its removal (19) and the critical mark (1A) are in memory's Frames.antt.
 use Prim.Native.Nat.{ℕ, _≤_, _<_}
 use mathlib.Core.Path.{_≡_, refl, sym, ap, subst, _∙_}
 use mathlib.Core.Bool.{Bool, true, false, cond, not, _&&_}
@@ -28,7 +28,7 @@ use Rattle.memory.specs.Frames.{shows-fields, shows-same-thread}
 use Rattle.memory.specs.Numbers.{advertised-shown, empty-shown}
 use Rattle.step.specs.Running.{runningAt}
 use Rattle.step.specs.Donate.{wakeupDue, wokenIn, maybeReschedule, donationSignals}
-use Rattle.sched.specs.Donate.{donatePriority}
+use Rattle.sched_queues.specs.Donate.{donatePriority}
 use Rattle.sched_laws.specs.Steps.{shows-wakeup, signal-counts, same-at-work}
 
 -- ---- what a donation leaves of a record as it was
@@ -98,7 +98,7 @@ module _ (limits : Limits) (topology : Topology) (tick us : ℕ) (known : ℕ �
       shows-maybe none a = a
       shows-maybe (some c) a = shows-wakeup _ a
 
-      pub shows-donated : (wakeups : ℕ) → Shows limits topology known active (donatePriority ts cs us x p wakeups .threads) cs (sched.donate-priority limits topology tick us w x p)
+      pub shows-donated : (wakeups : ℕ) → Shows limits topology known active (donatePriority us x p wakeups cs ts .memory) cs (sched.donate-priority limits topology tick us w x p)
       unfolding donatePriority sched.donate-priority
       shows-donated wakeups =
           both accepted
@@ -147,7 +147,7 @@ module _ (limits : Limits) (topology : Topology) (tick us : ℕ) (known : ℕ �
         resched-shown : donate-priority r p .«needs_resched» ≡ (accepted && less (effective-priority u) p)
         resched-shown = donated-resched r p ∙ ap (λ (t : times.Thread). donation-accepted (t .donated) p && less (effective-priority t) p) (s .threads x below)
 
-        pub counts-donated : donatePriority ts cs us x p wakeups .wakeups ≡ sched.donate-priority limits topology tick us w x p .wakeups
+        pub counts-donated : donatePriority us x p wakeups cs ts .answer ≡ sched.donate-priority limits topology tick us w x p .wakeups
         unfolding donatePriority donationSignals sched.donate-priority
         counts-donated =
             let R : ℕ = maybeReschedule cs us (donate-priority r p .thread) wakeups (cpu-in (donate-priority r p .thread .«current_processor_queue»)) in

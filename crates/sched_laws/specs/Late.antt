@@ -1,4 +1,4 @@
--- NO CPU'S LAST HARD TICK IS PAST THE TICK, whatever calls are made. Assumes nothing.
+-- NO CPU'S LAST HARD TICK IS PAST THE TICK, whatever calls are made.
 use Prim.Native.Nat.{ℕ, _^_, _≤_}
 use mathlib.Core.Path.{_≡_, refl, _∙_}
 use mathlib.Core.Bool.{Bool, true, false, cond, _&&_, _||_}

@@ -1,4 +1,4 @@
--- THE NEXT THREAD OF A CPU: `switch_to` and what `do_schedule` does once the thread running is back in a queue or blocked. Assumes nothing.
+-- THE NEXT THREAD OF A CPU: `switch_to` and what `do_schedule` does once the thread running is back in a queue or blocked.
 use Prim.Native.Nat.{ℕ, _≤_, _<_}
 use mathlib.Core.Path.{_≡_, refl, sym, ap, subst, _∙_}
 use mathlib.Core.Logic.{_≢_}
@@ -18,14 +18,14 @@ use Rattle.thread.specs.declared.Thread.{Thread}
 use Rattle.thread.specs.Thread.{NONE}
 use Rattle.lent.specs.declared.rq.Taken.the-variants as taken
 use Rattle.lent.specs.declared.rq.Taken as lent
-use Rattle.lent.specs.Rq.{Took, takeDef}
+use Rattle.lent.specs.Rq.{takeDef}
 use Rattle.memory.specs.Shows.{number-or-none, Small, Shows, most-tick}
 use Rattle.memory.specs.Queues.{active-with, as-taken, Take-shows, shows-take}
 use Rattle.tree.specs.Tree.{Tree}
 use Rattle.step.specs.Running.{ranIdle}
-use Rattle.sched.specs.declared.context.Context.{Context}
-use Rattle.sched.specs.World.{Memory}
-use Rattle.sched.specs.Queues.{isNobody, threadOf, trySteal}
+use Rattle.step.specs.declared.context.Context.{Context}
+use Rattle.lent.specs.Left.{mem, Memory, Left}
+use Rattle.sched_queues.specs.Queues.{isNobody, threadOf, trySteal}
 use Rattle.sched.specs.Schedule.{switchTo, runTaken, idleUnless, runStolen, pickStolen, pickTaken, pickNext}
 use Rattle.sched_laws.specs.Steps.{shows-ran-idle, shows-switched}
 use Rattle.sched_laws.specs.Ticked.{context}
@@ -67,27 +67,27 @@ settle us active w v (some y) e f s = record {
 
 -- what is done with what a take answered
 
-stolen-some : (ts : List Thread) (cs : List (List ℕ)) (us cur y : ℕ) → runStolen ts cs us cur (taken.Thread y) ≡ switchTo ts cs us y
+stolen-some : (ts : List Thread) (cs : List (List ℕ)) (us cur y : ℕ) → runStolen us cur (taken.Thread y) (mem ts cs) ≡ switchTo us y (mem ts cs)
 unfolding runStolen isNobody threadOf
 stolen-some ts cs us cur y = refl
 
-stolen-idle : (ts : List Thread) (cs : List (List ℕ)) (us : ℕ) → runStolen ts cs us NONE taken.Nobody ≡ record { threads = ts; cpus = cs }
+stolen-idle : (ts : List Thread) (cs : List (List ℕ)) (us : ℕ) → runStolen us NONE taken.Nobody (mem ts cs) ≡ record { threads = ts; cpus = cs }
 unfolding runStolen isNobody idleUnless
 stolen-idle ts cs us = refl
 
-stolen-none : (ts : List Thread) (cs : List (List ℕ)) (us x : ℕ) → x < NONE → runStolen ts cs us x taken.Nobody ≡ record { threads = ts; cpus = ranIdle cs us }
+stolen-none : (ts : List Thread) (cs : List (List ℕ)) (us x : ℕ) → x < NONE → runStolen us x taken.Nobody (mem ts cs) ≡ record { threads = ts; cpus = ranIdle cs us }
 unfolding runStolen isNobody idleUnless
 stolen-none ts cs us x h = rw (ne-eqb x NONE (λ e. omega arith))
 
-picked-some : (ns : List (List ℕ)) (k : Context) (cur y : ℕ) (D : Took) → D .answer ≡ taken.Thread y → pickTaken ns k cur D ≡ runTaken (D .threads) (D .cpus) (k .us) cur y
+picked-some : (ns : List (List ℕ)) (k : Context) (cur y : ℕ) (D : Left lent.Taken Memory) → D .answer ≡ taken.Thread y → pickTaken k cur ns D ≡ runTaken (k .us) cur y (D .memory)
 unfolding pickTaken isNobody threadOf
 picked-some ns k cur y D e =
-    ap (λ (a : lent.Taken). cond (isNobody a) (pickStolen k cur (trySteal (D .threads) (D .cpus) ns k)) (runTaken (D .threads) (D .cpus) (k .us) cur (threadOf a))) e
+    ap (λ (a : lent.Taken). cond (isNobody a) (pickStolen k cur (trySteal k ns (D .memory))) (runTaken (k .us) cur (threadOf a) (D .memory))) e
 
-picked-none : (ns : List (List ℕ)) (k : Context) (cur : ℕ) (D : Took) → D .answer ≡ taken.Nobody → pickTaken ns k cur D ≡ pickStolen k cur (trySteal (D .threads) (D .cpus) ns k)
+picked-none : (ns : List (List ℕ)) (k : Context) (cur : ℕ) (D : Left lent.Taken Memory) → D .answer ≡ taken.Nobody → pickTaken k cur ns D ≡ pickStolen k cur (trySteal k ns (D .memory))
 unfolding pickTaken isNobody
 picked-none ns k cur D e =
-    ap (λ (a : lent.Taken). cond (isNobody a) (pickStolen k cur (trySteal (D .threads) (D .cpus) ns k)) (runTaken (D .threads) (D .cpus) (k .us) cur (threadOf a))) e
+    ap (λ (a : lent.Taken). cond (isNobody a) (pickStolen k cur (trySteal k ns (D .memory))) (runTaken (k .us) cur (threadOf a) (D .memory))) e
 
 same-thread : (y : ℕ) (o : Option ℕ) → y < NONE → eqb y (number-or-none o) ≡ sched.same-cpu y o
 unfolding number-or-none sched.same-cpu
@@ -115,8 +115,8 @@ module _ (limits : Limits) (topology : Topology) (tick us : ℕ) (known : ℕ �
   abbrev only-us : ℕ → Bool
   only-us c = eqb c us
 
-  abbrev Left : Memory → World → Type 0
-  Left m v = Ends limits topology known (m .threads) (m .cpus) v
+  abbrev Picked : Memory → World → Type 0
+  Picked m v = Ends limits topology known (m .threads) (m .cpus) v
 
   switched-here : (w : World) (o : Option ℕ) → sched.switch-to limits topology tick us w o .cpus us .running ≡ o
   unfolding sched.switch-to sched.activated with-cpu with-thread with-running
@@ -131,7 +131,7 @@ module _ (limits : Limits) (topology : Topology) (tick us : ℕ) (known : ℕ �
   module _ {active : ℕ → Bool} {w : World} (st : Settled only-us active w) where
     -- thread y, which was taken, is switched to
     to-thread : (ts : List Thread) (cs : List (List ℕ)) (v : World) (y : ℕ) → known y ≡ true → ((c : ℕ) → v .cpus c .running ≡ w .cpus c .running)
-        → Shows limits topology known (at active y true) ts cs v → Left (switchTo ts cs us y) (sched.switch-to limits topology tick us v (some y))
+        → Shows limits topology known (at active y true) ts cs v → Picked (switchTo us y (mem ts cs)) (sched.switch-to limits topology tick us v (some y))
     unfolding switchTo active-with
     to-thread ts cs v y h f s = record {
       active = at active y true;
@@ -140,21 +140,21 @@ module _ (limits : Limits) (topology : Topology) (tick us : ℕ) (known : ℕ �
     }
 
     -- a steal answered
-    stolen : (D : Took) (o cur : Option ℕ) (v : World) → w .cpus us .running ≡ cur → ((c : ℕ) → v .cpus c .running ≡ w .cpus c .running) → ((x : ℕ) → o ≡ some x → known x ≡ true)
+    stolen : (D : Left lent.Taken Memory) (o cur : Option ℕ) (v : World) → w .cpus us .running ≡ cur → ((c : ℕ) → v .cpus c .running ≡ w .cpus c .running) → ((x : ℕ) → o ≡ some x → known x ≡ true)
         → Take-shows limits topology known active D (record { got = o; world = v }) → ((x : ℕ) → cur ≡ some x → x < NONE)
-        → Left (pickStolen k (number-or-none cur) D) (sched.run-stolen limits topology tick us v cur o)
+        → Picked (pickStolen k (number-or-none cur) D) (sched.run-stolen limits topology tick us v cur o)
     unfolding pickStolen sched.run-stolen as-taken active-with context
     stolen D (some y) cur v r f h T l =
-        subst (λ (m : Memory). Left m (sched.switch-to limits topology tick us v (some y)))
-        (sym (ap (λ (a : lent.Taken). runStolen (D .threads) (D .cpus) us (number-or-none cur) a) (T .answer) ∙ stolen-some (D .threads) (D .cpus) us (number-or-none cur) y))
-        (to-thread (D .threads) (D .cpus) v y (h y refl) f (T .left))
+        subst (λ (m : Memory). Picked m (sched.switch-to limits topology tick us v (some y)))
+        (sym (ap (λ (a : lent.Taken). runStolen us (number-or-none cur) a (D .memory)) (T .answer) ∙ stolen-some (D .memory .threads) (D .memory .cpus) us (number-or-none cur) y))
+        (to-thread (D .memory .threads) (D .memory .cpus) v y (h y refl) f (T .left))
     stolen D none none v r f h T l =
-        subst (λ (m : Memory). Left m v)
-        (sym (ap (λ (a : lent.Taken). runStolen (D .threads) (D .cpus) us (number-or-none none) a) (T .answer) ∙ ap (λ n. runStolen (D .threads) (D .cpus) us n taken.Nobody) no-number ∙ stolen-idle (D .threads) (D .cpus) us))
+        subst (λ (m : Memory). Picked m v)
+        (sym (ap (λ (a : lent.Taken). runStolen us (number-or-none none) a (D .memory)) (T .answer) ∙ ap (λ n. runStolen us n taken.Nobody (D .memory)) no-number ∙ stolen-idle (D .memory .threads) (D .memory .cpus) us))
         (record { active = active; shows = T .left; settled = settle us active w v none (f us ∙ r) (λ c n. f c) st })
     stolen D none (some x) v r f h T l =
-        subst (λ (m : Memory). Left m (sched.switch-to limits topology tick us v none))
-        (sym (ap (λ (a : lent.Taken). runStolen (D .threads) (D .cpus) us (number-or-none (some x)) a) (T .answer) ∙ ap (λ n. runStolen (D .threads) (D .cpus) us n taken.Nobody) (some-number x) ∙ stolen-none (D .threads) (D .cpus) us x (l x refl)))
+        subst (λ (m : Memory). Picked m (sched.switch-to limits topology tick us v none))
+        (sym (ap (λ (a : lent.Taken). runStolen us (number-or-none (some x)) a (D .memory)) (T .answer) ∙ ap (λ n. runStolen us n taken.Nobody (D .memory)) (some-number x) ∙ stolen-none (D .memory .threads) (D .memory .cpus) us x (l x refl)))
         (record {
           active = active;
           shows = shows-ran-idle limits topology tick us known numbered small early (T .left) us-in;
@@ -163,29 +163,29 @@ module _ (limits : Limits) (topology : Topology) (tick us : ℕ) (known : ℕ �
 
     module _ {ts : List Thread} {cs : List (List ℕ)} (s : Shows limits topology known active ts cs w) (safe : Sound limits known H only-us w) where
       -- a take of the own queue answered
-      own : (D : Took) (o cur : Option ℕ) (v : World) → w .cpus us .running ≡ cur → Taken limits topology tick us known numbered H only-us w (record { got = o; world = v })
+      own : (D : Left lent.Taken Memory) (o cur : Option ℕ) (v : World) → w .cpus us .running ≡ cur → Taken limits topology tick us known numbered H only-us w (record { got = o; world = v })
           → Take-shows limits topology known active D (record { got = o; world = v }) → ((x : ℕ) → cur ≡ some x → x < NONE)
-          → Left (pickTaken ns k (number-or-none cur) D) (sched.run-taken limits topology tick us v cur o)
+          → Picked (pickTaken k (number-or-none cur) ns D) (sched.run-taken limits topology tick us v cur o)
       unfolding sched.run-taken as-taken active-with context runTaken
       own D (some y) cur v r t T l =
           let yn : y < NONE = omega (arith, numbered y (t .handed-known y refl), small .threads) in
-          subst (λ (m : Memory). Left m (cond (sched.same-cpu y cur) v (sched.switch-to limits topology tick us v (some y))))
+          subst (λ (m : Memory). Picked m (cond (sched.same-cpu y cur) v (sched.switch-to limits topology tick us v (some y))))
           (sym (picked-some ns k (number-or-none cur) y D (T .answer)))
           (both (sched.same-cpu y cur)
           (λ e. rw (same-thread y cur yn, e) (record { active = at active y true; shows = T .left; settled = settle us active w v (some y) (t .running us ∙ r ∙ same-is y cur e) (λ c n. t .running c) st }))
-          (λ e. rw (same-thread y cur yn, e) (to-thread (D .threads) (D .cpus) v y (t .handed-known y refl) (t .running) (T .left))))
+          (λ e. rw (same-thread y cur yn, e) (to-thread (D .memory .threads) (D .memory .cpus) v y (t .handed-known y refl) (t .running) (T .left))))
       own D none cur v r t T l =
           let g : Got = sched.try-steal limits topology tick us v in
           let h = stolen-handed limits topology tick us known numbered small early us-in H (T .left) (t .sound) in
-          subst (λ (m : Memory). Left m (sched.run-stolen limits topology tick us (g .world) cur (g .got)))
+          subst (λ (m : Memory). Picked m (sched.run-stolen limits topology tick us (g .world) cur (g .got)))
           (sym (picked-none ns k (number-or-none cur) D (T .answer)))
-          (stolen (trySteal (D .threads) (D .cpus) ns k) (g .got) cur (g .world) r (λ c. h .running c ∙ t .running c) (h .handed-known)
+          (stolen (trySteal k ns (D .memory)) (g .got) cur (g .world) r (λ c. h .running c ∙ t .running c) (h .handed-known)
           (shows-stolen limits topology tick us known numbered small early us-in H (T .left) (t .sound) ns tree node put-on) l)
 
       -- PICK NEXT
-      pub shows-picked : Left (pickNext ts cs ns k (number-or-none (w .cpus us .running))) (sched.pick-next limits topology tick us w)
+      pub shows-picked : Picked (pickNext k (number-or-none (w .cpus us .running)) ns (mem ts cs)) (sched.pick-next limits topology tick us w)
       unfolding pickNext sched.pick-next context
       shows-picked =
-          own (takeDef ts cs us false) _ (w .cpus us .running) _ refl (take-taken limits topology tick us known numbered H only-us w us false safe)
+          own (takeDef us false (mem ts cs)) _ (w .cpus us .running) _ refl (take-taken limits topology tick us known numbered H only-us w us false safe)
           (shows-take limits topology tick us known numbered small H s safe us us-in false)
           (λ x e. omega (arith, numbered x (safe .runs us x e .1), small .threads))

@@ -1,7 +1,7 @@
--- `do_schedule`, `schedule` AND `schedule_thread` OVER RECORDS AND WORDS ARE THE RULES'. Assumes nothing.
+-- `do_schedule`, `schedule` AND `schedule_thread` OVER RECORDS AND WORDS ARE THE RULES'.
 use Prim.Native.Nat.{ℕ, _≤_, _<_}
 use mathlib.Core.Path.{_≡_, refl, sym, ap, subst, _∙_}
-use mathlib.Core.Bool.{Bool, true, false, not, _||_, false≢true}
+use mathlib.Core.Bool.{Bool, true, false, not, cond, _||_, false≢true}
 use mathlib.Core.Option.{Option, none, some, Option·none-ne-some}
 use mathlib.Core.List.{List}
 use lib.Dec.{eqb}
@@ -27,10 +27,10 @@ use Rattle.step.specs.Option.{isNone, cpuOf}
 use Rattle.step.specs.Choose.{selectedFor, reinsertAt}
 use Rattle.step.specs.Preempt.{rqHasHigher}
 use Rattle.step.specs.Running.{runningAt, mustRebalance}
-use Rattle.sched.specs.declared.context.Context.{Context}
-use Rattle.sched.specs.declared.context.SchedFlags.{SchedFlags}
-use Rattle.sched.specs.World as lent
-use Rattle.sched.specs.Queues.{blockDef, scheduleThreadOnCpu}
+use Rattle.step.specs.declared.context.Context.{Context}
+use Rattle.step.specs.declared.context.SchedFlags.{SchedFlags}
+use Rattle.lent.specs.Left.{mem, Memory, Left}
+use Rattle.sched_queues.specs.Queues.{blockDef, scheduleThreadOnCpu}
 use Rattle.sched.specs.Schedule.{mustMove, reinsertedDef, resetThreadTime, thenNext, pickNext, reinsertDef, doSchedule, scheduleDef}
 use Rattle.sched_laws.specs.Steps.{running-is, critical-at-work, idle-at-work, must-rebalance-shown, higher-shown, shows-reset}
 use Rattle.sched_laws.specs.Crowd.{visited-placed}
@@ -57,9 +57,9 @@ unfolding is-some
 some-is x = refl
 
 -- What a command's function leaves: records, words and the count of wake-ups.
-pub record Leaves (limits : Limits) (topology : Topology) (known : ℕ → Bool) (d : lent.World) (v : World) : Type 0 where
-  pub ends : Ends limits topology known (d .threads) (d .cpus) v
-  pub counted : d .wakeups ≡ v .wakeups
+pub record Leaves (limits : Limits) (topology : Topology) (known : ℕ → Bool) (d : Left ℕ Memory) (v : World) : Type 0 where
+  pub ends : Ends limits topology known (d .memory .threads) (d .memory .cpus) v
+  pub counted : d .answer ≡ v .wakeups
 
 module _ (limits : Limits) (topology : Topology) (tick us : ℕ) (known : ℕ → Bool) (numbered : (x : ℕ) → known x ≡ true → x < limits .threads) (small : Small limits)
     (early : tick ≤ most-tick) (us-in : us < limits .cpus) (H : ℕ → List PutOrTake) (ns : List (List ℕ)) (tree : Tree limits ns topology) (node : ℕ) (put-on : topology .placed us ≡ some node) where
@@ -73,7 +73,7 @@ module _ (limits : Limits) (topology : Topology) (tick us : ℕ) (known : ℕ �
 
     -- the thread running, x, goes into the queue of CPU c, and the next is picked
     put-and-pick : (cs₁ : List (List ℕ)) (v : World) (c x : ℕ) → Shows limits topology known active ts cs₁ v → Same limits w v → v .wakeups ≡ w .wakeups → c < limits .cpus → w .cpus us .running ≡ some x
-        → Leaves limits topology known (thenNext ns k x (scheduleThreadOnCpu ts cs₁ k c x wakeups)) (sched.pick-next limits topology tick us (sched.schedule-thread-on-cpu limits topology tick us v c x))
+        → Leaves limits topology known (thenNext k x ns (scheduleThreadOnCpu k c x wakeups (mem ts cs₁))) (sched.pick-next limits topology tick us (sched.schedule-thread-on-cpu limits topology tick us v c x))
     unfolding thenNext
     put-and-pick cs₁ v c x s₁ same e near r =
         let n : New limits known (λ d. eqb d us) v c x = new-same limits topology tick us known numbered H us-in same (running-new limits topology tick us known numbered H us-in w c x safe r near) in
@@ -84,8 +84,8 @@ module _ (limits : Limits) (topology : Topology) (tick us : ℕ) (known : ℕ �
         let ok = ok-put limits topology tick us known numbered H us-in (λ d. eqb d us) v c x (sound-same same (weaker limits topology tick us known numbered H us-in w safe)) n in
         let number : number-or-none (v′ .cpus us .running) ≡ x = ap number-or-none (runs us ∙ r) ∙ (unfold number-or-none in refl) in
         record {
-          ends = subst (λ m. Ends limits topology known (pickNext (scheduleThreadOnCpu ts cs₁ k c x wakeups .threads) (scheduleThreadOnCpu ts cs₁ k c x wakeups .cpus) ns k m .threads)
-              (pickNext (scheduleThreadOnCpu ts cs₁ k c x wakeups .threads) (scheduleThreadOnCpu ts cs₁ k c x wakeups .cpus) ns k m .cpus) (sched.pick-next limits topology tick us v′)) number
+          ends = subst (λ m. Ends limits topology known (pickNext k m ns (scheduleThreadOnCpu k c x wakeups (mem ts cs₁) .memory) .threads)
+              (pickNext k m ns (scheduleThreadOnCpu k c x wakeups (mem ts cs₁) .memory) .cpus) (sched.pick-next limits topology tick us v′)) number
               (shows-picked limits topology tick us known numbered small early us-in H ns tree node put-on st₁ s₂ ok);
           counted = counts-scheduled limits topology tick us known numbered small early us-in H s₁ c x n wakeups (count ∙ sym e) (rw e few) ∙ sym (pick-wakeups limits topology tick us v′);
         }
@@ -137,17 +137,17 @@ module _ (limits : Limits) (topology : Topology) (tick us : ℕ) (known : ℕ �
       -- `reinsert`, once it has to move
       moves : (o : Option ℕ) → at-queue .got ≡ o → is-some o ≡ true → Under (limits .cpus) o
           → Leaves limits topology known
-          (thenNext ns k x (reinsertedDef ts (reinsertAt cs ns us (limits .cpus) (recordAt ts x) .cpus) k (as-cpu o) x wakeups))
+          (thenNext k x ns (reinsertedDef k (as-cpu o) x wakeups (mem ts (reinsertAt cs ns us (limits .cpus) (recordAt ts x) .cpus))))
           (sched.pick-next limits topology tick us (sched.reinserted limits topology tick us (at-queue .world) x o))
       unfolding is-some Under sched.reinserted reinsertedDef isNone cpuOf as-cpu
       moves none e i u = absurd (false≢true i)
       moves (some c) e i u = put-and-pick (reinsertAt cs ns us (limits .cpus) (recordAt ts x) .cpus) (at-queue .world) c x reinsert-shown (reinsert-selected .same) reinsert-wakeups u r
 
       moves-shown : Leaves limits topology known
-          (thenNext ns k x (reinsertedDef ts (reinsertAt cs ns us (limits .cpus) (recordAt ts x) .cpus) k (reinsertAt cs ns us (limits .cpus) (recordAt ts x) .chosen) x wakeups))
+          (thenNext k x ns (reinsertedDef k (reinsertAt cs ns us (limits .cpus) (recordAt ts x) .chosen) x wakeups (mem ts (reinsertAt cs ns us (limits .cpus) (recordAt ts x) .cpus))))
           (sched.pick-next limits topology tick us (sched.reinserted limits topology tick us (at-queue .world) x (at-queue .got)))
       moves-shown =
-          subst (λ (o : OptionCpu). Leaves limits topology known (thenNext ns k x (reinsertedDef ts (reinsertAt cs ns us (limits .cpus) (recordAt ts x) .cpus) k o x wakeups))
+          subst (λ (o : OptionCpu). Leaves limits topology known (thenNext k x ns (reinsertedDef k o x wakeups (mem ts (reinsertAt cs ns us (limits .cpus) (recordAt ts x) .cpus))))
           (sched.pick-next limits topology tick us (sched.reinserted limits topology tick us (at-queue .world) x (at-queue .got)))) (sym reinsert-chosen)
           (moves (at-queue .got) refl reinsert-finds (reinsert-selected .under))
 
@@ -159,7 +159,7 @@ module _ (limits : Limits) (topology : Topology) (tick us : ℕ) (known : ℕ �
           (higher-shown limits topology tick us known numbered small early s us us-in runs-known (recordAt ts x) _ (f .yields) (ap effective-priority (s .threads x below)))
 
       -- its deadline is set anew
-      reset-leaves : Leaves limits topology known (record { threads = resetThreadTime ts cs k x; cpus = cs; wakeups = wakeups }) (sched.reset-thread-time limits topology tick us w us x)
+      reset-leaves : Leaves limits topology known (record { answer = wakeups; memory = mem (resetThreadTime k x cs ts) cs }) (sched.reset-thread-time limits topology tick us w us x)
       unfolding resetThreadTime context sched.reset-thread-time with-thread
       reset-leaves = record {
         ends = record {
@@ -170,7 +170,7 @@ module _ (limits : Limits) (topology : Topology) (tick us : ℕ) (known : ℕ �
         counted = count;
       }
 
-      pub shows-reinserted : (f : SchedFlags) → Leaves limits topology known (reinsertDef ts cs ns k x f wakeups) (sched.reinsert limits topology tick us w x (f .yields) (f .preempt))
+      pub shows-reinserted : (f : SchedFlags) → Leaves limits topology known (reinsertDef k x f wakeups ns (mem ts cs)) (sched.reinsert limits topology tick us w x (f .yields) (f .preempt))
       unfolding reinsertDef sched.reinsert context
       shows-reinserted f =
           both (f .preempt || (w .cpus us .must-rebalance || sched.has-higher limits topology tick us w x (f .yields)))
@@ -182,9 +182,9 @@ module _ (limits : Limits) (topology : Topology) (tick us : ℕ) (known : ℕ �
     -- ---- `do_schedule`
 
     abbrev Picked : List Thread → ℕ → Type 0
-    Picked ts′ n = Ends limits topology known (pickNext ts′ cs ns k n .threads) (pickNext ts′ cs ns k n .cpus) (sched.pick-next limits topology tick us w)
+    Picked ts′ n = Ends limits topology known (pickNext k n ns (mem ts′ cs) .threads) (pickNext k n ns (mem ts′ cs) .cpus) (sched.pick-next limits topology tick us w)
 
-    idle-picks : w .cpus us .running ≡ none → Leaves limits topology known (lent.after (pickNext ts cs ns k (runningAt cs us)) wakeups) (sched.pick-next limits topology tick us w)
+    idle-picks : w .cpus us .running ≡ none → Leaves limits topology known (record { answer = wakeups; memory = pickNext k (runningAt cs us) ns (mem ts cs) }) (sched.pick-next limits topology tick us w)
     idle-picks e = record {
       ends = subst (Picked ts) (sym (running-is limits topology tick us known numbered small early s us us-in runs-known))
           (shows-picked limits topology tick us known numbered small early us-in H ns tree node put-on
@@ -198,25 +198,31 @@ module _ (limits : Limits) (topology : Topology) (tick us : ℕ) (known : ℕ �
       counted = count ∙ sym (pick-wakeups limits topology tick us w);
     }
 
-    block-picks : (x : ℕ) → w .cpus us .running ≡ some x → Leaves limits topology known (lent.after (pickNext (blockDef ts x) cs ns k x) wakeups) (sched.pick-next limits topology tick us w)
+    block-picks : (x : ℕ) → w .cpus us .running ≡ some x → Leaves limits topology known (record { answer = wakeups; memory = pickNext k x ns (mem (blockDef x ts) cs) }) (sched.pick-next limits topology tick us w)
     block-picks x r = record {
-      ends = subst (Picked (blockDef ts x)) (ap number-or-none r ∙ some-number x)
+      ends = subst (Picked (blockDef x ts)) (ap number-or-none r ∙ some-number x)
           (shows-picked limits topology tick us known numbered small early us-in H ns tree node put-on (unsettle us x active w w r (safe .one) (λ c. refl) st)
           (shows-blocked limits topology tick us known numbered small early us-in H ns tree node put-on s x (runs-known x r) (safe .free us x (unfold nobody-but in refl) r))
           (weaker limits topology tick us known numbered H us-in w safe));
       counted = count ∙ sym (pick-wakeups limits topology tick us w);
     }
 
-    do-schedules : (f : SchedFlags) (o : Option ℕ) → w .cpus us .running ≡ o → Leaves limits topology known (doSchedule ts cs ns k f wakeups) (sched.do-schedule-of limits topology tick us w o (flags-in f))
-    unfolding doSchedule sched.do-schedule-of context flags-in reinsertDef mustMove
+    goes-on : (f : SchedFlags) (x : ℕ) → w .cpus us .running ≡ some x → (b : Bool) → Leaves limits topology known
+        (cond b (reinsertDef k x f wakeups ns (mem ts cs)) (record { answer = wakeups; memory = pickNext k x ns (mem (blockDef x ts) cs) }))
+        (cond b (sched.reinsert limits topology tick us w x (f .yields) (f .preempt)) (sched.pick-next limits topology tick us w))
+    goes-on f x e true = shows-reinserted x e f
+    goes-on f x e false = block-picks x e
+
+    do-schedules : (f : SchedFlags) (o : Option ℕ) → w .cpus us .running ≡ o → Leaves limits topology known (doSchedule k f wakeups ns (mem ts cs)) (sched.do-schedule-of limits topology tick us w o (flags-in f))
+    unfolding doSchedule sched.do-schedule-of context flags-in
     do-schedules f none e = rw (idle-at-work limits topology tick us known numbered small early s us us-in runs-known ∙ ap (λ (o : Option ℕ). not (is-some o)) e ∙ idle-is) (idle-picks e)
     do-schedules f (some x) e =
         let n : runningAt cs us ≡ x = running-is limits topology tick us known numbered small early s us us-in runs-known ∙ ap number-or-none e ∙ some-number x in
         rw (idle-at-work limits topology tick us known numbered small early s us us-in runs-known ∙ ap (λ (o : Option ℕ). not (is-some o)) e ∙ some-is x, n)
-        (both (f .reinsert) (λ b. rw b (shows-reinserted x e f)) (λ b. rw b (block-picks x e)))
+        (goes-on f x e (f .reinsert))
 
     -- SCHEDULE: "with a critical thread running it changes nothing"
-    pub shows-schedule : (f : SchedFlags) → Leaves limits topology known (scheduleDef ts cs ns k f wakeups) (sched.schedule limits topology tick us w (flags-in f))
+    pub shows-schedule : (f : SchedFlags) → Leaves limits topology known (scheduleDef k f wakeups ns (mem ts cs)) (sched.schedule limits topology tick us w (flags-in f))
     unfolding scheduleDef sched.schedule sched.do-schedule context
     shows-schedule f =
         both (sched.critical-running w (w .cpus us .running))

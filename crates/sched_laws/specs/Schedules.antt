@@ -1,4 +1,4 @@
--- `do_schedule` AND `schedule` OVER RECORDS AND WORDS ARE THE RULES'. Assumes nothing.
+-- `do_schedule` AND `schedule` OVER RECORDS AND WORDS ARE THE RULES'.
 use Prim.Native.Nat.{ℕ, _≤_, _<_}
 use mathlib.Core.Path.{_≡_, refl, sym, ap, subst, _∙_}
 use mathlib.Core.Logic.{_≢_}
@@ -38,7 +38,7 @@ use Rattle.choice.specs.Reads.{as-cpu}
 use Rattle.choice.specs.Select as choice
 use Rattle.choice_laws.specs.Memory.{select-memory}
 use Rattle.step.specs.Choose.{preferredOf, selectFor, selectedFor}
-use Rattle.sched.specs.Queues.{blockDef}
+use Rattle.sched_queues.specs.Queues.{blockDef}
 use Rattle.sched_laws.specs.Picks.{Settled, no-one}
 
 -- ---- a choice finds a CPU where there is one
@@ -142,7 +142,7 @@ module _ (limits : Limits) (topology : Topology) (tick us : ℕ) (known : ℕ �
         places-moved x place.Blocked blocked-at is-known (λ z h. refl) (λ z h. at-there active x false z h) (λ d z h. refl) (λ d h. absurd (true≢false (sym h ∙ free d)))
         (λ h. absurd (false≢true (sym (at-here active x false) ∙ h))) (λ a f. refl) (s .places)
 
-    pub shows-blocked : Shows limits topology known (at active x false) (blockDef ts x) cs w
+    pub shows-blocked : Shows limits topology known (at active x false) (blockDef x ts) cs w
     unfolding blockDef with-place
     shows-blocked =
         let h = numbered x is-known in

@@ -1,4 +1,4 @@
--- ONCE SEALED, EVERY DECLARED CPU IS ON A NODE, whatever calls are made. Assumes nothing.
+-- ONCE SEALED, EVERY DECLARED CPU IS ON A NODE, whatever calls are made.
 use Prim.Native.Nat.{ℕ, zero, suc, _<_}
 use mathlib.Core.Path.{_≡_, sym, _∙_}
 use mathlib.Core.Bool.{Bool, true, false, not, _||_, true≢false, false≢true}

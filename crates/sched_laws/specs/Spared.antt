@@ -1,4 +1,4 @@
--- WHAT STEPS OF THE RULES SPARE: a number or a thread read of a world that a put, a take, a choice, a switch, a mark, a hard tick, a donation or `balance` does not change. Assumes nothing.
+-- Frame lemmas: fields of a world that a put, a take, a choice, a switch, a mark, a hard tick, a donation or `balance` leaves unchanged.
 use Prim.Native.Nat.{ℕ, zero, suc}
 use mathlib.Core.Path.{_≡_, refl, _∙_}
 use mathlib.Core.Bool.{Bool, _&&_, false, not, true}

@@ -1,4 +1,4 @@
--- WHAT THE SCHEDULER DECIDES of words and records is what the rules decide, and each change of them is the rules'. Assumes nothing.
+-- WHAT THE SCHEDULER DECIDES of words and records is what the rules decide, and each change of them is the rules'.
 use Prim.Native.Nat.{ℕ, _+_, _≤_, _<_}
 use mathlib.Core.Path.{_≡_, refl, ap, subst, _∙_}
 use mathlib.Core.Bool.{Bool, true, false, cond, not, _&&_, _||_, true≢false, false≢true}
@@ -29,6 +29,8 @@ use Rattle.queue.specs.Num.{sum-exact}
 use Rattle.runqueue.specs.RunQueue.{rqEmpty}
 use Rattle.processor.specs.Words.{word}
 use Rattle.processor.specs.Queue.{queueAt}
+use Rattle.processor.specs.Word.{RUNNING, OWN-PRIORITY, IS-IDLE, MUST-REBALANCE, PREEMPT}
+use Rattle.lent.specs.Left.{mem}
 use Rattle.lent.specs.Rq.{recordAt, insertDef}
 use Rattle.step.specs.Signal.{signal}
 use Rattle.step.specs.Time.{deadlineAt, resetTime, movedTo, shouldSignal}
@@ -130,7 +132,7 @@ module _ (limits : Limits) (topology : Topology) (tick us : ℕ) (known : ℕ �
     still-new = record { nowhere = n .nowhere; is-known = n .is-known; near = n .near; runs-not = n .runs-not }
 
     -- `schedule_thread_on_cpu`: the records and words that it leaves
-    pub shows-put : (let d = insertDef (set ts x (movedTo cs c tick (limits .shortest) (recordAt ts x))) cs c x tick false in
+    pub shows-put : (let d = insertDef c x tick false (mem (set ts x (movedTo cs c tick (limits .shortest) (recordAt ts x))) cs) in
         Shows limits topology known (at active x false) (d .threads) (d .cpus) (sched.schedule-thread-on-cpu limits topology tick us w c x))
     unfolding sched.schedule-thread-on-cpu
     shows-put = shows-wakeup (sched.should-signal limits topology tick us w c x) (shows-insert limits topology tick us known numbered small shows-moved c x still-new false)
@@ -209,26 +211,26 @@ module _ (limits : Limits) (topology : Topology) (tick us : ℕ) (known : ℕ �
     -- the mark, which is then cleared
     pub swapped-mark : swapped cs us .mark ≡ w .cpus us .preempt
     unfolding swapped mark-in
-    swapped-mark = both (eqb (word cs us 78) 0) (λ e. rw e (rw e at (s .words us us-in .preempt))) (λ e. rw e (rw e at (s .words us us-in .preempt)))
+    swapped-mark = both (eqb (word cs us PREEMPT) 0) (λ e. rw e (rw e at (s .words us us-in .preempt))) (λ e. rw e (rw e at (s .words us us-in .preempt)))
 
     pub shows-swapped : w .cpus us .preempt ≡ true → Shows limits topology known active ts (swapped cs us .cpus) (with-cpu w us (with-preempt (w .cpus us) false))
     unfolding swapped mark-in
     shows-swapped m =
-        both (eqb (word cs us 78) 0)
+        both (eqb (word cs us PREEMPT) 0)
         (λ e. absurd (false≢true (rw e at (s .words us us-in .preempt) ∙ m)))
         (λ e. rw e (shows-preempt s us us-in 0 false refl))
 
     pub unswapped : w .cpus us .preempt ≡ false → swapped cs us .cpus ≡ cs
     unfolding swapped mark-in
     unswapped m =
-        both (eqb (word cs us 78) 0)
+        both (eqb (word cs us PREEMPT) 0)
         (λ e. rw e)
         (λ e. absurd (true≢false (rw e at (s .words us us-in .preempt) ∙ m)))
 
     -- ---- `switch_to`
 
     ran-by : (x : ℕ) (t : Thread) → Written cs (ranBy cs us x t) us
-        (λ i. cond (eqb i 74) x (cond (eqb i 77) 0 (cond (eqb i 76) 0 (cond (eqb i 75) (raw (effective-priority (reads t))) (word cs us i)))))
+        (λ i. cond (eqb i RUNNING) x (cond (eqb i MUST-REBALANCE) 0 (cond (eqb i IS-IDLE) 0 (cond (eqb i OWN-PRIORITY) (raw (effective-priority (reads t))) (word cs us i)))))
     unfolding ranBy
     ran-by x t =
         let l = in-rows s us us-in in
@@ -236,7 +238,7 @@ module _ (limits : Limits) (topology : Topology) (tick us : ℕ) (known : ℕ �
         written-put 74 x l r (omega arith) (omega arith) (written-put 77 0 l r (omega arith) (omega arith) (written-put 76 0 l r (omega arith) (omega arith)
         (written-put 75 (raw (effective-priority (reads t))) l r (omega arith) (omega arith) (written-none cs us))))
 
-    ran-idle : Written cs (ranIdle cs us) us (λ i. cond (eqb i 74) NONE (cond (eqb i 77) 0 (cond (eqb i 75) 0 (cond (eqb i 76) 1 (word cs us i)))))
+    ran-idle : Written cs (ranIdle cs us) us (λ i. cond (eqb i RUNNING) NONE (cond (eqb i MUST-REBALANCE) 0 (cond (eqb i OWN-PRIORITY) 0 (cond (eqb i IS-IDLE) 1 (word cs us i)))))
     unfolding ranIdle
     ran-idle =
         let l = in-rows s us us-in in

@@ -1,4 +1,4 @@
--- `schedule_hardtick` OVER RECORDS AND WORDS IS THE RULES'. Assumes nothing.
+-- `schedule_hardtick` OVER RECORDS AND WORDS IS THE RULES'.
 use Prim.Native.Nat.{ℕ, _≤_, _<_}
 use mathlib.Core.Path.{_≡_, refl, sym, ap, subst, _∙_}
 use mathlib.Core.Bool.{Bool, true, false, not, _||_}
@@ -19,9 +19,9 @@ use Rattle.lent.specs.Rq.{recordAt, hardtickDef}
 use Rattle.memory.specs.Shows.{number-or-none, Small, Shows, most-tick}
 use Rattle.step.specs.Running.{runningAt}
 use Rattle.step.specs.Preempt.{needsReschedule, marked, allowedAt, expires, idlePaid}
-use Rattle.sched.specs.declared.context.Context.{Context}
-use Rattle.sched.specs.World.{Memory}
-use Rattle.sched.specs.Ticks.{paidBy, scheduleHardtick}
+use Rattle.step.specs.declared.context.Context.{Context}
+use Rattle.lent.specs.Left.{mem, Memory}
+use Rattle.sched_ticks.specs.Ticks.{paidBy, scheduleHardtick}
 use Rattle.sched_laws.specs.Steps.{running-is, idle-at-work, needs-shown, shows-marked}
 use Rattle.sched_laws.specs.Ticks.{pay, shows-idle-paid, idle-expired, shows-paid, expired-of}
 
@@ -43,32 +43,32 @@ module _ (limits : Limits) (topology : Topology) (tick us : ℕ) (known : ℕ �
     needs = needs-shown limits topology tick us known numbered small early s us us-in runs true refl
 
     pays : (o : Option ℕ) → w .cpus us .running ≡ o
-        → Ends (paidBy ts k (runningAt cs us) (hardtickDef cs us tick) cs)
+        → Ends (paidBy k (runningAt cs us) (hardtickDef us tick cs) (mem ts cs))
         (sched.mark-preempt limits topology tick us (sched.paid-by limits topology tick us w o (pay limits topology tick us known numbered small early us-in s runs late o .timeslice))
         (sched.needs-reschedule limits topology tick us w true || pay limits topology tick us known numbered small early us-in s runs late o .expired))
     unfolding paidBy context expires
     pays none e =
         let i : eqb (runningAt cs us) NONE ≡ true = idle-at-work limits topology tick us known numbered small early s us us-in runs ∙ ap (λ (o : Option ℕ). not (is-some o)) e ∙ (unfold is-some in refl) in
         rw i
-        (subst (λ (b : Bool). Shows limits topology known active ts (marked (idlePaid (hardtickDef cs us tick .cpus) us (limits .shortest) (hardtickDef cs us tick .ticks) .cpus) us b)
+        (subst (λ (b : Bool). Shows limits topology known active ts (marked (idlePaid (hardtickDef us tick cs .memory) us (limits .shortest) (hardtickDef us tick cs .answer) .cpus) us b)
         (sched.mark-preempt limits topology tick us (sched.paid-by limits topology tick us w none (pay limits topology tick us known numbered small early us-in s runs late none .timeslice))
         (sched.needs-reschedule limits topology tick us w true || pay limits topology tick us known numbered small early us-in s runs late none .expired)))
-        (sym (ap (λ (b : Bool). b || idlePaid (hardtickDef cs us tick .cpus) us (limits .shortest) (hardtickDef cs us tick .ticks) .mark) needs
+        (sym (ap (λ (b : Bool). b || idlePaid (hardtickDef us tick cs .memory) us (limits .shortest) (hardtickDef us tick cs .answer) .mark) needs
         ∙ ap (λ (b : Bool). sched.needs-reschedule limits topology tick us w true || b) (idle-expired limits topology tick us known numbered small early us-in s runs late)))
         (shows-marked limits topology tick us known numbered small early (shows-idle-paid limits topology tick us known numbered small early us-in s runs late) us-in _))
     pays (some x) e =
         let r : runningAt cs us ≡ x = running-is limits topology tick us known numbered small early s us us-in runs ∙ ap number-or-none e ∙ (unfold number-or-none in refl) in
         let i : eqb x NONE ≡ false = ne-eqb x NONE (λ z. omega (arith, numbered x (runs x e), small .threads)) in
         let d : needsReschedule cs us (recordAt ts x) true ≡ sched.needs-reschedule limits topology tick us w true = ap (λ n. needsReschedule cs us (recordAt ts n) true) (sym r) ∙ needs in
-        let p : Thread = pay-ticks (recordAt ts x) (hardtickDef cs us tick .ticks) (allowedAt (hardtickDef cs us tick .cpus) us (limits .shortest) (recordAt ts x)) .thread in
+        let p : Thread = pay-ticks (recordAt ts x) (hardtickDef us tick cs .answer) (allowedAt (hardtickDef us tick cs .memory) us (limits .shortest) (recordAt ts x)) .thread in
         rw (r, i)
-        (subst (λ (b : Bool). Shows limits topology known active (set ts x p) (marked (hardtickDef cs us tick .cpus) us b)
+        (subst (λ (b : Bool). Shows limits topology known active (set ts x p) (marked (hardtickDef us tick cs .memory) us b)
         (sched.mark-preempt limits topology tick us (sched.paid-by limits topology tick us w (some x) (pay limits topology tick us known numbered small early us-in s runs late (some x) .timeslice))
         (sched.needs-reschedule limits topology tick us w true || pay limits topology tick us known numbered small early us-in s runs late (some x) .expired)))
-        (sym (ap (λ (b : Bool). b || pay-ticks (recordAt ts x) (hardtickDef cs us tick .ticks) (allowedAt (hardtickDef cs us tick .cpus) us (limits .shortest) (recordAt ts x)) .expired) d
+        (sym (ap (λ (b : Bool). b || pay-ticks (recordAt ts x) (hardtickDef us tick cs .answer) (allowedAt (hardtickDef us tick cs .memory) us (limits .shortest) (recordAt ts x)) .expired) d
         ∙ ap (λ (b : Bool). sched.needs-reschedule limits topology tick us w true || b) (expired-of limits topology tick us known numbered small early us-in s runs late x e)))
         (shows-marked limits topology tick us known numbered small early (shows-paid limits topology tick us known numbered small early us-in s runs late x e) us-in _))
 
-    pub shows-schedule-hardtick : Ends (scheduleHardtick ts cs k) (sched.schedule-hardtick limits topology tick us w)
+    pub shows-schedule-hardtick : Ends (scheduleHardtick k (mem ts cs)) (sched.schedule-hardtick limits topology tick us w)
     unfolding scheduleHardtick sched.schedule-hardtick context
     shows-schedule-hardtick = pays (w .cpus us .running) refl

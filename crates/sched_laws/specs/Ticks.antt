@@ -1,4 +1,4 @@
--- HARD TICKS, RESCHEDULING AND THE TIME UNTIL THE CPUS ARE BALANCED. Assumes nothing.
+-- HARD TICKS, RESCHEDULING AND THE TIME UNTIL THE CPUS ARE BALANCED.
 use Prim.Native.Nat.{ℕ, _+_, _-_, _%_, _≤_, _<_}
 use mathlib.Core.Path.{_≡_, refl, sym, ap, subst, _∙_}
 use mathlib.Core.Bool.{Bool, true, false, not, _&&_, _||_, true≢false, false≢true}
@@ -25,7 +25,9 @@ use Rattle.thread.specs.Place.{reads-blank}
 use Rattle.thread.specs.Time.{pay-ticks, reads-pay-ticks, expired-pay-ticks}
 use Rattle.processor.specs.Words.{word, put-word}
 use Rattle.processor.specs.Queue.{queueAt}
-use Rattle.lent.specs.Rq.{recordAt, hardtickDef, Ticked}
+use Rattle.processor.specs.Word.{RAND-STATE, CUR-REBALANCE-TIME}
+use Rattle.lent.specs.Left.{Words, Left}
+use Rattle.lent.specs.Rq.{recordAt, hardtickDef}
 use Rattle.memory.specs.Shows.{Small, Shows, most-tick}
 use Rattle.memory.specs.Frames.{shows-alike, shows-fields, shows-idle-timeslice, shows-draws, shows-rebalance-time, at-again}
 use Rattle.memory.specs.Numbers.{timeshare-load-shown}
@@ -94,17 +96,17 @@ module _ (limits : Limits) (topology : Topology) (tick us : ℕ) (known : ℕ �
     abbrev ticked : World
     ticked = with-cpu w us (with-ticks (w .cpus us) tick (w .cpus us .idle-timeslice))
 
-    abbrev hard : Ticked
-    hard = hardtickDef cs us tick
+    abbrev hard : Left ℕ Words
+    hard = hardtickDef us tick cs
 
-    s1 : Shows limits topology known active ts (hard .cpus) ticked
+    s1 : Shows limits topology known active ts (hard .memory) ticked
     s1 = shows-hardtick s small us us-in tick
 
     allowed-shown : (t : Thread) (o : Option ℕ) → effective-priority (reads t) ≡ priority-running w o
-        → allowedAt (hard .cpus) us (limits .shortest) t ≡ timeslice (limits .shortest) (priority-running w o .class) (timeshare-load (w .cpus us .queue))
+        → allowedAt (hard .memory) us (limits .shortest) t ≡ timeslice (limits .shortest) (priority-running w o .class) (timeshare-load (w .cpus us .queue))
     unfolding allowedAt
     allowed-shown t o e =
-        ap (λ (p : Priority). timeslice (limits .shortest) (p .class) (queueAt (hard .cpus) us .«timeshare_load»)) e
+        ap (λ (p : Priority). timeslice (limits .shortest) (p .class) (queueAt (hard .memory) us .«timeshare_load»)) e
         ∙ ap (λ n. timeslice (limits .shortest) (priority-running w o .class) n)
         (timeshare-load-shown s1 small us us-in ∙ ap (λ (p : Cpu). timeshare-load (p .queue)) (cpu-here w us _) ∙ ap timeshare-load (ticked-queue (w .cpus us) tick (w .cpus us .idle-timeslice)))
 
@@ -114,33 +116,33 @@ module _ (limits : Limits) (topology : Topology) (tick us : ℕ) (known : ℕ �
       pay o = times.pay-ticks (sched.paid-so-far limits topology tick us w o) (tick - w .cpus us .last-tick) (timeslice (limits .shortest) (priority-running w o .class) (timeshare-load (w .cpus us .queue)))
 
       pay-shown : (t : Thread) (o : Option ℕ) → effective-priority (reads t) ≡ priority-running w o → t .timeslice ≡ sched.paid-so-far limits topology tick us w o
-          → times.pay-ticks (t .timeslice) (hard .ticks) (allowedAt (hard .cpus) us (limits .shortest) t) ≡ pay o
+          → times.pay-ticks (t .timeslice) (hard .answer) (allowedAt (hard .memory) us (limits .shortest) t) ≡ pay o
       pay-shown t o e f =
-          ap (λ n. times.pay-ticks n (hard .ticks) (allowedAt (hard .cpus) us (limits .shortest) t)) f
-          ∙ ap (λ n. times.pay-ticks (sched.paid-so-far limits topology tick us w o) n (allowedAt (hard .cpus) us (limits .shortest) t)) (ticks-shown s small us us-in tick (omega arith) late)
+          ap (λ n. times.pay-ticks n (hard .answer) (allowedAt (hard .memory) us (limits .shortest) t)) f
+          ∙ ap (λ n. times.pay-ticks (sched.paid-so-far limits topology tick us w o) n (allowedAt (hard .memory) us (limits .shortest) t)) (ticks-shown s small us us-in tick (omega arith) late)
           ∙ ap (λ n. times.pay-ticks (sched.paid-so-far limits topology tick us w o) (tick - w .cpus us .last-tick) n) (allowed-shown t o e)
 
       -- the idle thread pays
-      payer-priority : effective-priority (reads (idlePayer (hard .cpus) us)) ≡ priority-running w none
+      payer-priority : effective-priority (reads (idlePayer (hard .memory) us)) ≡ priority-running w none
       unfolding idlePayer priority-running
       payer-priority = slice-priority blank _ ∙ blank-priority
 
-      payer-paid : idlePayer (hard .cpus) us .timeslice ≡ sched.paid-so-far limits topology tick us w none
+      payer-paid : idlePayer (hard .memory) us .timeslice ≡ sched.paid-so-far limits topology tick us w none
       unfolding idlePayer with-timeslice sched.paid-so-far
       payer-paid = s1 .words us us-in .idle-timeslice ∙ ap (λ (p : Cpu). p .idle-timeslice) (cpu-here w us _) ∙ (unfold with-ticks in refl)
 
-      pub shows-idle-paid : Shows limits topology known active ts (idlePaid (hard .cpus) us (limits .shortest) (hard .ticks) .cpus) (sched.paid-by limits topology tick us w none (pay none .timeslice))
+      pub shows-idle-paid : Shows limits topology known active ts (idlePaid (hard .memory) us (limits .shortest) (hard .answer) .cpus) (sched.paid-by limits topology tick us w none (pay none .timeslice))
       unfolding idlePaid sched.paid-by with-cpu
       shows-idle-paid =
-          let n : ℕ = pay-ticks (idlePayer (hard .cpus) us) (hard .ticks) (allowedAt (hard .cpus) us (limits .shortest) (idlePayer (hard .cpus) us)) .thread .timeslice in
-          let e : n ≡ pay none .timeslice = paid-timeslice _ _ _ ∙ ap (λ (q : times.Paid). q .timeslice) (pay-shown (idlePayer (hard .cpus) us) none payer-priority payer-paid) in
+          let n : ℕ = pay-ticks (idlePayer (hard .memory) us) (hard .answer) (allowedAt (hard .memory) us (limits .shortest) (idlePayer (hard .memory) us)) .thread .timeslice in
+          let e : n ≡ pay none .timeslice = paid-timeslice _ _ _ ∙ ap (λ (q : times.Paid). q .timeslice) (pay-shown (idlePayer (hard .memory) us) none payer-priority payer-paid) in
           shows-alike (with-cpu ticked us (with-ticks (ticked .cpus us) (ticked .cpus us .last-tick) n)) (with-cpu w us (with-ticks (w .cpus us) tick (pay none .timeslice)))
           (λ c. sym (cpu-twice w us _ _ c ∙ ap (λ (q : Cpu). with-cpu w us q .cpus c) (ap (λ (q : Cpu). with-ticks q (q .last-tick) n) (cpu-here w us _) ∙ ticked-twice (w .cpus us) tick (w .cpus us .idle-timeslice) n ∙ ap (with-ticks (w .cpus us) tick) e))) (λ x. refl)
           (shows-idle-timeslice s1 us us-in n)
 
-      pub idle-expired : idlePaid (hard .cpus) us (limits .shortest) (hard .ticks) .mark ≡ pay none .expired
+      pub idle-expired : idlePaid (hard .memory) us (limits .shortest) (hard .answer) .mark ≡ pay none .expired
       unfolding idlePaid
-      idle-expired = expired-pay-ticks _ _ _ ∙ ap (λ (q : times.Paid). q .expired) (pay-shown (idlePayer (hard .cpus) us) none payer-priority payer-paid)
+      idle-expired = expired-pay-ticks _ _ _ ∙ ap (λ (q : times.Paid). q .expired) (pay-shown (idlePayer (hard .memory) us) none payer-priority payer-paid)
 
       -- a thread pays
       module _ (x : ℕ) (e : w .cpus us .running ≡ some x) where
@@ -148,36 +150,36 @@ module _ (limits : Limits) (topology : Topology) (tick us : ℕ) (known : ℕ �
         r = recordAt ts x
 
         abbrev paid : Thread
-        paid = pay-ticks r (hard .ticks) (allowedAt (hard .cpus) us (limits .shortest) r) .thread
+        paid = pay-ticks r (hard .answer) (allowedAt (hard .memory) us (limits .shortest) r) .thread
 
         in-records-x : x < limits .threads
         in-records-x = numbered x (runs x e)
 
-        pay-of : times.pay-ticks (r .timeslice) (hard .ticks) (allowedAt (hard .cpus) us (limits .shortest) r) ≡ pay (some x)
+        pay-of : times.pay-ticks (r .timeslice) (hard .answer) (allowedAt (hard .memory) us (limits .shortest) r) ≡ pay (some x)
         unfolding priority-running sched.paid-so-far
         pay-of = pay-shown r (some x) (ap effective-priority (s .threads x in-records-x)) (slice-reads r ∙ ap (λ (t : times.Thread). t .timeslice) (s .threads x in-records-x))
 
         paid-reads : reads paid ≡ paid-to (ticked .threads x) (pay (some x) .timeslice)
         unfolding with-cpu
         paid-reads =
-            reads-pay-ticks r _ _ ∙ ap (λ (t : times.Thread). paid-to t (times.pay-ticks (r .timeslice) (hard .ticks) (allowedAt (hard .cpus) us (limits .shortest) r) .timeslice)) (s .threads x in-records-x)
+            reads-pay-ticks r _ _ ∙ ap (λ (t : times.Thread). paid-to t (times.pay-ticks (r .timeslice) (hard .answer) (allowedAt (hard .memory) us (limits .shortest) r) .timeslice)) (s .threads x in-records-x)
             ∙ ap (λ (q : times.Paid). paid-to (w .threads x) (q .timeslice)) pay-of
 
-        pub shows-paid : Shows limits topology known active (set ts x paid) (hard .cpus) (sched.paid-by limits topology tick us w (some x) (pay (some x) .timeslice))
+        pub shows-paid : Shows limits topology known active (set ts x paid) (hard .memory) (sched.paid-by limits topology tick us w (some x) (pay (some x) .timeslice))
         unfolding sched.paid-by paid-to pinned with-cpu
         shows-paid = shows-fields s1 x paid _ in-records-x paid-reads (paid-next r _ _) (paid-place r _ _) refl refl (s .queue-cpus x in-records-x)
 
-        pub expired-of : pay-ticks r (hard .ticks) (allowedAt (hard .cpus) us (limits .shortest) r) .expired ≡ pay (some x) .expired
+        pub expired-of : pay-ticks r (hard .answer) (allowedAt (hard .memory) us (limits .shortest) r) .expired ≡ pay (some x) .expired
         expired-of = expired-pay-ticks r _ _ ∙ ap (λ (q : times.Paid). q .expired) pay-of
 
   -- ---- the time until the CPUs are balanced
 
   module _ {active : ℕ → Bool} {ts : List Thread} {cs : List (List ℕ)} {w : World} (s : Shows limits topology known active ts cs w) (dt : ℕ) where
-    time-mark : timePassed cs us dt .mark ≡ ltb (word cs us 80) dt
+    time-mark : timePassed cs us dt .mark ≡ ltb (word cs us CUR-REBALANCE-TIME) dt
     unfolding timePassed
-    time-mark = both (ltb (word cs us 80) dt) (λ l. rw l) (λ l. rw l)
+    time-mark = both (ltb (word cs us CUR-REBALANCE-TIME) dt) (λ l. rw l) (λ l. rw l)
 
-    due-mark : rebalanceDue cs us dt .mark ≡ (eqb us 0 && ltb (word cs us 80) dt)
+    due-mark : rebalanceDue cs us dt .mark ≡ (eqb us 0 && ltb (word cs us CUR-REBALANCE-TIME) dt)
     unfolding rebalanceDue
     due-mark = both (eqb us 0) (λ e. rw e time-mark) (λ e. rw e)
 
@@ -192,10 +194,10 @@ module _ (limits : Limits) (topology : Topology) (tick us : ℕ) (known : ℕ �
     anew = with-cpu w us (with-rebalance-time (with-draws (w .cpus us) state) (500000000 + draw state % sched.rebalance-period limits topology tick us))
 
     -- it is time: the next time is drawn
-    drawn-anew : Shows limits topology known active ts (put-word (put-word cs us 79 (next-state us (word cs us 79))) us 80 (500000000 + draw (next-state us (word cs us 79)) % 1000000000)) anew
+    drawn-anew : Shows limits topology known active ts (put-word (put-word cs us RAND-STATE (next-state us (word cs us RAND-STATE))) us CUR-REBALANCE-TIME (500000000 + draw (next-state us (word cs us RAND-STATE)) % 1000000000)) anew
     unfolding sched.rebalance-period with-cpu
     drawn-anew =
-        let n : ℕ = next-state us (word cs us 79) in
+        let n : ℕ = next-state us (word cs us RAND-STATE) in
         let e : n ≡ state = ap (next-state us) (s .words us us-in .draw-state) in
         let v : ℕ = 500000000 + draw n % 1000000000 in
         let a : World = with-cpu w us (with-draws (w .cpus us) n) in
@@ -208,22 +210,22 @@ module _ (limits : Limits) (topology : Topology) (tick us : ℕ) (known : ℕ �
     unfolding rebalanceDue timePassed
     shows-due h =
         both (eqb us 0)
-        (λ e. both (ltb (word cs us 80) dt)
+        (λ e. both (ltb (word cs us CUR-REBALANCE-TIME) dt)
         (λ l. rw (e, l) drawn-anew)
         (λ l. absurd (false≢true (sym (ap (λ n. eqb us 0 && ltb n dt) (sym (s .words us us-in .rebalance-time)) ∙ rw (e, l)) ∙ h))))
         (λ e. absurd (false≢true (rw e at h)))
 
     -- it is not: the time passes, on the boot CPU
-    passed : Shows limits topology known active ts (put-word cs us 80 (word cs us 80 - dt)) (with-cpu w us (with-rebalance-time (w .cpus us) (w .cpus us .rebalance-time - dt)))
+    passed : Shows limits topology known active ts (put-word cs us CUR-REBALANCE-TIME (word cs us CUR-REBALANCE-TIME - dt)) (with-cpu w us (with-rebalance-time (w .cpus us) (w .cpus us .rebalance-time - dt)))
     passed =
-        subst (λ n. Shows limits topology known active ts (put-word cs us 80 (word cs us 80 - dt)) (with-cpu w us (with-rebalance-time (w .cpus us) (n - dt)))) (s .words us us-in .rebalance-time)
-        (shows-rebalance-time s us us-in (word cs us 80 - dt))
+        subst (λ n. Shows limits topology known active ts (put-word cs us CUR-REBALANCE-TIME (word cs us CUR-REBALANCE-TIME - dt)) (with-cpu w us (with-rebalance-time (w .cpus us) (n - dt)))) (s .words us us-in .rebalance-time)
+        (shows-rebalance-time s us us-in (word cs us CUR-REBALANCE-TIME - dt))
 
     pub shows-not-due : (eqb us 0 && ltb (w .cpus us .rebalance-time) dt) ≡ false → Shows limits topology known active ts (rebalanceDue cs us dt .cpus) (sched.maybe-rebalance limits topology tick us w dt)
     unfolding rebalanceDue timePassed sched.maybe-rebalance
     shows-not-due h =
         both (eqb us 0)
-        (λ e. both (ltb (word cs us 80) dt)
+        (λ e. both (ltb (word cs us CUR-REBALANCE-TIME) dt)
         (λ l. absurd (true≢false (sym (ap (λ n. eqb us 0 && ltb n dt) (sym (s .words us us-in .rebalance-time)) ∙ rw (e, l)) ∙ h)))
         (λ l. let m : ltb (w .cpus us .rebalance-time) dt ≡ false = rw e at h in rw (e, l, m) passed))
         (λ e. rw e s)

@@ -1,4 +1,4 @@
--- What passes over C for an answer: numbers and Booleans for each case of its enums. Assumes nothing.
+-- What passes over C for an answer: numbers and Booleans for each case of its enums.
 use mathlib.Core.Path.{_≡_, refl}
 use mathlib.Core.Bool.{true, false, cond}
 use Rattle.lines.specs.Lines.{refusal-number}
@@ -9,9 +9,16 @@ use Rattle.lines.specs.declared.Running.the-variants as running
 use Rattle.lines.specs.declared.Answer.{Answer}
 use Rattle.lines.specs.declared.Rendered.{Rendered}
 use Rattle.lines.specs.declared.Rendered.the-variants as render
+use Prim.Native.Nat.{ℕ}
+use mathlib.Core.List.{List}
+use lib.ListN.{length}
 use Rattle.questions.specs.declared.state.State.{State}
-use Rattle.command.specs.declared.answer.Answered.{Answered}
-use Rattle.command.specs.Call.{refusal-back, refusal-again}
+use Rattle.lent.specs.Left.{Left}
+use Rattle.command.specs.Lent.{Lent}
+use Rattle.command.specs.Command.{commandDef}
+use Rattle.feed.specs.Start.{startDef}
+use Rattle.outcome.specs.declared.answer.Answered.{Answered}
+use Rattle.outcome.specs.Call.{refusal-back, refusal-again}
 use Rattle.feed.specs.declared.start.Started.{Started}
 use Rattle.feed.specs.declared.start.Started.the-variants as started
 use Rattle.scheduler.specs.declared.numbers.Column.{Column}
@@ -88,3 +95,11 @@ pub answer-again : (a : Answer) → answer-in (row-of a) ≡ a
 unfolding answer-in row-of
 answer-again a =
     rw (refusal-again (a .refusal), shown-again (a .cpu), running-again (a .running), shown-again (a .load), shown-again (a .wakeups)) refl
+
+-- ---- what the two calls leave
+
+abbrev pub startRow : Lent → Left Begun Lent
+startRow w = record { answer = begun-of (startDef w .answer); memory = startDef w .memory }
+
+abbrev pub commandRow : State → List ℕ → Lent → Left Step Lent
+commandRow s bytes w = record { answer = step-of (commandDef (length bytes) 0 s bytes w .answer); memory = commandDef (length bytes) 0 s bytes w .memory }

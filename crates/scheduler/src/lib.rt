@@ -2,14 +2,12 @@
 pub mod numbers;
 
 ghost use mathlib.Core.Path.{_≡_};
-ghost use lib.ListN.{length};
 ghost use Rattle.rules.specs.Lines.{line};
 ghost use Rattle.lines.specs.Lines.{answer-of, rendered, buffer-with};
-ghost use Rattle.command.specs.Command.{commandDef};
+ghost use Rattle.command.specs.Lent.{leaves-all};
 ghost use Rattle.feed.specs.Fed.{begin};
-ghost use Rattle.feed.specs.Feed.{Fedded, worldOf, feedDef};
-ghost use Rattle.feed.specs.Start.{startDef};
-ghost use Rattle.scheduler.specs.Numbers.{answer-in, step-of, begun-of, written-of};
+ghost use Rattle.feed.specs.Feed.{feeds, feedDef};
+ghost use Rattle.scheduler.specs.Numbers.{answer-in, written-of, startRow, commandRow};
 use crate::numbers::Begun;
 use crate::numbers::Row;
 use crate::numbers::Step;
@@ -24,6 +22,8 @@ use feed::fed::begin;
 use feed::feed::feed;
 use feed::start::start;
 use lines::render;
+use nodes::words::NodeWords;
+use processor::words::CpuWords;
 use questions::state::State;
 use thread::Thread;
 
@@ -31,15 +31,10 @@ use thread::Thread;
 #[no_mangle]
 pub extern "C" fn scheduler_start(
     threads: &mut [Thread],
-    cpus: &mut [[u64; 96]],
-    nodes: &mut [[u64; 32]],
+    cpus: &mut [CpuWords],
+    nodes: &mut [NodeWords],
 ) -> Begun
-    ensures { λ r.
-        ⌜
-        (r ≡ begun-of (startDef (now (threads .entry)) (now (cpus .entry)) (now (nodes .entry)) .answer))
-        × ((now (threads .exit) ≡ startDef (now (threads .entry)) (now (cpus .entry)) (now (nodes .entry)) .threads)
-        × ((now (cpus .exit) ≡ startDef (now (threads .entry)) (now (cpus .entry)) (now (nodes .entry)) .cpus) × (now (nodes .exit) ≡ startDef (now (threads .entry)) (now (cpus .entry)) (now (nodes .entry)) .nodes)))
-        ⌝ }
+    ensures { λ r. ⌜ leaves-all startRow r threads cpus nodes ⌝ }
 {
     let started = start(threads, cpus, nodes);
     begun_of(started)
@@ -49,12 +44,12 @@ pub extern "C" fn scheduler_start(
 #[no_mangle]
 pub extern "C" fn scheduler_command(
     threads: &mut [Thread],
-    cpus: &mut [[u64; 96]],
-    nodes: &mut [[u64; 32]],
+    cpus: &mut [CpuWords],
+    nodes: &mut [NodeWords],
     bytes: &[u8],
     state: State,
 ) -> Step
-    ensures { λ r. ⌜ (r ≡ step-of (commandDef (now (threads .entry)) (now (cpus .entry)) (now (nodes .entry)) (now (bytes .entry)) (length (now (bytes .entry))) 0 state .outcome)) × ((now (threads .exit) ≡ commandDef (now (threads .entry)) (now (cpus .entry)) (now (nodes .entry)) (now (bytes .entry)) (length (now (bytes .entry))) 0 state .threads) × ((now (cpus .exit) ≡ commandDef (now (threads .entry)) (now (cpus .entry)) (now (nodes .entry)) (now (bytes .entry)) (length (now (bytes .entry))) 0 state .cpus) × (now (nodes .exit) ≡ commandDef (now (threads .entry)) (now (cpus .entry)) (now (nodes .entry)) (now (bytes .entry)) (length (now (bytes .entry))) 0 state .nodes))) ⌝ }
+    ensures { λ r. ⌜ leaves-all (commandRow state (now (bytes .entry))) r threads cpus nodes ⌝ }
 {
     let answered = command(threads, cpus, nodes, bytes, state);
     step_of(answered)
@@ -81,15 +76,15 @@ pub extern "C" fn scheduler_begin(state: State) -> Fed
 #[no_mangle]
 pub extern "C" fn scheduler_feed(
     threads: &mut [Thread],
-    cpus: &mut [[u64; 96]],
-    nodes: &mut [[u64; 32]],
+    cpus: &mut [CpuWords],
+    nodes: &mut [NodeWords],
     input: &[u8],
     output: &mut [u8],
     n: usize,
     last: bool,
     fed: Fed,
 ) -> Fed
-    ensures { λ r. ⌜ Fedded (feedDef (now (input .entry)) n last (worldOf (now (threads .entry)) (now (cpus .entry)) (now (nodes .entry)) (now (output .entry)) fed)) r (now (threads .exit)) (now (cpus .exit)) (now (nodes .exit)) (now (output .exit)) ⌝ }
+    ensures { λ r. ⌜ feeds (feedDef (now (input .entry)) n last) fed r threads cpus nodes output ⌝ }
 {
     feed(threads, cpus, nodes, input, output, n, last, fed)
 }

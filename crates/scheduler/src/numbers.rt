@@ -1,8 +1,7 @@
 // Answers as numbers and Booleans, which C takes: an enum does not pass over C. `answer-again` of specs/Numbers: none is lost.
 ghost use mathlib.Core.Path.{_≡_};
-ghost use Rattle.command.specs.Call.{refusal-back};
+ghost use Rattle.outcome.specs.Call.{refusal-back};
 ghost use Rattle.scheduler.specs.Numbers.{column-of, shown-in, runs-of, running-in, row-of, answer-in, step-of, no-state, begun-of, written-of};
-use command::answer::Answered;
 use feed::start::Started;
 use lines::Answer;
 use lines::Refusal;
@@ -10,6 +9,7 @@ use lines::Rendered;
 use lines::Running;
 use lines::Shown;
 use lines::refusal_number;
+use outcome::answer::Answered;
 use questions::state::State;
 
 // A number of a line, or `-` where it is not shown.

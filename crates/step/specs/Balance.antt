@@ -1,4 +1,4 @@
--- The choices of `balance`: until one moves a thread, twenty steps are made, or a donor has no load. Assumes nothing.
+-- The choices of `balance`: until one moves a thread, twenty steps are made, or a donor has no load.
 use Prim.Native.Nat.{ℕ, zero, suc, _-_, _<_}
 use mathlib.Core.Path.{_≡_, refl, ap, _∙_}
 use native.Mathlib.Omega.{arith}
@@ -24,7 +24,7 @@ use Rattle.choice.specs.declared.balance.Pair.the-variants as pair
 use Rattle.choice.specs.Reads.{weight-at}
 use Rattle.choice.specs.Balance.{pair-in, chosen-in}
 use Rattle.step.specs.declared.balance.Balancing.{Balancing}
-use Rattle.step.specs.Word.{LOAD, RAND-STATE, MUST-REBALANCE}
+use Rattle.processor.specs.Word.{LOAD, RAND-STATE, MUST-REBALANCE}
 
 -- the choices so far, and the words of the CPUs after the draws and the marks
 pub record Balanced : Type 0 where

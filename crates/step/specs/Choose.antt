@@ -1,4 +1,4 @@
--- The CPU for a thread whose record is given, and the CPU from which to steal. Assumes nothing.
+-- The CPU for a thread whose record is given, and the CPU from which to steal.
 use Prim.Native.Nat.{ℕ}
 use mathlib.Core.Bool.{Bool, true, false, cond}
 use mathlib.Core.List.{List}
@@ -15,7 +15,7 @@ use Rattle.processor.specs.Words.{word}
 use Rattle.nodes.specs.Walk.{nearest-at}
 use Rattle.choice.specs.Reads.{load-at, movable-at, as-cpu}
 use Rattle.choice.specs.Select.{select-cpu, after-select}
-use Rattle.step.specs.Word.{PLACED}
+use Rattle.processor.specs.Word.{PLACED}
 use Rattle.step.specs.Running.{mustRebalance}
 
 -- a CPU that was chosen, if any, and the words of the CPUs after the draws

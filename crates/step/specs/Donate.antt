@@ -1,4 +1,4 @@
--- Whom a donation signals. Assumes nothing.
+-- Whom a donation signals.
 use Prim.Native.Nat.{ℕ}
 use mathlib.Core.Bool.{Bool, cond, not, _&&_}
 use mathlib.Core.List.{List}

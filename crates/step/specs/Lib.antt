@@ -7,4 +7,3 @@ pub mod Rebalance
 pub mod Running
 pub mod Signal
 pub mod Time
-pub mod Word

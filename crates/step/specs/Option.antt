@@ -1,4 +1,4 @@
--- A CPU that was chosen, if any. Assumes nothing.
+-- A CPU that was chosen, if any.
 use Prim.Native.Nat.{ℕ}
 use mathlib.Core.Bool.{Bool, true, false}
 use Rattle.thread.specs.declared.time.OptionCpu.{OptionCpu}

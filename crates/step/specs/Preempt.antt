@@ -1,4 +1,4 @@
--- Whether the thread running has to give way, the mark that says so, and what a thread pays at a hard tick. Assumes nothing.
+-- Whether the thread running has to give way, the mark that says so, and what a thread pays at a hard tick.
 use Prim.Native.Nat.{ℕ}
 use mathlib.Core.Bool.{Bool, true, false, cond, not, _&&_, _||_}
 use mathlib.Core.List.{List}
@@ -12,7 +12,7 @@ use Rattle.thread.specs.Reads.{reads, critical-in}
 use Rattle.thread.specs.Time.{pay-ticks}
 use Rattle.runqueue.specs.RunQueue.{rqEmpty}
 use Rattle.processor.specs.Words.{word, put-word}
-use Rattle.step.specs.Word.{PREEMPT, IDLE-TIMESLICE}
+use Rattle.processor.specs.Word.{PREEMPT, IDLE-TIMESLICE}
 use Rattle.processor.specs.Queue.{queueAt}
 use Rattle.step.specs.Running.{runningAt}
 

@@ -1,11 +1,11 @@
--- When the boot CPU balances. Assumes nothing.
+-- When the boot CPU balances.
 use Prim.Native.Nat.{ℕ, _+_, _-_, _%_}
 use mathlib.Core.Bool.{Bool, true, false, cond}
 use mathlib.Core.List.{List}
 use lib.Dec.{eqb, ltb}
 use Rattle.rules.specs.Draw.{next-state, draw}
 use Rattle.processor.specs.Words.{word, put-word}
-use Rattle.step.specs.Word.{RAND-STATE, CUR-REBALANCE-TIME}
+use Rattle.processor.specs.Word.{RAND-STATE, CUR-REBALANCE-TIME}
 use Rattle.step.specs.Preempt.{Marked}
 
 -- the time passes, or, if it is more than what is left, is drawn anew

@@ -1,4 +1,4 @@
--- The thread that runs on a CPU, and its marks. Assumes nothing.
+-- The thread that runs on a CPU, and its marks.
 use Prim.Native.Nat.{ℕ}
 use mathlib.Core.Bool.{Bool, not}
 use mathlib.Core.List.{List}
@@ -9,7 +9,7 @@ use Rattle.thread.specs.declared.Thread.{Thread}
 use Rattle.thread.specs.Thread.{NONE}
 use Rattle.thread.specs.Reads.{reads}
 use Rattle.processor.specs.Words.{word, put-word}
-use Rattle.step.specs.Word.{OWN-PRIORITY, IS-IDLE, RUNNING, MUST-REBALANCE}
+use Rattle.processor.specs.Word.{OWN-PRIORITY, IS-IDLE, RUNNING, MUST-REBALANCE}
 
 -- the thread that CPU c runs; NONE: its idle thread
 unfoldable pub runningAt : List (List ℕ) → ℕ → ℕ

@@ -1,4 +1,4 @@
--- Wake-ups. Assumes nothing.
+-- Wake-ups.
 use Prim.Native.Nat.{ℕ}
 use mathlib.Core.Bool.{Bool, cond}
 use Rattle.queue.specs.Num.{sum}

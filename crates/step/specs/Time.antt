@@ -1,4 +1,4 @@
--- The times of a thread that goes into a queue, and whether its CPU is signalled. Assumes nothing.
+-- The times of a thread that goes into a queue, and whether its CPU is signalled.
 use Prim.Native.Nat.{ℕ, _%_, _^_}
 use mathlib.Core.Bool.{Bool, not, _&&_, _||_}
 use mathlib.Core.List.{List}

@@ -5,8 +5,10 @@ ghost use Rattle.step.specs.Balance.{begun, moved, passed, stopped, with
 use crate::running::set_rebalance;
 use choice::balance::Pair;
 use choice::balance::choose_cpu_balance;
+use nodes::words::NodeWords;
 use processor::cpu::current_load;
 use processor::rq::load_queue;
+use processor::words::CpuWords;
 use processor::words::LOAD;
 use processor::words::RAND_STATE;
 use processor::words::put_word;
@@ -75,7 +77,7 @@ impl Balancing {
         self
     }
 
-    // A choice that moves a thread: eleven steps.
+    // A move costs its choice and ten more steps, eleven of twenty.
     pub fn moving(mut self, donor: u64, recipient: u64) -> Self
         ensures { λ r. ⌜ r ≡ moving self donor recipient ⌝ }
     {
@@ -102,7 +104,7 @@ impl Balancing {
         true
     }
 
-    // What a choice comes to: load and waiting are of the donor, the running thread counted in the first; hands: it hands out a thread.
+    // What a choice comes to. load includes the donor's running thread, waiting is its queue's load; hands: its queue hands out a thread.
     pub fn outcome(self, donor: u64, recipient: u64, load: u64, waiting: u64, hands: bool) -> Self
         ensures { λ r. ⌜ r ≡ outcome self donor recipient load waiting hands ⌝ }
     {
@@ -133,7 +135,7 @@ fn is_somebody(front: Front) -> bool
 }
 
 // Does the queue of the donor hand out a thread to the recipient?
-pub fn hands_out(cpus: &[[u64; 96]], donor: u64, recipient: u64) -> bool
+pub fn hands_out(cpus: &[CpuWords], donor: u64, recipient: u64) -> bool
     ensures { λ r. ⌜ r ≡ handsOut (now (cpus .entry)) donor recipient ⌝ }
 {
     let q = load_queue(cpus, donor);
@@ -142,7 +144,7 @@ pub fn hands_out(cpus: &[[u64; 96]], donor: u64, recipient: u64) -> bool
 }
 
 // A pair was chosen: a donor with no load ends it, before it is marked.
-pub fn balance_pair(cpus: &mut [[u64; 96]], b: Balancing, donor: u64, recipient: u64) -> Balancing
+pub fn balance_pair(cpus: &mut [CpuWords], b: Balancing, donor: u64, recipient: u64) -> Balancing
     ensures { λ r.
         ⌜
         (r ≡ pairStep (now (cpus .entry)) b donor recipient .balancing)
@@ -161,8 +163,8 @@ pub fn balance_pair(cpus: &mut [[u64; 96]], b: Balancing, donor: u64, recipient:
 
 // One choice, with its draws.
 pub fn balance_step(
-    cpus: &mut [[u64; 96]],
-    nodes: &[[u64; 32]],
+    cpus: &mut [CpuWords],
+    nodes: &[NodeWords],
     us: u64,
     limit: u64,
     b: Balancing,
@@ -186,8 +188,8 @@ pub fn balance_step(
 
 // Choices until one moves a thread or it ends: at most twenty.
 pub fn find_move(
-    cpus: &mut [[u64; 96]],
-    nodes: &[[u64; 32]],
+    cpus: &mut [CpuWords],
+    nodes: &[NodeWords],
     us: u64,
     limit: u64,
     begin: Balancing,

@@ -4,6 +4,8 @@ ghost use Rattle.step.specs.Choose.{preferredOf, selectFor, selectedFor,
 use crate::running::must_rebalance;
 use choice::select::select_cpu;
 use choice::steal::choose_cpu_steal_via_topo;
+use nodes::words::NodeWords;
+use processor::words::CpuWords;
 use processor::words::PLACED;
 use processor::words::word;
 use thread::Thread;
@@ -22,8 +24,8 @@ pub fn preferred_of(p: Preferred) -> OptionCpu
 
 // `select_cpu` for the thread; its draws are those of CPU us.
 pub fn select_for(
-    cpus: &mut [[u64; 96]],
-    nodes: &[[u64; 32]],
+    cpus: &mut [CpuWords],
+    nodes: &[NodeWords],
     us: u64,
     limit: u64,
     t: Thread,
@@ -43,8 +45,8 @@ pub fn select_for(
 
 // Where the thread running goes back into a queue: another CPU if this one must rebalance.
 pub fn reinsert_at(
-    cpus: &mut [[u64; 96]],
-    nodes: &[[u64; 32]],
+    cpus: &mut [CpuWords],
+    nodes: &[NodeWords],
     us: u64,
     limit: u64,
     t: Thread,
@@ -62,7 +64,7 @@ pub fn reinsert_at(
 }
 
 // The CPU from which CPU us steals, looking from its own node upward.
-pub fn steal_from(cpus: &[[u64; 96]], nodes: &[[u64; 32]], us: u64, limit: u64) -> OptionCpu
+pub fn steal_from(cpus: &[CpuWords], nodes: &[NodeWords], us: u64, limit: u64) -> OptionCpu
     ensures { λ r. ⌜ r ≡ stealFrom (now (cpus .entry)) (now (nodes .entry)) us limit ⌝ }
 {
     let node = word(cpus, us, PLACED);

@@ -5,13 +5,14 @@ ghost use Rattle.step.specs.Donate.{wakeupDue, wokenIn, maybeReschedule,
 use crate::running::running;
 use crate::signal::signal;
 use processor::rq::load_queue;
+use processor::words::CpuWords;
 use thread::Thread;
 use thread::priority::Donation;
 use thread::priority::less;
 use thread::time::OptionCpu;
 
 // Is CPU c signalled for a thread with this record? If somebody waits there and it advertises more than the thread's priority.
-pub fn wakeup_due(cpus: &[[u64; 96]], c: u64, t: Thread) -> bool
+pub fn wakeup_due(cpus: &[CpuWords], c: u64, t: Thread) -> bool
     ensures { λ r. ⌜ r ≡ wakeupDue (now (cpus .entry)) c t ⌝ }
 {
     let q = load_queue(cpus, c);
@@ -23,7 +24,7 @@ pub fn wakeup_due(cpus: &[[u64; 96]], c: u64, t: Thread) -> bool
     less(own, said)
 }
 
-pub fn maybe_wakeup(cpus: &[[u64; 96]], us: u64, c: u64, t: Thread, wakeups: u64) -> u64
+pub fn maybe_wakeup(cpus: &[CpuWords], us: u64, c: u64, t: Thread, wakeups: u64) -> u64
     ensures { λ r. ⌜ r ≡ wokenIn (now (cpus .entry)) us c t wakeups ⌝ }
 {
     let due = wakeup_due(cpus, c, t);
@@ -31,7 +32,7 @@ pub fn maybe_wakeup(cpus: &[[u64; 96]], us: u64, c: u64, t: Thread, wakeups: u64
 }
 
 // The CPU in whose queue the thread was put is signalled, if there is one.
-pub fn maybe_reschedule_thread(cpus: &[[u64; 96]], us: u64, t: Thread, wakeups: u64) -> u64
+pub fn maybe_reschedule_thread(cpus: &[CpuWords], us: u64, t: Thread, wakeups: u64) -> u64
     ensures { λ r. ⌜ r ≡ maybeReschedule (now (cpus .entry)) us t wakeups (cpu-in (t .«current_processor_queue»)) ⌝ }
 {
     let queue = t.current_cpu_rq();
@@ -42,7 +43,7 @@ pub fn maybe_reschedule_thread(cpus: &[[u64; 96]], us: u64, t: Thread, wakeups: 
 }
 
 // What a donation to thread x signals: nobody if it does not raise the thread, or the thread runs on CPU us itself.
-pub fn signal_donation(cpus: &[[u64; 96]], us: u64, x: u64, d: Donation, wakeups: u64) -> u64
+pub fn signal_donation(cpus: &[CpuWords], us: u64, x: u64, d: Donation, wakeups: u64) -> u64
     ensures { λ r. ⌜ r ≡ donationSignals (now (cpus .entry)) us x d wakeups ⌝ }
 {
     if d.needs_resched {

@@ -2,6 +2,7 @@
 // idle thread: its record is then past every slice, so blank, (Idle, 0), not critical.
 pub mod balance;
 pub mod choose;
+pub mod context;
 pub mod donate;
 pub mod option;
 pub mod preempt;

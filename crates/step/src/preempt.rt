@@ -1,11 +1,12 @@
 // Whether the thread running has to give way, the mark that says so, and what a thread pays at a hard tick.
 ghost use mathlib.Core.Path.{_≡_};
 ghost use Rattle.processor.specs.Words.{put-word};
-ghost use Rattle.step.specs.Word.{PREEMPT};
+ghost use Rattle.processor.specs.Word.{PREEMPT};
 ghost use Rattle.thread.specs.Time.{pay-ticks};
 ghost use Rattle.step.specs.Preempt.{higher, rqHasHigher, needsReschedule, marked, swapped, allowedAt, idlePayer, idlePaid, expires, rescheds};
 use crate::running::running;
 use processor::rq::load_queue;
+use processor::words::CpuWords;
 use processor::words::IDLE_TIMESLICE;
 use processor::words::PREEMPT;
 use processor::words::put_word;
@@ -31,7 +32,7 @@ pub fn higher(said: Priority, own: Priority, eq: bool) -> bool
     false
 }
 
-pub fn rq_has_higher(cpus: &[[u64; 96]], us: u64, t: Thread, eq: bool) -> bool
+pub fn rq_has_higher(cpus: &[CpuWords], us: u64, t: Thread, eq: bool) -> bool
     ensures { λ r. ⌜ r ≡ rqHasHigher (now (cpus .entry)) us t eq ⌝ }
 {
     let q = load_queue(cpus, us);
@@ -41,7 +42,7 @@ pub fn rq_has_higher(cpus: &[[u64; 96]], us: u64, t: Thread, eq: bool) -> bool
 }
 
 // Does the thread running, whose record is t, have to give way?
-pub fn needs_reschedule(cpus: &[[u64; 96]], us: u64, t: Thread, ticking: bool) -> bool
+pub fn needs_reschedule(cpus: &[CpuWords], us: u64, t: Thread, ticking: bool) -> bool
     ensures { λ r. ⌜ r ≡ needsReschedule (now (cpus .entry)) us t ticking ⌝ }
 {
     if t.is_critical() {
@@ -54,14 +55,14 @@ pub fn needs_reschedule(cpus: &[[u64; 96]], us: u64, t: Thread, ticking: bool) -
     rq_has_higher(cpus, us, t, ticking)
 }
 
-pub fn schedule_mark_preempt(cpus: &mut [[u64; 96]], us: u64)
+pub fn schedule_mark_preempt(cpus: &mut [CpuWords], us: u64)
     ensures { λ _. ⌜ now (cpus .exit) ≡ put-word (now (cpus .entry)) us PREEMPT 1 ⌝ }
 {
     put_word(cpus, us, PREEMPT, 1);
 }
 
 // The mark, which is then cleared.
-pub fn swap_preempt(cpus: &mut [[u64; 96]], us: u64) -> bool
+pub fn swap_preempt(cpus: &mut [CpuWords], us: u64) -> bool
     ensures { λ r. ⌜ (r ≡ swapped (now (cpus .entry)) us .mark) × (now (cpus .exit) ≡ swapped (now (cpus .entry)) us .cpus) ⌝ }
 {
     if word(cpus, us, PREEMPT) == 0 {
@@ -72,7 +73,7 @@ pub fn swap_preempt(cpus: &mut [[u64; 96]], us: u64) -> bool
 }
 
 // The timeslice that a thread with this record is allowed on CPU us.
-pub fn allowed(cpus: &[[u64; 96]], us: u64, shortest: u64, t: Thread) -> u64
+pub fn allowed(cpus: &[CpuWords], us: u64, shortest: u64, t: Thread) -> u64
     ensures { λ r. ⌜ r ≡ allowedAt (now (cpus .entry)) us shortest t ⌝ }
 {
     let q = load_queue(cpus, us);
@@ -82,7 +83,7 @@ pub fn allowed(cpus: &[[u64; 96]], us: u64, shortest: u64, t: Thread) -> u64
 }
 
 // The thread running pays for the ticks that passed.
-pub fn pay(cpus: &[[u64; 96]], us: u64, shortest: u64, t: Thread, ticks: u64) -> Paid
+pub fn pay(cpus: &[CpuWords], us: u64, shortest: u64, t: Thread, ticks: u64) -> Paid
     ensures { λ r. ⌜ r ≡ pay-ticks t ticks (allowedAt (now (cpus .entry)) us shortest t) ⌝ }
 {
     let most = allowed(cpus, us, shortest, t);
@@ -90,7 +91,7 @@ pub fn pay(cpus: &[[u64; 96]], us: u64, shortest: u64, t: Thread, ticks: u64) ->
 }
 
 // The record of the idle thread with what it has paid.
-pub fn idle_payer(cpus: &[[u64; 96]], us: u64) -> Thread
+pub fn idle_payer(cpus: &[CpuWords], us: u64) -> Thread
     ensures { λ r. ⌜ r ≡ idlePayer (now (cpus .entry)) us ⌝ }
 {
     let mut t = blank();
@@ -100,7 +101,7 @@ pub fn idle_payer(cpus: &[[u64; 96]], us: u64) -> Thread
 }
 
 // The idle thread pays: does its timeslice expire?
-pub fn pay_idle(cpus: &mut [[u64; 96]], us: u64, shortest: u64, ticks: u64) -> bool
+pub fn pay_idle(cpus: &mut [CpuWords], us: u64, shortest: u64, ticks: u64) -> bool
     ensures { λ r. ⌜ (r ≡ idlePaid (now (cpus .entry)) us shortest ticks .mark) × (now (cpus .exit) ≡ idlePaid (now (cpus .entry)) us shortest ticks .cpus) ⌝ }
 {
     let t = idle_payer(cpus, us);
@@ -111,7 +112,7 @@ pub fn pay_idle(cpus: &mut [[u64; 96]], us: u64, shortest: u64, ticks: u64) -> b
 }
 
 // The mark is set if the thread running has to give way or its timeslice expired.
-pub fn expire(cpus: &mut [[u64; 96]], us: u64, resched: bool, expired: bool)
+pub fn expire(cpus: &mut [CpuWords], us: u64, resched: bool, expired: bool)
     ensures { λ _. ⌜ now (cpus .exit) ≡ expires (now (cpus .entry)) us resched expired ⌝ }
 {
     if resched {
@@ -124,7 +125,7 @@ pub fn expire(cpus: &mut [[u64; 96]], us: u64, resched: bool, expired: bool)
 }
 
 // The mark is set if the CPU is idle or its thread, whose record is t, has to give way.
-pub fn resched(cpus: &mut [[u64; 96]], us: u64, t: Thread)
+pub fn resched(cpus: &mut [CpuWords], us: u64, t: Thread)
     ensures { λ _. ⌜ now (cpus .exit) ≡ rescheds (now (cpus .entry)) us t ⌝ }
 {
     if running(cpus, us) == NONE {

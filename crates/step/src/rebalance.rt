@@ -3,13 +3,14 @@ ghost use mathlib.Core.Path.{_≡_};
 ghost use Rattle.step.specs.Rebalance.{timePassed, rebalanceDue};
 use processor::random::quick_random;
 use processor::words::CUR_REBALANCE_TIME;
+use processor::words::CpuWords;
 use processor::words::put_word;
 use processor::words::word;
 
 pub const REBALANCE_TIME: u64 = 1000000000;
 
 // The time until CPU us balances passes by dt: is it over? Then it is drawn anew.
-pub fn pass_time(cpus: &mut [[u64; 96]], us: u64, dt: u64) -> bool
+pub fn pass_time(cpus: &mut [CpuWords], us: u64, dt: u64) -> bool
     ensures { λ r. ⌜ (r ≡ timePassed (now (cpus .entry)) us dt .mark) × (now (cpus .exit) ≡ timePassed (now (cpus .entry)) us dt .cpus) ⌝ }
 {
     let left = word(cpus, us, CUR_REBALANCE_TIME);
@@ -28,7 +29,7 @@ pub fn pass_time(cpus: &mut [[u64; 96]], us: u64, dt: u64) -> bool
 }
 
 // Only the boot CPU balances.
-pub fn rebalance_due(cpus: &mut [[u64; 96]], us: u64, dt: u64) -> bool
+pub fn rebalance_due(cpus: &mut [CpuWords], us: u64, dt: u64) -> bool
     ensures { λ r. ⌜ (r ≡ rebalanceDue (now (cpus .entry)) us dt .mark) × (now (cpus .exit) ≡ rebalanceDue (now (cpus .entry)) us dt .cpus) ⌝ }
 {
     if us == 0 {

@@ -2,12 +2,13 @@
 ghost use mathlib.Core.Path.{_≡_};
 ghost use Rattle.step.specs.Time.{deadlineAt, resetTime, movedTo, shouldSignal};
 use processor::rq::load_queue;
+use processor::words::CpuWords;
 use rules::PriorityClass;
 use thread::Thread;
 use thread::priority::at_most;
 
 // The deadline of a thread of this class that goes into the queue of CPU c now.
-pub fn deadline(cpus: &[[u64; 96]], c: u64, tick: u64, shortest: u64, class: PriorityClass) -> u64
+pub fn deadline(cpus: &[CpuWords], c: u64, tick: u64, shortest: u64, class: PriorityClass) -> u64
     ensures { λ r. ⌜ r ≡ deadlineAt (now (cpus .entry)) c tick shortest class ⌝ }
 {
     let q = load_queue(cpus, c);
@@ -16,7 +17,7 @@ pub fn deadline(cpus: &[[u64; 96]], c: u64, tick: u64, shortest: u64, class: Pri
 }
 
 // The deadline is set anew, and nothing is paid of the timeslice.
-pub fn reset_time(cpus: &[[u64; 96]], c: u64, tick: u64, shortest: u64, t: Thread) -> Thread
+pub fn reset_time(cpus: &[CpuWords], c: u64, tick: u64, shortest: u64, t: Thread) -> Thread
     ensures { λ r. ⌜ r ≡ resetTime (now (cpus .entry)) c tick shortest t ⌝ }
 {
     let p = t.effective_priority();
@@ -27,7 +28,7 @@ pub fn reset_time(cpus: &[[u64; 96]], c: u64, tick: u64, shortest: u64, t: Threa
 }
 
 // The record of a thread that is about to go into the queue of CPU c.
-pub fn moved_to(cpus: &[[u64; 96]], c: u64, tick: u64, shortest: u64, t: Thread) -> Thread
+pub fn moved_to(cpus: &[CpuWords], c: u64, tick: u64, shortest: u64, t: Thread) -> Thread
     ensures { λ r. ⌜ r ≡ movedTo (now (cpus .entry)) c tick shortest t ⌝ }
 {
     let u = t.moving_to_queue(c);
@@ -35,7 +36,7 @@ pub fn moved_to(cpus: &[[u64; 96]], c: u64, tick: u64, shortest: u64, t: Thread)
 }
 
 // Is CPU c signalled when CPU us puts the thread into its queue?
-pub fn should_signal(cpus: &[[u64; 96]], us: u64, c: u64, t: Thread) -> bool
+pub fn should_signal(cpus: &[CpuWords], us: u64, c: u64, t: Thread) -> bool
     ensures { λ r. ⌜ r ≡ shouldSignal (now (cpus .entry)) us c t ⌝ }
 {
     if c == us {

@@ -1,4 +1,4 @@
--- The flag of thread/flags.rs that the scheduler asks: bit 1 of the flags. Assumes nothing.
+-- The flag of thread/flags.rs that the scheduler asks: bit 1 of the flags.
 use Prim.Native.Nat.{ℕ, _+_, _-_, _/_, _%_}
 use mathlib.Core.Path.{_≡_, refl}
 use mathlib.Core.Bool.{Bool, true, false, cond}

@@ -1,4 +1,4 @@
--- Where a thread is, its link, and the mark that it is critical. Assumes nothing.
+-- Where a thread is, its link, and the mark that it is critical.
 use Prim.Native.Nat.{ℕ, zero, suc, _<_}
 use mathlib.Core.Path.{_≡_, refl}
 use mathlib.Core.Bool.{Bool, true, false, cond}

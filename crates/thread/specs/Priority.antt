@@ -1,4 +1,4 @@
--- Donations and the stable priority of a record (thread/priority.rs): what the code does to it, and what that is in the rules. Assumes nothing.
+-- Donations and the stable priority of a record (thread/priority.rs): what the code does to it, and what that is in the rules.
 use Prim.Native.Nat.{ℕ, _+_, _*_, _/_, _%_, _<_}
 use mathlib.Core.Path.{_≡_, refl, sym, ap, _∙_}
 use mathlib.Core.Bool.{Bool, true, false, cond}

@@ -1,4 +1,4 @@
--- What a record says, in the terms of the rules. Assumes nothing.
+-- What a record says, in the terms of the rules.
 use Prim.Native.Nat.{ℕ}
 use mathlib.Core.Bool.{Bool, cond, not}
 use mathlib.Core.Option.{Option, none, some}

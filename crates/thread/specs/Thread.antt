@@ -1,4 +1,4 @@
--- The record of a thread: its numbers, what it is at first, and the record with a field changed. Assumes nothing.
+-- The record of a thread: its numbers, what it is at first, and the record with a field changed.
 use Prim.Native.Nat.{ℕ}
 use lib.IntN.{ℤ, negsuc}
 use Rattle.thread.specs.declared.Thread.{Thread}

@@ -1,4 +1,4 @@
--- Processors and times of a record (thread/time.rs): what the code does to it, and what that is in the rules. Assumes nothing.
+-- Processors and times of a record (thread/time.rs): what the code does to it, and what that is in the rules.
 use Prim.Native.Nat.{ℕ, _+_, _-_, _%_, _^_, _≤_, _<_}
 use mathlib.Core.Path.{_≡_, refl, sym, ap, _∙_}
 use mathlib.Core.Bool.{Bool, true, false, cond, true≢false}

@@ -1,4 +1,4 @@
--- The binary digits of a number, by quotient and remainder. Assumes nothing.
+-- The binary digits of a number, by quotient and remainder.
 use Prim.Native.Nat.{ℕ, zero, suc, _+_, _-_, _*_, _/_, _%_, _^_, _≤_, _<_}
 use mathlib.Core.Path.{_≡_, refl, sym, ap, _∙_}
 use native.Mathlib.Omega.{arith}

@@ -1,4 +1,4 @@
--- Sets of CPU numbers (CpuSet, processor/sched.rs): sixteen words of 64 bits. Assumes nothing.
+-- Sets of CPU numbers (CpuSet, processor/sched.rs): sixteen words of 64 bits.
 use Prim.Native.Nat.{ℕ, zero, suc, _+_, _-_, _*_, _/_, _%_, _^_, _≤_, _<_}
 use mathlib.Core.Path.{_≡_, refl, sym, ap, _∙_}
 use mathlib.Core.Bool.{Bool, true, false, cond, false≢true}

@@ -1,4 +1,4 @@
--- The root alone, and a new last child: the words are then the topology of the rules. Assumes nothing.
+-- The root alone, and a new last child: the words are then the topology of the rules.
 use Prim.Native.Nat.{ℕ, zero, suc, _+_, _-_, _/_, _%_, _^_, _≤_, _<_}
 use mathlib.Core.Path.{_≡_, refl, sym, ap, _∙_, subst}
 use mathlib.Core.Bool.{true, false, not, _||_, _&&_, true≢false, false≢true, and-true, and-false, or-true}

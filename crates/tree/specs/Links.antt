@@ -1,4 +1,4 @@
--- A ring of numbers, each with the next and the one before: where one is put in before another. Assumes nothing.
+-- A ring of numbers, each with the next and the one before: where one is put in before another.
 use Prim.Native.Nat.{ℕ, zero, suc, _<_}
 use mathlib.Core.Path.{_≡_, refl, sym, ap, _∙_}
 use mathlib.Core.Bool.{true, false, _||_, true≢false, false≢true}

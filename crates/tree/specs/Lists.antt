@@ -1,4 +1,4 @@
--- Lists of numbers that pass a test, joined lists, and an insertion before a number. Assumes nothing.
+-- Lists of numbers that pass a test, joined lists, and an insertion before a number.
 use Prim.Native.Nat.{ℕ, zero, suc, _+_, _-_, _≤_, _<_}
 use mathlib.Core.Path.{_≡_, refl, sym, ap, _∙_}
 use mathlib.Core.Bool.{Bool, true, false, cond, _||_, _&&_, true≢false, false≢true}

@@ -1,4 +1,4 @@
--- The order in which a search meets the nodes: each after its children. What a new node does to it. Assumes nothing.
+-- The order in which a search meets the nodes: each after its children. What a new node does to it.
 use Prim.Native.Nat.{ℕ, zero, suc, _-_, _≤_, _<_}
 use mathlib.Core.Path.{_≡_, refl, sym, ap, _∙_}
 use mathlib.Core.Bool.{Bool, true, false, cond, _||_, _&&_}

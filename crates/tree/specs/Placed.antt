@@ -1,4 +1,4 @@
--- A CPU put on a leaf and all nodes above, and a CPU declared: the words are then the topology of the rules. Assumes nothing.
+-- A CPU put on a leaf and all nodes above, and a CPU declared: the words are then the topology of the rules.
 use Prim.Native.Nat.{ℕ, zero, suc, _+_, _-_, _/_, _%_, _≤_, _<_}
 use mathlib.Core.Path.{_≡_, refl, sym, ap, _∙_}
 use mathlib.Core.Bool.{Bool, true, false, _||_, _&&_, and-true, and-false, or-true, or-false}

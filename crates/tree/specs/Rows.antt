@@ -1,4 +1,4 @@
--- A word read after one was written. Assumes nothing.
+-- A word read after one was written.
 use Prim.Native.Nat.{ℕ, _%_, _<_}
 use mathlib.Core.Path.{_≡_, refl, _∙_}
 use mathlib.Core.List.{List, []}

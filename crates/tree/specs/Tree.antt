@@ -1,4 +1,4 @@
--- What the words of the nodes must be to be a topology of the rules; the orders in which they are walked are then those of the rules. Assumes nothing.
+-- What the words of the nodes must be to be a topology of the rules; the orders in which they are walked are then those of the rules.
 use Prim.Native.Nat.{ℕ, zero, suc, _-_, _≤_, _<_}
 use mathlib.Core.Path.{_≡_, refl, sym, ap, _∙_}
 use mathlib.Core.Bool.{Bool, true, false, not, _||_, _&&_, true≢false, false≢true}

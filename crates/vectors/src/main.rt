@@ -7,6 +7,8 @@ use feed::fed::begin;
 use feed::feed::feed;
 use feed::start::Started;
 use feed::start::start;
+use nodes::words::NodeWords;
+use processor::words::CpuWords;
 use questions::state::State;
 use thread::Thread;
 use thread::blank;
@@ -161,8 +163,8 @@ fn nothing() -> Fed {
 // At most a thousand streams.
 fn replayed(
     threads: &mut [Thread],
-    cpus: &mut [[u64; 96]],
-    nodes: &mut [[u64; 32]],
+    cpus: &mut [CpuWords],
+    nodes: &mut [NodeWords],
     input: &mut [u8],
     output: &mut [u8],
     lines: &mut [u8],
@@ -197,11 +199,11 @@ fn report(t: Tally) {
     io::write_all(libc::STDOUT_FILENO, b" differ\n");
 }
 
-fn no_cpu() -> [u64; 96] {
+fn no_cpu() -> CpuWords {
     [0; 96]
 }
 
-fn no_node() -> [u64; 32] {
+fn no_node() -> NodeWords {
     [0; 32]
 }
 

@@ -1,5 +1,5 @@
 -- `lent_vectors::act` meets its contract: a walk of its MIR, written by tools/entrygen.py.
-use mathlib.Core.Path.{_≡_, refl, sym, subst, _∙_}
+use mathlib.Core.Path.{_≡_, refl, sym, ap, subst, _∙_}
 use Prim.Native.Nat.{ℕ}
 use mathlib.Core.Bool.{true, false, not}
 use mathlib.Core.List.{[], _∷_, List}
@@ -34,9 +34,10 @@ use denote.Triple.Clauses.{Clauses}
 use denote.Triple.Walked.{Stays, stay-none, stay-slice, walkOf, goes-none, goes-slice, ends-at}
 use denote.Exit.{yes as kept-yes}
 use Rattle.lent.proofs.Walk.{Datum, number, truth, nil, struct, Dens, AreD, listed, spell, lent-as, slice-of, kept, opened, closed, guards, env-of, standing, bare, full, told, proved}
-use Rattle.lent.proofs.Lent.{mutable, shared, choice, call-slices, call-slices-none, all-freed, says-none, begins2, leaves2}
-use Rattle.thread.specs.Thread.{blank}
+use Rattle.lent.proofs.Lent.{mutable, shared, choice, call-slices, call-left, call-slices-none, all-freed, says-none, begins2, leaves2}
+use Rattle.lent.specs.Left.{Memory, Left}
 use Rattle.lent.specs.Rq.{insertDef, takeDef, clockDef, hardtickDef}
+use Rattle.thread.specs.Thread.{blank}
 use denote.Struct.Laws as LL
 use Rattle.lent_vectors.specs.declared.operation.Operation.{Operation}
 use Rattle.lent_vectors.proofs.operation.Operation as Operation·
@@ -133,32 +134,17 @@ module _ {M : Type 1} (𝓤 : URA M) (H : Heap 𝓤) (𝓜 : Model 𝓤 H) (𝓖
     abbrev V₁ : Thread
     V₁ = getD ys ((a .0) .thread) blank
 
-    abbrev V₂ : Taken
-    V₂ = takeDef ys ys′ ((a .0) .queue) false .answer
+    abbrev V₂ : Left Taken Memory
+    V₂ = takeDef ((a .0) .queue) false (record { threads = ys; cpus = ys′ })
 
-    abbrev V₃ : List Thread
-    V₃ = takeDef ys ys′ ((a .0) .queue) false .threads
+    abbrev V₃ : Left Taken Memory
+    V₃ = takeDef ((a .0) .queue) true (record { threads = ys; cpus = ys′ })
 
     abbrev V₄ : List (List ℕ)
-    V₄ = takeDef ys ys′ ((a .0) .queue) false .cpus
+    V₄ = clockDef ((a .0) .queue) ys′
 
-    abbrev V₅ : Taken
-    V₅ = takeDef ys ys′ ((a .0) .queue) true .answer
-
-    abbrev V₆ : List Thread
-    V₆ = takeDef ys ys′ ((a .0) .queue) true .threads
-
-    abbrev V₇ : List (List ℕ)
-    V₇ = takeDef ys ys′ ((a .0) .queue) true .cpus
-
-    abbrev V₈ : List (List ℕ)
-    V₈ = clockDef ys′ ((a .0) .queue)
-
-    abbrev V₉ : ℕ
-    V₉ = hardtickDef ys′ ((a .0) .queue) (a .1 .0) .ticks
-
-    abbrev V₁₀ : List (List ℕ)
-    V₁₀ = hardtickDef ys′ ((a .0) .queue) (a .1 .0) .cpus
+    abbrev V₅ : Left ℕ (List (List ℕ))
+    V₅ = hardtickDef ((a .0) .queue) (a .1 .0) ys′
 
     module _ (l₀ l₁ l₂ l₃ l₄ l₅ l₆ l₇ l₈ l₉ l₁₀ l₁₁ l₁₂ l₁₃ l₁₄ l₁₅ l₁₆ l₁₇ l₁₈ l₁₉ l₂₀ l₂₁ l₂₂ l₂₃ l₂₄ l₂₅ l₂₆ l₂₇ l₂₈ l₂₉ l₃₀ l₃₁ l₃₂ l₃₃ : ℕ) where
       abbrev En : Env 𝓤 H
@@ -202,7 +188,7 @@ module _ {M : Type 1} (𝓤 : URA M) (H : Heap 𝓤) (𝓜 : Model 𝓤 H) (𝓖
           join ! $
           move ! (1 ∷ 0 ∷ []) $
           join ! $
-          call-slices Taken° (number w64 ∷ truth ∷ []) (((a .0) .queue, (true, tt))) (emp 𝓤) ((mutable Thread·.the-row ys b o n refl room) ∷ (mutable (Array u64 96) ys′ b′ o′ n′ refl room′) ∷ []) ! fm (λ r ws. (r ≡ V₅) × ((ws .0 ≡ V₆) × (ws .1 .0 ≡ V₇))) ((LL.owed Operation·.the-type Operation·laws.the-laws (a .0) _ (are .0) .1 .0, (refl, tt))) (id⊢ 𝓤 (emp 𝓤))
+          call-left Taken° (number w64 ∷ truth ∷ []) (((a .0) .queue, (true, tt))) (emp 𝓤) ((mutable Thread·.the-row ys b o n refl room) ∷ (mutable (Array u64 96) ys′ b′ o′ n′ refl room′) ∷ []) ! fm (λ r ws. (r ≡ (V₃ .answer)) × ((ws .0 ≡ (V₃ .memory .threads)) × (ws .1 .0 ≡ (V₃ .memory .cpus)))) (λ r ws. _≡_ {A = Left Taken Memory} (record { answer = r; memory = record { threads = ws .0; cpus = ws .1 .0 } }) V₃) (λ r ws e. (ap (λ (z : Left Taken Memory). z .answer) e, (ap (λ (z : Left Taken Memory). z .memory .threads) e, ap (λ (z : Left Taken Memory). z .memory .cpus) e))) ((LL.owed Operation·.the-type Operation·laws.the-laws (a .0) _ (are .0) .1 .0, (refl, tt))) (id⊢ 𝓤 (emp 𝓤))
           (λ νs. cited 𝓤 H (tripleOf 𝓤 H A fn-lent-rq-take.signature (fn-lent-rq-take.spec 𝓤 H A (𝓜 .mem) (𝓡 .run))) 𝓜 𝓡 code.env fn-lent-rq-take-def.name fn-lent-rq-take-def.routine code.calls-lent·rq·take (fn-lent-rq-take-thm.met 𝓤 H 𝓜 𝓖 𝓡) (((νs .0 .0 ∷ [], (νs .1 .0 .0 ∷ [], tt)), (fullShare, (fullShare, tt)), tt, (lent-as b o (νs .0 .1) ys, (lent-as b′ o′ (νs .1 .0 .1) ys′, ((a .0) .queue, (true, tt)))), (slice-of b o ys ∷ [], (slice-of b′ o′ ys′ ∷ [], spell (number w64 ∷ truth ∷ []) (((a .0) .queue, (true, tt)))))), tt))
           (λ k. and-then ! (load ! (from ! (stop !)) (look ! 21 refl)) (and-then ! (load ! (from ! (stop !)) (look ! 17 refl)) (and-then ! (load ! (from ! (fld ! refl (stop !))) (look-in ! 63 (sub ! 1 refl (whole !)))) (and-then ! (true-lit !) (no-more !))))) (λ r₃₁ ws₃₂ is₃₃ ls₃₄ e₃₅.
           split ! $
@@ -213,21 +199,21 @@ module _ {M : Type 1} (𝓤 : URA M) (H : Heap 𝓤) (𝓜 : Model 𝓤 H) (𝓖
           rewrite ! 1 (λ (us : List Thread). ‵ (row Thread·.the-row fullShare us b o)) (e₃₅ .1 .0) refl $
           rewrite ! 0 (λ (us : List (List ℕ)). ‵ (row (Array u64 96) fullShare us b′ o′)) (e₃₅ .1 .1) refl $
           told ! Taken° (e₃₅ .0) is₃₃ (λ is₃₆.
-          land ! (from ! (stop !)) (init ! 54 refl (Taken° .typed 𝓤 H A W (V₅) (is₃₆) .0)) $
+          land ! (from ! (stop !)) (init ! 54 refl (Taken° .typed 𝓤 H A W (V₃ .answer) (is₃₆) .0)) $
           nothing ! $
-          call-slices-none (number w64) (Taken° ∷ []) ((V₅, tt)) (emp 𝓤) ([]) ! fm ((is₃₆, tt)) (id⊢ 𝓤 (emp 𝓤))
-          (λ νs. cited 𝓤 H (tripleOf 𝓤 H A fn-lent-vectors-taken-number.signature (fn-lent-vectors-taken-number.spec 𝓤 H A (𝓜 .mem) (𝓡 .run))) 𝓜 𝓡 code.env fn-lent-vectors-taken-number-def.name fn-lent-vectors-taken-number-def.routine code.calls-lent-vectors·taken-number (fn-lent-vectors-taken-number-thm.met 𝓤 H 𝓜 𝓖 𝓡) ((tt, tt, tt, (V₅, tt), spell (Taken° ∷ []) ((V₅, tt))), tt))
+          call-slices-none (number w64) (Taken° ∷ []) ((V₃ .answer, tt)) (emp 𝓤) ([]) ! fm ((is₃₆, tt)) (id⊢ 𝓤 (emp 𝓤))
+          (λ νs. cited 𝓤 H (tripleOf 𝓤 H A fn-lent-vectors-taken-number.signature (fn-lent-vectors-taken-number.spec 𝓤 H A (𝓜 .mem) (𝓡 .run))) 𝓜 𝓡 code.env fn-lent-vectors-taken-number-def.name fn-lent-vectors-taken-number-def.routine code.calls-lent-vectors·taken-number (fn-lent-vectors-taken-number-thm.met 𝓤 H 𝓜 𝓖 𝓡) ((tt, tt, tt, (V₃ .answer, tt), spell (Taken° ∷ []) ((V₃ .answer, tt))), tt))
           (λ k. and-then ! (load ! (from ! (stop !)) (look ! 55 refl)) (no-more !)) (λ r₃₇ ws₃₈ is₃₉ ls₄₀.
           drop ! $
           land ! (from ! (stop !)) (init ! 70 refl ((number w64) .typed 𝓤 H A W (r₃₇) (is₃₉) .0)) $
           move ! (0 ∷ 3 ∷ []) $
-          closed ! tt (Array u64 96) ys′ (V₇) b′ o′ room′ (sym ((refl ∙ sym (subst (λ (us : List (List ℕ)). length us ≡ length ys′) (e₃₅ .1 .1) (ls₃₄ .1 .0))))) $
+          closed ! tt (Array u64 96) ys′ (V₃ .memory .cpus) b′ o′ room′ (sym ((refl ∙ sym (subst (λ (us : List (List ℕ)). length us ≡ length ys′) (e₃₅ .1 .1) (ls₃₄ .1 .0))))) $
           move ! (2 ∷ 3 ∷ []) $
-          closed ! tt Thread·.the-row ys (V₆) b o room (sym ((refl ∙ sym (subst (λ (us : List Thread). length us ≡ length ys) (e₃₅ .1 .0) (ls₃₄ .0))))) $
+          closed ! tt Thread·.the-row ys (V₃ .memory .threads) b o room (sym ((refl ∙ sym (subst (λ (us : List Thread). length us ≡ length ys) (e₃₅ .1 .0) (ls₃₄ .0))))) $
           returns-within ! Post refl (look ! 70 refl) $
           move ! (70 ∷ 71 ∷ 68 ∷ 69 ∷ 66 ∷ 67 ∷ 64 ∷ 65 ∷ 62 ∷ 63 ∷ 60 ∷ 61 ∷ 58 ∷ 59 ∷ 56 ∷ 57 ∷ 54 ∷ 55 ∷ 52 ∷ 53 ∷ 50 ∷ 51 ∷ 48 ∷ 49 ∷ 46 ∷ 47 ∷ 44 ∷ 45 ∷ 42 ∷ 43 ∷ 40 ∷ 41 ∷ 38 ∷ 39 ∷ 36 ∷ 37 ∷ 34 ∷ 35 ∷ 32 ∷ 33 ∷ 30 ∷ 31 ∷ 28 ∷ 29 ∷ 26 ∷ 27 ∷ 24 ∷ 25 ∷ 22 ∷ 23 ∷ 20 ∷ 21 ∷ 18 ∷ 19 ∷ 16 ∷ 17 ∷ 14 ∷ 15 ∷ 12 ∷ 13 ∷ 10 ∷ 11 ∷ 8 ∷ 9 ∷ 6 ∷ 7 ∷ 4 ∷ 5 ∷ []) $
           all-freed ! mir.locals (l₀ ∷ l₁ ∷ l₂ ∷ l₃ ∷ l₄ ∷ l₅ ∷ l₆ ∷ l₇ ∷ l₈ ∷ l₉ ∷ l₁₀ ∷ l₁₁ ∷ l₁₂ ∷ l₁₃ ∷ l₁₄ ∷ l₁₅ ∷ l₁₆ ∷ l₁₇ ∷ l₁₈ ∷ l₁₉ ∷ l₂₀ ∷ l₂₁ ∷ l₂₂ ∷ l₂₃ ∷ l₂₄ ∷ l₂₅ ∷ l₂₆ ∷ l₂₇ ∷ l₂₈ ∷ l₂₉ ∷ l₃₀ ∷ l₃₁ ∷ l₃₂ ∷ l₃₃ ∷ []) (full _ ∷ full _ ∷ full _ ∷ full _ ∷ full _ ∷ bare ∷ bare ∷ bare ∷ full _ ∷ full _ ∷ bare ∷ bare ∷ bare ∷ bare ∷ bare ∷ bare ∷ bare ∷ bare ∷ bare ∷ bare ∷ bare ∷ bare ∷ bare ∷ full _ ∷ full _ ∷ full _ ∷ full _ ∷ bare ∷ bare ∷ bare ∷ bare ∷ bare ∷ bare ∷ bare ∷ []) tt $
-          suffices ! _ (ends-at 𝓤 H A act.ended stayed c W y _ (r₃₇) (V₆, (V₇, (tt, (tt, tt)))) (sym ((refl ∙ sym (subst (λ (us : List Thread). length us ≡ length ys) (e₃₅ .1 .0) (ls₃₄ .0)))), (sym ((refl ∙ sym (subst (λ (us : List (List ℕ)). length us ≡ length ys′) (e₃₅ .1 .1) (ls₃₄ .1 .0)))), (tt, (tt, tt))))) $ says-none ! $
+          suffices ! _ (ends-at 𝓤 H A act.ended stayed c W y _ (r₃₇) (V₃ .memory .threads, (V₃ .memory .cpus, (tt, (tt, tt)))) (sym ((refl ∙ sym (subst (λ (us : List Thread). length us ≡ length ys) (e₃₅ .1 .0) (ls₃₄ .0)))), (sym ((refl ∙ sym (subst (λ (us : List (List ℕ)). length us ≡ length ys′) (e₃₅ .1 .1) (ls₃₄ .1 .0)))), (tt, (tt, tt))))) $ says-none ! $
           leaves2 ! (number w64) Ds a (r₃₇) are (is₃₉)))))
           (λ h₃.
           assigns ! (bin ! (load ! (from ! (fld ! refl (stop !))) (look-in ! 64 (sub ! 0 refl (whole !)))) (lit ! tt) tt) (from ! (stop !)) (store ! 52 refl (tt, tt)) $
@@ -238,7 +224,7 @@ module _ {M : Type 1} (𝓤 : URA M) (H : Heap 𝓤) (𝓜 : Model 𝓤 H) (𝓖
           nothing ! $
           move ! (3 ∷ 0 ∷ []) $
           join ! $
-          call-slices nil (number w64 ∷ []) (((a .0) .queue, tt)) (emp 𝓤) ((mutable (Array u64 96) ys′ b′ o′ n′ refl room′) ∷ []) ! fm (λ r ws. ws .0 ≡ V₈) ((LL.owed Operation·.the-type Operation·laws.the-laws (a .0) _ (are .0) .1 .0, tt)) (id⊢ 𝓤 (emp 𝓤))
+          call-left nil (number w64 ∷ []) (((a .0) .queue, tt)) (emp 𝓤) ((mutable (Array u64 96) ys′ b′ o′ n′ refl room′) ∷ []) ! fm (λ r ws. ws .0 ≡ (V₄)) (λ r ws. _≡_ {A = List (List ℕ)} (ws .0) V₄) (λ r ws e. e) ((LL.owed Operation·.the-type Operation·laws.the-laws (a .0) _ (are .0) .1 .0, tt)) (id⊢ 𝓤 (emp 𝓤))
           (λ νs. cited 𝓤 H (tripleOf 𝓤 H A fn-lent-rq-clock.signature (fn-lent-rq-clock.spec 𝓤 H A (𝓜 .mem) (𝓡 .run))) 𝓜 𝓡 code.env fn-lent-rq-clock-def.name fn-lent-rq-clock-def.routine code.calls-lent·rq·clock (fn-lent-rq-clock-thm.met 𝓤 H 𝓜 𝓖 𝓡) (((νs .0 .0 ∷ [], tt), (fullShare, tt), tt, (lent-as b′ o′ (νs .0 .1) ys′, ((a .0) .queue, tt)), (slice-of b′ o′ ys′ ∷ [], spell (number w64 ∷ []) (((a .0) .queue, tt)))), tt))
           (λ k. and-then ! (load ! (from ! (stop !)) (look ! 12 refl)) (and-then ! (load ! (from ! (fld ! refl (stop !))) (look-in ! 64 (sub ! 1 refl (whole !)))) (no-more !))) (λ r₄₁ ws₄₂ is₄₃ ls₄₄ e₄₅.
           split ! $
@@ -248,13 +234,13 @@ module _ {M : Type 1} (𝓤 : URA M) (H : Heap 𝓤) (𝓜 : Model 𝓤 H) (𝓖
           land ! (from ! (stop !)) (init ! 16 refl (tt, tt)) $
           assigns ! (of-opd ! (lit ! tt)) (from ! (stop !)) (init ! 70 refl (tt, record { fits = lit< tt })) $
           move ! (0 ∷ 3 ∷ []) $
-          closed ! tt (Array u64 96) ys′ (V₈) b′ o′ room′ (sym ((refl ∙ sym (subst (λ (us : List (List ℕ)). length us ≡ length ys′) (e₄₅) (ls₄₄ .0))))) $
+          closed ! tt (Array u64 96) ys′ (V₄) b′ o′ room′ (sym ((refl ∙ sym (subst (λ (us : List (List ℕ)). length us ≡ length ys′) (e₄₅) (ls₄₄ .0))))) $
           move ! (2 ∷ 3 ∷ []) $
           closed ! tt Thread·.the-row ys (ys) b o room (sym refl) $
           returns-within ! Post refl (look ! 70 refl) $
           move ! (70 ∷ 71 ∷ 68 ∷ 69 ∷ 66 ∷ 67 ∷ 64 ∷ 65 ∷ 62 ∷ 63 ∷ 60 ∷ 61 ∷ 58 ∷ 59 ∷ 56 ∷ 57 ∷ 54 ∷ 55 ∷ 52 ∷ 53 ∷ 50 ∷ 51 ∷ 48 ∷ 49 ∷ 46 ∷ 47 ∷ 44 ∷ 45 ∷ 42 ∷ 43 ∷ 40 ∷ 41 ∷ 38 ∷ 39 ∷ 36 ∷ 37 ∷ 34 ∷ 35 ∷ 32 ∷ 33 ∷ 30 ∷ 31 ∷ 28 ∷ 29 ∷ 26 ∷ 27 ∷ 24 ∷ 25 ∷ 22 ∷ 23 ∷ 20 ∷ 21 ∷ 18 ∷ 19 ∷ 16 ∷ 17 ∷ 14 ∷ 15 ∷ 12 ∷ 13 ∷ 10 ∷ 11 ∷ 8 ∷ 9 ∷ 6 ∷ 7 ∷ 4 ∷ 5 ∷ []) $
           all-freed ! mir.locals (l₀ ∷ l₁ ∷ l₂ ∷ l₃ ∷ l₄ ∷ l₅ ∷ l₆ ∷ l₇ ∷ l₈ ∷ l₉ ∷ l₁₀ ∷ l₁₁ ∷ l₁₂ ∷ l₁₃ ∷ l₁₄ ∷ l₁₅ ∷ l₁₆ ∷ l₁₇ ∷ l₁₈ ∷ l₁₉ ∷ l₂₀ ∷ l₂₁ ∷ l₂₂ ∷ l₂₃ ∷ l₂₄ ∷ l₂₅ ∷ l₂₆ ∷ l₂₇ ∷ l₂₈ ∷ l₂₉ ∷ l₃₀ ∷ l₃₁ ∷ l₃₂ ∷ l₃₃ ∷ []) (full _ ∷ full _ ∷ full _ ∷ full _ ∷ full _ ∷ bare ∷ bare ∷ bare ∷ bare ∷ full _ ∷ bare ∷ bare ∷ bare ∷ bare ∷ bare ∷ bare ∷ bare ∷ bare ∷ bare ∷ bare ∷ bare ∷ bare ∷ bare ∷ bare ∷ bare ∷ bare ∷ bare ∷ full _ ∷ full _ ∷ full _ ∷ bare ∷ bare ∷ bare ∷ bare ∷ []) tt $
-          suffices ! _ (ends-at 𝓤 H A act.ended stayed c W y _ (0) (ys, (V₈, (tt, (tt, tt)))) (sym refl, (sym ((refl ∙ sym (subst (λ (us : List (List ℕ)). length us ≡ length ys′) (e₄₅) (ls₄₄ .0)))), (tt, (tt, tt))))) $ says-none ! $
+          suffices ! _ (ends-at 𝓤 H A act.ended stayed c W y _ (0) (ys, (V₄, (tt, (tt, tt)))) (sym refl, (sym ((refl ∙ sym (subst (λ (us : List (List ℕ)). length us ≡ length ys′) (e₄₅) (ls₄₄ .0)))), (tt, (tt, tt))))) $ says-none ! $
           leaves2 ! (number w64) Ds a (0) are ((refl, lit< tt))))
           (λ h₄.
           assigns ! (bin ! (load ! (from ! (fld ! refl (stop !))) (look-in ! 64 (sub ! 0 refl (whole !)))) (lit ! tt) tt) (from ! (stop !)) (store ! 52 refl (tt, tt)) $
@@ -265,7 +251,7 @@ module _ {M : Type 1} (𝓤 : URA M) (H : Heap 𝓤) (𝓜 : Model 𝓤 H) (𝓖
           nothing ! $
           move ! (3 ∷ 0 ∷ []) $
           join ! $
-          call-slices (number w64) (number w64 ∷ number w64 ∷ []) (((a .0) .queue, (a .1 .0, tt))) (emp 𝓤) ((mutable (Array u64 96) ys′ b′ o′ n′ refl room′) ∷ []) ! fm (λ r ws. (r ≡ V₉) × (ws .0 ≡ V₁₀)) ((LL.owed Operation·.the-type Operation·laws.the-laws (a .0) _ (are .0) .1 .0, (are .1 .0, tt))) (id⊢ 𝓤 (emp 𝓤))
+          call-left (number w64) (number w64 ∷ number w64 ∷ []) (((a .0) .queue, (a .1 .0, tt))) (emp 𝓤) ((mutable (Array u64 96) ys′ b′ o′ n′ refl room′) ∷ []) ! fm (λ r ws. (r ≡ (V₅ .answer)) × (ws .0 ≡ (V₅ .memory))) (λ r ws. _≡_ {A = Left ℕ (List (List ℕ))} (record { answer = r; memory = ws .0 }) V₅) (λ r ws e. (ap (λ (z : Left ℕ (List (List ℕ))). z .answer) e, ap (λ (z : Left ℕ (List (List ℕ))). z .memory) e)) ((LL.owed Operation·.the-type Operation·laws.the-laws (a .0) _ (are .0) .1 .0, (are .1 .0, tt))) (id⊢ 𝓤 (emp 𝓤))
           (λ νs. cited 𝓤 H (tripleOf 𝓤 H A fn-lent-rq-hardtick.signature (fn-lent-rq-hardtick.spec 𝓤 H A (𝓜 .mem) (𝓡 .run))) 𝓜 𝓡 code.env fn-lent-rq-hardtick-def.name fn-lent-rq-hardtick-def.routine code.calls-lent·rq·hardtick (fn-lent-rq-hardtick-thm.met 𝓤 H 𝓜 𝓖 𝓡) (((νs .0 .0 ∷ [], tt), (fullShare, tt), tt, (lent-as b′ o′ (νs .0 .1) ys′, ((a .0) .queue, (a .1 .0, tt))), (slice-of b′ o′ ys′ ∷ [], spell (number w64 ∷ number w64 ∷ []) (((a .0) .queue, (a .1 .0, tt))))), tt))
           (λ k. and-then ! (load ! (from ! (stop !)) (look ! 8 refl)) (and-then ! (load ! (from ! (fld ! refl (stop !))) (look-in ! 64 (sub ! 1 refl (whole !)))) (and-then ! (load ! (from ! (stop !)) (look ! 62 refl)) (no-more !)))) (λ r₄₆ ws₄₇ is₄₈ ls₄₉ e₅₀.
           split ! $
@@ -273,16 +259,16 @@ module _ {M : Type 1} (𝓤 : URA M) (H : Heap 𝓤) (𝓜 : Model 𝓤 H) (𝓖
           drop ! $
           rewrite ! 0 (λ (us : List (List ℕ)). ‵ (row (Array u64 96) fullShare us b′ o′)) (e₅₀ .1) refl $
           told ! (number w64) (e₅₀ .0) is₄₈ (λ is₅₁.
-          land ! (from ! (stop !)) (init ! 70 refl ((number w64) .typed 𝓤 H A W (V₉) (is₅₁) .0)) $
+          land ! (from ! (stop !)) (init ! 70 refl ((number w64) .typed 𝓤 H A W (V₅ .answer) (is₅₁) .0)) $
           move ! (0 ∷ 3 ∷ []) $
-          closed ! tt (Array u64 96) ys′ (V₁₀) b′ o′ room′ (sym ((refl ∙ sym (subst (λ (us : List (List ℕ)). length us ≡ length ys′) (e₅₀ .1) (ls₄₉ .0))))) $
+          closed ! tt (Array u64 96) ys′ (V₅ .memory) b′ o′ room′ (sym ((refl ∙ sym (subst (λ (us : List (List ℕ)). length us ≡ length ys′) (e₅₀ .1) (ls₄₉ .0))))) $
           move ! (2 ∷ 3 ∷ []) $
           closed ! tt Thread·.the-row ys (ys) b o room (sym refl) $
           returns-within ! Post refl (look ! 70 refl) $
           move ! (70 ∷ 71 ∷ 68 ∷ 69 ∷ 66 ∷ 67 ∷ 64 ∷ 65 ∷ 62 ∷ 63 ∷ 60 ∷ 61 ∷ 58 ∷ 59 ∷ 56 ∷ 57 ∷ 54 ∷ 55 ∷ 52 ∷ 53 ∷ 50 ∷ 51 ∷ 48 ∷ 49 ∷ 46 ∷ 47 ∷ 44 ∷ 45 ∷ 42 ∷ 43 ∷ 40 ∷ 41 ∷ 38 ∷ 39 ∷ 36 ∷ 37 ∷ 34 ∷ 35 ∷ 32 ∷ 33 ∷ 30 ∷ 31 ∷ 28 ∷ 29 ∷ 26 ∷ 27 ∷ 24 ∷ 25 ∷ 22 ∷ 23 ∷ 20 ∷ 21 ∷ 18 ∷ 19 ∷ 16 ∷ 17 ∷ 14 ∷ 15 ∷ 12 ∷ 13 ∷ 10 ∷ 11 ∷ 8 ∷ 9 ∷ 6 ∷ 7 ∷ 4 ∷ 5 ∷ []) $
           all-freed ! mir.locals (l₀ ∷ l₁ ∷ l₂ ∷ l₃ ∷ l₄ ∷ l₅ ∷ l₆ ∷ l₇ ∷ l₈ ∷ l₉ ∷ l₁₀ ∷ l₁₁ ∷ l₁₂ ∷ l₁₃ ∷ l₁₄ ∷ l₁₅ ∷ l₁₆ ∷ l₁₇ ∷ l₁₈ ∷ l₁₉ ∷ l₂₀ ∷ l₂₁ ∷ l₂₂ ∷ l₂₃ ∷ l₂₄ ∷ l₂₅ ∷ l₂₆ ∷ l₂₇ ∷ l₂₈ ∷ l₂₉ ∷ l₃₀ ∷ l₃₁ ∷ l₃₂ ∷ l₃₃ ∷ []) (full _ ∷ full _ ∷ full _ ∷ full _ ∷ full _ ∷ bare ∷ bare ∷ bare ∷ bare ∷ full _ ∷ bare ∷ bare ∷ bare ∷ bare ∷ bare ∷ bare ∷ bare ∷ bare ∷ bare ∷ bare ∷ bare ∷ bare ∷ bare ∷ bare ∷ bare ∷ bare ∷ bare ∷ bare ∷ bare ∷ bare ∷ full _ ∷ full _ ∷ bare ∷ bare ∷ []) tt $
-          suffices ! _ (ends-at 𝓤 H A act.ended stayed c W y _ (V₉) (ys, (V₁₀, (tt, (tt, tt)))) (sym refl, (sym ((refl ∙ sym (subst (λ (us : List (List ℕ)). length us ≡ length ys′) (e₅₀ .1) (ls₄₉ .0)))), (tt, (tt, tt))))) $ says-none ! $
-          leaves2 ! (number w64) Ds a (V₉) are (is₅₁))))
+          suffices ! _ (ends-at 𝓤 H A act.ended stayed c W y _ (V₅ .answer) (ys, (V₅ .memory, (tt, (tt, tt)))) (sym refl, (sym ((refl ∙ sym (subst (λ (us : List (List ℕ)). length us ≡ length ys′) (e₅₀ .1) (ls₄₉ .0)))), (tt, (tt, tt))))) $ says-none ! $
+          leaves2 ! (number w64) Ds a (V₅ .answer) are (is₅₁))))
           (λ h₅.
           forget ! 52 refl $
           part-11 h₁ h₂ h₃ h₄ h₅)))
@@ -340,7 +326,7 @@ module _ {M : Type 1} (𝓤 : URA M) (H : Heap 𝓤) (𝓜 : Model 𝓤 H) (𝓖
         join ! $
         move ! (1 ∷ 0 ∷ []) $
         join ! $
-        call-slices nil (number w64 ∷ number w64 ∷ number w64 ∷ truth ∷ []) (((a .0) .queue, ((a .0) .thread, (a .1 .0, ((a .0) .current, tt))))) (emp 𝓤) ((mutable Thread·.the-row (set ys ((a .0) .thread) r₇) b o n ((refl ∙ sym (subst (λ (us : List Thread). length us ≡ length ys) (e₁₅) (ls₁₄ .0)))) room) ∷ (mutable (Array u64 96) ys′ b′ o′ n′ refl room′) ∷ []) ! fm (λ r ws. (ws .0 ≡ (insertDef (set ys ((a .0) .thread) r₇) ys′ ((a .0) .queue) ((a .0) .thread) (a .1 .0) ((a .0) .current) .threads)) × (ws .1 .0 ≡ (insertDef (set ys ((a .0) .thread) r₇) ys′ ((a .0) .queue) ((a .0) .thread) (a .1 .0) ((a .0) .current) .cpus))) ((LL.owed Operation·.the-type Operation·laws.the-laws (a .0) _ (are .0) .1 .0, (LL.owed Operation·.the-type Operation·laws.the-laws (a .0) _ (are .0) .1 .1 .0, (are .1 .0, (LL.owed Operation·.the-type Operation·laws.the-laws (a .0) _ (are .0) .1 .1 .1 .1 .1 .1 .0, tt))))) (id⊢ 𝓤 (emp 𝓤))
+        call-left nil (number w64 ∷ number w64 ∷ number w64 ∷ truth ∷ []) (((a .0) .queue, ((a .0) .thread, (a .1 .0, ((a .0) .current, tt))))) (emp 𝓤) ((mutable Thread·.the-row (set ys ((a .0) .thread) r₇) b o n ((refl ∙ sym (subst (λ (us : List Thread). length us ≡ length ys) (e₁₅) (ls₁₄ .0)))) room) ∷ (mutable (Array u64 96) ys′ b′ o′ n′ refl room′) ∷ []) ! fm (λ r ws. (ws .0 ≡ ((insertDef ((a .0) .queue) ((a .0) .thread) (a .1 .0) ((a .0) .current) (record { threads = set ys ((a .0) .thread) r₇; cpus = ys′ })) .threads)) × (ws .1 .0 ≡ ((insertDef ((a .0) .queue) ((a .0) .thread) (a .1 .0) ((a .0) .current) (record { threads = set ys ((a .0) .thread) r₇; cpus = ys′ })) .cpus))) (λ r ws. _≡_ {A = Memory} (record { threads = ws .0; cpus = ws .1 .0 }) (insertDef ((a .0) .queue) ((a .0) .thread) (a .1 .0) ((a .0) .current) (record { threads = set ys ((a .0) .thread) r₇; cpus = ys′ }))) (λ r ws e. (ap (λ (z : Memory). z .threads) e, ap (λ (z : Memory). z .cpus) e)) ((LL.owed Operation·.the-type Operation·laws.the-laws (a .0) _ (are .0) .1 .0, (LL.owed Operation·.the-type Operation·laws.the-laws (a .0) _ (are .0) .1 .1 .0, (are .1 .0, (LL.owed Operation·.the-type Operation·laws.the-laws (a .0) _ (are .0) .1 .1 .1 .1 .1 .1 .0, tt))))) (id⊢ 𝓤 (emp 𝓤))
         (λ νs. cited 𝓤 H (tripleOf 𝓤 H A fn-lent-rq-insert.signature (fn-lent-rq-insert.spec 𝓤 H A (𝓜 .mem) (𝓡 .run))) 𝓜 𝓡 code.env fn-lent-rq-insert-def.name fn-lent-rq-insert-def.routine code.calls-lent·rq·insert (fn-lent-rq-insert-thm.met 𝓤 H 𝓜 𝓖 𝓡) (((νs .0 .0 ∷ [], (νs .1 .0 .0 ∷ [], tt)), (fullShare, (fullShare, tt)), tt, (lent-as b o (νs .0 .1) (set ys ((a .0) .thread) r₇), (lent-as b′ o′ (νs .1 .0 .1) ys′, ((a .0) .queue, ((a .0) .thread, (a .1 .0, ((a .0) .current, tt)))))), (slice-of b o (set ys ((a .0) .thread) r₇) ∷ [], (slice-of b′ o′ ys′ ∷ [], spell (number w64 ∷ number w64 ∷ number w64 ∷ truth ∷ []) (((a .0) .queue, ((a .0) .thread, (a .1 .0, ((a .0) .current, tt)))))))), tt))
         (λ k. and-then ! (load ! (from ! (stop !)) (look ! 37 refl)) (and-then ! (load ! (from ! (stop !)) (look ! 33 refl)) (and-then ! (load ! (from ! (fld ! refl (stop !))) (look-in ! 63 (sub ! 1 refl (whole !)))) (and-then ! (load ! (from ! (fld ! refl (stop !))) (look-in ! 63 (sub ! 2 refl (whole !)))) (and-then ! (load ! (from ! (stop !)) (look ! 61 refl)) (and-then ! (load ! (from ! (fld ! refl (stop !))) (look-in ! 63 (sub ! 6 refl (whole !)))) (no-more !))))))) (λ r₁₆ ws₁₇ is₁₈ ls₁₉ e₂₀.
         split ! $
@@ -353,13 +339,13 @@ module _ {M : Type 1} (𝓤 : URA M) (H : Heap 𝓤) (𝓜 : Model 𝓤 H) (𝓖
         land ! (from ! (stop !)) (store ! 46 refl (tt, tt)) $
         assigns ! (of-opd ! (lit ! tt)) (from ! (stop !)) (init ! 70 refl (tt, record { fits = lit< tt })) $
         move ! (0 ∷ 3 ∷ []) $
-        closed ! tt (Array u64 96) ys′ (insertDef (set ys ((a .0) .thread) r₇) ys′ ((a .0) .queue) ((a .0) .thread) (a .1 .0) ((a .0) .current) .cpus) b′ o′ room′ (sym ((refl ∙ sym (subst (λ (us : List (List ℕ)). length us ≡ length ys′) (e₂₀ .1) (ls₁₉ .1 .0))))) $
+        closed ! tt (Array u64 96) ys′ ((insertDef ((a .0) .queue) ((a .0) .thread) (a .1 .0) ((a .0) .current) (record { threads = set ys ((a .0) .thread) r₇; cpus = ys′ })) .cpus) b′ o′ room′ (sym ((refl ∙ sym (subst (λ (us : List (List ℕ)). length us ≡ length ys′) (e₂₀ .1) (ls₁₉ .1 .0))))) $
         move ! (2 ∷ 3 ∷ []) $
-        closed ! tt Thread·.the-row ys (insertDef (set ys ((a .0) .thread) r₇) ys′ ((a .0) .queue) ((a .0) .thread) (a .1 .0) ((a .0) .current) .threads) b o room (sym (((refl ∙ sym (subst (λ (us : List Thread). length us ≡ length ys) (e₁₅) (ls₁₄ .0))) ∙ sym (subst (λ (us : List Thread). length us ≡ length (set ys ((a .0) .thread) r₇)) (e₂₀ .0) (ls₁₉ .0))))) $
+        closed ! tt Thread·.the-row ys ((insertDef ((a .0) .queue) ((a .0) .thread) (a .1 .0) ((a .0) .current) (record { threads = set ys ((a .0) .thread) r₇; cpus = ys′ })) .threads) b o room (sym (((refl ∙ sym (subst (λ (us : List Thread). length us ≡ length ys) (e₁₅) (ls₁₄ .0))) ∙ sym (subst (λ (us : List Thread). length us ≡ length (set ys ((a .0) .thread) r₇)) (e₂₀ .0) (ls₁₉ .0))))) $
         returns-within ! Post refl (look ! 70 refl) $
         move ! (70 ∷ 71 ∷ 68 ∷ 69 ∷ 66 ∷ 67 ∷ 64 ∷ 65 ∷ 62 ∷ 63 ∷ 60 ∷ 61 ∷ 58 ∷ 59 ∷ 56 ∷ 57 ∷ 54 ∷ 55 ∷ 52 ∷ 53 ∷ 50 ∷ 51 ∷ 48 ∷ 49 ∷ 46 ∷ 47 ∷ 44 ∷ 45 ∷ 42 ∷ 43 ∷ 40 ∷ 41 ∷ 38 ∷ 39 ∷ 36 ∷ 37 ∷ 34 ∷ 35 ∷ 32 ∷ 33 ∷ 30 ∷ 31 ∷ 28 ∷ 29 ∷ 26 ∷ 27 ∷ 24 ∷ 25 ∷ 22 ∷ 23 ∷ 20 ∷ 21 ∷ 18 ∷ 19 ∷ 16 ∷ 17 ∷ 14 ∷ 15 ∷ 12 ∷ 13 ∷ 10 ∷ 11 ∷ 8 ∷ 9 ∷ 6 ∷ 7 ∷ 4 ∷ 5 ∷ []) $
         all-freed ! mir.locals (l₀ ∷ l₁ ∷ l₂ ∷ l₃ ∷ l₄ ∷ l₅ ∷ l₆ ∷ l₇ ∷ l₈ ∷ l₉ ∷ l₁₀ ∷ l₁₁ ∷ l₁₂ ∷ l₁₃ ∷ l₁₄ ∷ l₁₅ ∷ l₁₆ ∷ l₁₇ ∷ l₁₈ ∷ l₁₉ ∷ l₂₀ ∷ l₂₁ ∷ l₂₂ ∷ l₂₃ ∷ l₂₄ ∷ l₂₅ ∷ l₂₆ ∷ l₂₇ ∷ l₂₈ ∷ l₂₉ ∷ l₃₀ ∷ l₃₁ ∷ l₃₂ ∷ l₃₃ ∷ []) (full _ ∷ full _ ∷ full _ ∷ full _ ∷ full _ ∷ full _ ∷ full _ ∷ bare ∷ bare ∷ full _ ∷ full _ ∷ full _ ∷ full _ ∷ full _ ∷ full _ ∷ full _ ∷ full _ ∷ full _ ∷ full _ ∷ bare ∷ bare ∷ bare ∷ bare ∷ bare ∷ bare ∷ bare ∷ bare ∷ bare ∷ bare ∷ bare ∷ bare ∷ bare ∷ bare ∷ bare ∷ []) tt $
-        suffices ! _ (ends-at 𝓤 H A act.ended stayed c W y _ (0) (insertDef (set ys ((a .0) .thread) r₇) ys′ ((a .0) .queue) ((a .0) .thread) (a .1 .0) ((a .0) .current) .threads, (insertDef (set ys ((a .0) .thread) r₇) ys′ ((a .0) .queue) ((a .0) .thread) (a .1 .0) ((a .0) .current) .cpus, (tt, (tt, tt)))) (sym (((refl ∙ sym (subst (λ (us : List Thread). length us ≡ length ys) (e₁₅) (ls₁₄ .0))) ∙ sym (subst (λ (us : List Thread). length us ≡ length (set ys ((a .0) .thread) r₇)) (e₂₀ .0) (ls₁₉ .0)))), (sym ((refl ∙ sym (subst (λ (us : List (List ℕ)). length us ≡ length ys′) (e₂₀ .1) (ls₁₉ .1 .0)))), (tt, (tt, tt))))) $ says-none ! $
+        suffices ! _ (ends-at 𝓤 H A act.ended stayed c W y _ (0) ((insertDef ((a .0) .queue) ((a .0) .thread) (a .1 .0) ((a .0) .current) (record { threads = set ys ((a .0) .thread) r₇; cpus = ys′ })) .threads, ((insertDef ((a .0) .queue) ((a .0) .thread) (a .1 .0) ((a .0) .current) (record { threads = set ys ((a .0) .thread) r₇; cpus = ys′ })) .cpus, (tt, (tt, tt)))) (sym (((refl ∙ sym (subst (λ (us : List Thread). length us ≡ length ys) (e₁₅) (ls₁₄ .0))) ∙ sym (subst (λ (us : List Thread). length us ≡ length (set ys ((a .0) .thread) r₇)) (e₂₀ .0) (ls₁₉ .0)))), (sym ((refl ∙ sym (subst (λ (us : List (List ℕ)). length us ≡ length ys′) (e₂₀ .1) (ls₁₉ .1 .0)))), (tt, (tt, tt))))) $ says-none ! $
         leaves2 ! (number w64) Ds a (0) are ((refl, lit< tt))))))))
         (λ h₁.
         assigns ! (bin ! (load ! (from ! (fld ! refl (stop !))) (look-in ! 64 (sub ! 0 refl (whole !)))) (lit ! tt) tt) (from ! (stop !)) (store ! 52 refl (tt, tt)) $
@@ -374,7 +360,7 @@ module _ {M : Type 1} (𝓤 : URA M) (H : Heap 𝓤) (𝓜 : Model 𝓤 H) (𝓖
         join ! $
         move ! (1 ∷ 0 ∷ []) $
         join ! $
-        call-slices Taken° (number w64 ∷ truth ∷ []) (((a .0) .queue, (false, tt))) (emp 𝓤) ((mutable Thread·.the-row ys b o n refl room) ∷ (mutable (Array u64 96) ys′ b′ o′ n′ refl room′) ∷ []) ! fm (λ r ws. (r ≡ V₂) × ((ws .0 ≡ V₃) × (ws .1 .0 ≡ V₄))) ((LL.owed Operation·.the-type Operation·laws.the-laws (a .0) _ (are .0) .1 .0, (refl, tt))) (id⊢ 𝓤 (emp 𝓤))
+        call-left Taken° (number w64 ∷ truth ∷ []) (((a .0) .queue, (false, tt))) (emp 𝓤) ((mutable Thread·.the-row ys b o n refl room) ∷ (mutable (Array u64 96) ys′ b′ o′ n′ refl room′) ∷ []) ! fm (λ r ws. (r ≡ (V₂ .answer)) × ((ws .0 ≡ (V₂ .memory .threads)) × (ws .1 .0 ≡ (V₂ .memory .cpus)))) (λ r ws. _≡_ {A = Left Taken Memory} (record { answer = r; memory = record { threads = ws .0; cpus = ws .1 .0 } }) V₂) (λ r ws e. (ap (λ (z : Left Taken Memory). z .answer) e, (ap (λ (z : Left Taken Memory). z .memory .threads) e, ap (λ (z : Left Taken Memory). z .memory .cpus) e))) ((LL.owed Operation·.the-type Operation·laws.the-laws (a .0) _ (are .0) .1 .0, (refl, tt))) (id⊢ 𝓤 (emp 𝓤))
         (λ νs. cited 𝓤 H (tripleOf 𝓤 H A fn-lent-rq-take.signature (fn-lent-rq-take.spec 𝓤 H A (𝓜 .mem) (𝓡 .run))) 𝓜 𝓡 code.env fn-lent-rq-take-def.name fn-lent-rq-take-def.routine code.calls-lent·rq·take (fn-lent-rq-take-thm.met 𝓤 H 𝓜 𝓖 𝓡) (((νs .0 .0 ∷ [], (νs .1 .0 .0 ∷ [], tt)), (fullShare, (fullShare, tt)), tt, (lent-as b o (νs .0 .1) ys, (lent-as b′ o′ (νs .1 .0 .1) ys′, ((a .0) .queue, (false, tt)))), (slice-of b o ys ∷ [], (slice-of b′ o′ ys′ ∷ [], spell (number w64 ∷ truth ∷ []) (((a .0) .queue, (false, tt)))))), tt))
         (λ k. and-then ! (load ! (from ! (stop !)) (look ! 29 refl)) (and-then ! (load ! (from ! (stop !)) (look ! 25 refl)) (and-then ! (load ! (from ! (fld ! refl (stop !))) (look-in ! 63 (sub ! 1 refl (whole !)))) (and-then ! (false-lit !) (no-more !))))) (λ r₂₁ ws₂₂ is₂₃ ls₂₄ e₂₅.
         split ! $
@@ -385,21 +371,21 @@ module _ {M : Type 1} (𝓤 : URA M) (H : Heap 𝓤) (𝓜 : Model 𝓤 H) (𝓖
         rewrite ! 1 (λ (us : List Thread). ‵ (row Thread·.the-row fullShare us b o)) (e₂₅ .1 .0) refl $
         rewrite ! 0 (λ (us : List (List ℕ)). ‵ (row (Array u64 96) fullShare us b′ o′)) (e₂₅ .1 .1) refl $
         told ! Taken° (e₂₅ .0) is₂₃ (λ is₂₆.
-        land ! (from ! (stop !)) (init ! 56 refl (Taken° .typed 𝓤 H A W (V₂) (is₂₆) .0)) $
+        land ! (from ! (stop !)) (init ! 56 refl (Taken° .typed 𝓤 H A W (V₂ .answer) (is₂₆) .0)) $
         nothing ! $
-        call-slices-none (number w64) (Taken° ∷ []) ((V₂, tt)) (emp 𝓤) ([]) ! fm ((is₂₆, tt)) (id⊢ 𝓤 (emp 𝓤))
-        (λ νs. cited 𝓤 H (tripleOf 𝓤 H A fn-lent-vectors-taken-number.signature (fn-lent-vectors-taken-number.spec 𝓤 H A (𝓜 .mem) (𝓡 .run))) 𝓜 𝓡 code.env fn-lent-vectors-taken-number-def.name fn-lent-vectors-taken-number-def.routine code.calls-lent-vectors·taken-number (fn-lent-vectors-taken-number-thm.met 𝓤 H 𝓜 𝓖 𝓡) ((tt, tt, tt, (V₂, tt), spell (Taken° ∷ []) ((V₂, tt))), tt))
+        call-slices-none (number w64) (Taken° ∷ []) ((V₂ .answer, tt)) (emp 𝓤) ([]) ! fm ((is₂₆, tt)) (id⊢ 𝓤 (emp 𝓤))
+        (λ νs. cited 𝓤 H (tripleOf 𝓤 H A fn-lent-vectors-taken-number.signature (fn-lent-vectors-taken-number.spec 𝓤 H A (𝓜 .mem) (𝓡 .run))) 𝓜 𝓡 code.env fn-lent-vectors-taken-number-def.name fn-lent-vectors-taken-number-def.routine code.calls-lent-vectors·taken-number (fn-lent-vectors-taken-number-thm.met 𝓤 H 𝓜 𝓖 𝓡) ((tt, tt, tt, (V₂ .answer, tt), spell (Taken° ∷ []) ((V₂ .answer, tt))), tt))
         (λ k. and-then ! (load ! (from ! (stop !)) (look ! 57 refl)) (no-more !)) (λ r₂₇ ws₂₈ is₂₉ ls₃₀.
         drop ! $
         land ! (from ! (stop !)) (init ! 70 refl ((number w64) .typed 𝓤 H A W (r₂₇) (is₂₉) .0)) $
         move ! (0 ∷ 3 ∷ []) $
-        closed ! tt (Array u64 96) ys′ (V₄) b′ o′ room′ (sym ((refl ∙ sym (subst (λ (us : List (List ℕ)). length us ≡ length ys′) (e₂₅ .1 .1) (ls₂₄ .1 .0))))) $
+        closed ! tt (Array u64 96) ys′ (V₂ .memory .cpus) b′ o′ room′ (sym ((refl ∙ sym (subst (λ (us : List (List ℕ)). length us ≡ length ys′) (e₂₅ .1 .1) (ls₂₄ .1 .0))))) $
         move ! (2 ∷ 3 ∷ []) $
-        closed ! tt Thread·.the-row ys (V₃) b o room (sym ((refl ∙ sym (subst (λ (us : List Thread). length us ≡ length ys) (e₂₅ .1 .0) (ls₂₄ .0))))) $
+        closed ! tt Thread·.the-row ys (V₂ .memory .threads) b o room (sym ((refl ∙ sym (subst (λ (us : List Thread). length us ≡ length ys) (e₂₅ .1 .0) (ls₂₄ .0))))) $
         returns-within ! Post refl (look ! 70 refl) $
         move ! (70 ∷ 71 ∷ 68 ∷ 69 ∷ 66 ∷ 67 ∷ 64 ∷ 65 ∷ 62 ∷ 63 ∷ 60 ∷ 61 ∷ 58 ∷ 59 ∷ 56 ∷ 57 ∷ 54 ∷ 55 ∷ 52 ∷ 53 ∷ 50 ∷ 51 ∷ 48 ∷ 49 ∷ 46 ∷ 47 ∷ 44 ∷ 45 ∷ 42 ∷ 43 ∷ 40 ∷ 41 ∷ 38 ∷ 39 ∷ 36 ∷ 37 ∷ 34 ∷ 35 ∷ 32 ∷ 33 ∷ 30 ∷ 31 ∷ 28 ∷ 29 ∷ 26 ∷ 27 ∷ 24 ∷ 25 ∷ 22 ∷ 23 ∷ 20 ∷ 21 ∷ 18 ∷ 19 ∷ 16 ∷ 17 ∷ 14 ∷ 15 ∷ 12 ∷ 13 ∷ 10 ∷ 11 ∷ 8 ∷ 9 ∷ 6 ∷ 7 ∷ 4 ∷ 5 ∷ []) $
         all-freed ! mir.locals (l₀ ∷ l₁ ∷ l₂ ∷ l₃ ∷ l₄ ∷ l₅ ∷ l₆ ∷ l₇ ∷ l₈ ∷ l₉ ∷ l₁₀ ∷ l₁₁ ∷ l₁₂ ∷ l₁₃ ∷ l₁₄ ∷ l₁₅ ∷ l₁₆ ∷ l₁₇ ∷ l₁₈ ∷ l₁₉ ∷ l₂₀ ∷ l₂₁ ∷ l₂₂ ∷ l₂₃ ∷ l₂₄ ∷ l₂₅ ∷ l₂₆ ∷ l₂₇ ∷ l₂₈ ∷ l₂₉ ∷ l₃₀ ∷ l₃₁ ∷ l₃₂ ∷ l₃₃ ∷ []) (full _ ∷ full _ ∷ full _ ∷ full _ ∷ full _ ∷ bare ∷ bare ∷ full _ ∷ bare ∷ full _ ∷ bare ∷ bare ∷ bare ∷ bare ∷ bare ∷ bare ∷ bare ∷ bare ∷ bare ∷ full _ ∷ full _ ∷ full _ ∷ full _ ∷ bare ∷ bare ∷ bare ∷ bare ∷ bare ∷ bare ∷ bare ∷ bare ∷ bare ∷ bare ∷ bare ∷ []) tt $
-        suffices ! _ (ends-at 𝓤 H A act.ended stayed c W y _ (r₂₇) (V₃, (V₄, (tt, (tt, tt)))) (sym ((refl ∙ sym (subst (λ (us : List Thread). length us ≡ length ys) (e₂₅ .1 .0) (ls₂₄ .0)))), (sym ((refl ∙ sym (subst (λ (us : List (List ℕ)). length us ≡ length ys′) (e₂₅ .1 .1) (ls₂₄ .1 .0)))), (tt, (tt, tt))))) $ says-none ! $
+        suffices ! _ (ends-at 𝓤 H A act.ended stayed c W y _ (r₂₇) (V₂ .memory .threads, (V₂ .memory .cpus, (tt, (tt, tt)))) (sym ((refl ∙ sym (subst (λ (us : List Thread). length us ≡ length ys) (e₂₅ .1 .0) (ls₂₄ .0)))), (sym ((refl ∙ sym (subst (λ (us : List (List ℕ)). length us ≡ length ys′) (e₂₅ .1 .1) (ls₂₄ .1 .0)))), (tt, (tt, tt))))) $ says-none ! $
         leaves2 ! (number w64) Ds a (r₂₇) are (is₂₉)))))
         (λ h₂.
         forget ! 52 refl $

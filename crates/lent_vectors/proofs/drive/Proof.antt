@@ -150,10 +150,10 @@ module _ {M : Type 1} (𝓤 : URA M) (H : Heap 𝓤) (𝓜 : Model 𝓤 H) (𝓖
       abbrev I : X → List (Item 𝓤)
       I t = ‵ (row Thread·.the-row fullShare (t .0 .0) b o) ∷ ‵ (kept Thread·.the-row κ q γ b o ys) ∷ ‵ (row (Array u64 96) fullShare (t .0 .1 .0) b′ o′) ∷ ‵ (kept (Array u64 96) κ′ q′ γ′ b′ o′ ys′) ∷ ‵ (row u8 fullShare (t .0 .1 .1 .0) b″ o″) ∷ ‵ (kept u8 κ″ q″ γ″ b″ o″ ys″) ∷ ‵ (row u8 fullShare (t .0 .1 .1 .1 .0) b‴ o‴) ∷ ‵ (kept u8 κ‴ q‴ γ‴ b‴ o‴ ys‴) ∷ standing 𝓤 mir.locals (l₀ ∷ l₁ ∷ l₂ ∷ l₃ ∷ l₄ ∷ l₅ ∷ l₆ ∷ l₇ ∷ l₈ ∷ l₉ ∷ l₁₀ ∷ l₁₁ ∷ l₁₂ ∷ l₁₃ ∷ l₁₄ ∷ l₁₅ ∷ l₁₆ ∷ l₁₇ ∷ l₁₈ ∷ l₁₉ ∷ l₂₀ ∷ l₂₁ ∷ l₂₂ ∷ l₂₃ ∷ l₂₄ ∷ l₂₅ ∷ l₂₆ ∷ l₂₇ ∷ []) (bare ∷ full s ∷ full s′ ∷ full s″ ∷ full s‴ ∷ full ((number w64) .val (t .0 .1 .1 .1 .1 .0)) ∷ full ((number w64) .val (t .0 .1 .1 .1 .1 .1)) ∷ bare ∷ bare ∷ bare ∷ bare ∷ bare ∷ bare ∷ bare ∷ bare ∷ bare ∷ bare ∷ bare ∷ bare ∷ bare ∷ bare ∷ bare ∷ bare ∷ bare ∷ bare ∷ bare ∷ bare ∷ bare ∷ []) []
 
-      abbrev Left : Outcome → SProp 𝓤
-      Left = afterBlock 𝓤 H (afterSeq 𝓤 H (Wp 𝓤 H C Λ En mir.t-4 (atReturn 𝓤 H En Post)) (atReturn 𝓤 H En Post))
+      abbrev Rest : Outcome → SProp 𝓤
+      Rest = afterBlock 𝓤 H (afterSeq 𝓤 H (Wp 𝓤 H C Λ En mir.t-4 (atReturn 𝓤 H En Post)) (atReturn 𝓤 H En Post))
 
-      turn : (z : Z) (w : Facts z) → Sq W (I (z, w)) (runs C Λ En mir.turn-1 (anyQ (afterTurn 𝓤 H (Below 𝓤 H A nearer I (z, w)) Left)))
+      turn : (z : Z) (w : Facts z) → Sq W (I (z, w)) (runs C Λ En mir.turn-1 (anyQ (afterTurn 𝓤 H (Below 𝓤 H A nearer I (z, w)) Rest)))
       unfolding afterTurn
       turn z w =
           assigns ! (bin ! (lit ! tt) (load ! (from ! (stop !)) (look ! 50 refl)) tt) (from ! (stop !)) (init ! 38 refl (tt, tt)) $

@@ -24,7 +24,6 @@ abbrev put-number-below : ℕ → In 1 put-number-kinds.ps
 put-number-below t =
     and 1 put-number-kinds.ps (falls 1 put-number-kinds.ps _<_ μ-put-number t) put-number.Pre
 
--- src/lib.rt:108:32
 put-number-digit-requires : (t : ℕ) → put-number-lts.Need-digit-requires (
   digit-reads.Asked,
   digit-reads.Learnt,
@@ -35,7 +34,6 @@ put-number-digit-requires : (t : ℕ) → put-number-lts.Need-digit-requires (
 ) (put-number-at t) put-number.Post
 put-number-digit-requires t c κs = search needs
 
--- src/lib.rt:108:9
 put-number-put-requires : (t : ℕ) → put-number-lts.Need-put-requires (
   digit-reads.Asked,
   digit-reads.Learnt,
@@ -46,7 +44,6 @@ put-number-put-requires : (t : ℕ) → put-number-lts.Need-put-requires (
 ) (put-number-at t) put-number.Post
 put-number-put-requires t c κs = search needs
 
--- src/lib.rt:108:9
 put-number-same-length : (t : ℕ) → put-number-lts.Need-same-length (
   digit-reads.Asked,
   digit-reads.Learnt,
@@ -57,7 +54,6 @@ put-number-same-length : (t : ℕ) → put-number-lts.Need-same-length (
 ) (put-number-at t) put-number.Post
 put-number-same-length t c = search needs
 
--- src/lib.rt:108:9
 put-number-returns : (t : ℕ) → put-number-lts.Need-returns (
   digit-reads.Asked,
   digit-reads.Learnt,
@@ -68,7 +64,6 @@ put-number-returns : (t : ℕ) → put-number-lts.Need-returns (
 ) (put-number-at t) put-number.Post
 put-number-returns t c = rw (← decimal-small (c .before .before .before .before .before .before .before .args .n) (c .before .before .before .before .before .if1 .taken), ← c .before .before .before .digit .ensures) (c .before .before .put .ensures)
 
--- src/lib.rt:110:9
 put-number-put-number-requires : (t : ℕ) → put-number-lts.Need-put-number-requires (
   digit-reads.Asked,
   digit-reads.Learnt,
@@ -79,7 +74,6 @@ put-number-put-number-requires : (t : ℕ) → put-number-lts.Need-put-number-re
 ) (put-number-at t) put-number.Post
 put-number-put-number-requires t c κs = (omega (arith, c .before .before .before .pre .0, c .before .if1 .left), tt)
 
--- src/lib.rt:111:23
 put-number-digit-requires-2 : (t : ℕ) → put-number-lts.Need-digit-requires-2 (
   digit-reads.Asked,
   digit-reads.Learnt,
@@ -90,7 +84,6 @@ put-number-digit-requires-2 : (t : ℕ) → put-number-lts.Need-digit-requires-2
 ) (put-number-at t) put-number.Post
 put-number-digit-requires-2 t c κs = search needs
 
--- src/lib.rt:111:5
 put-number-put-requires-2 : (t : ℕ) → put-number-lts.Need-put-requires-2 (
   digit-reads.Asked,
   digit-reads.Learnt,
@@ -101,7 +94,6 @@ put-number-put-requires-2 : (t : ℕ) → put-number-lts.Need-put-requires-2 (
 ) (put-number-at t) put-number.Post
 put-number-put-requires-2 t c κs = search needs
 
--- src/lib.rt:104:1
 put-number-same-length-2 : (t : ℕ) → put-number-lts.Need-same-length-2 (
   digit-reads.Asked,
   digit-reads.Learnt,
@@ -112,7 +104,6 @@ put-number-same-length-2 : (t : ℕ) → put-number-lts.Need-same-length-2 (
 ) (put-number-at t) put-number.Post
 put-number-same-length-2 t c = search needs
 
--- src/lib.rt:104:1
 put-number-returns-2 : (t : ℕ) → put-number-lts.Need-returns-2 (
   digit-reads.Asked,
   digit-reads.Learnt,

@@ -6,18 +6,13 @@ use mathlib.Core.Path.{sym}
 use borrow.Author.Needs.{needs}
 use Rattle.lines.proofs.has_room.Statement.{statement}
 use Rattle.lines.proofs.has_room.Tie as tie
-use Rattle.lines.proofs.has_room.Reads as reads
-use Rattle.lines.proofs.has_room.Lts as lts
 
--- src/lib.rt:192:9
 returns : tie.Need-returns
 returns c = no-room _ _ (c .if1 .taken)
 
--- src/lib.rt:194:13
 sub-result : tie.Need-sub-result
 sub-result c = search needs
 
--- src/lib.rt:188:1
 returns-2 : tie.Need-returns-2
 returns-2 c = room-left _ _ (c .if1 .left)
 

@@ -16,9 +16,6 @@ use mathlib.Core.Path.{_≡_}
 use borrow.Author.Needs.{needs}
 use Rattle.lines.proofs.put_bytes.Statement.{statement}
 use Rattle.lines.proofs.put_bytes.Tie as tie
-use Rattle.lines.proofs.put_bytes.Reads as reads
-use Rattle.lines.proofs.put_bytes.Lts as lts
-use Rattle.lines.proofs.put.Reads as put-reads
 
 abbrev Inv-loop : tie.InvT-loop
 Inv-loop buffer₀ at bytes next₀ i₀ buffer next i = (i ≤ length bytes) × ((length buffer ≡ length buffer₀) × (write (text buffer next) (drop i bytes) ≡ write (text buffer₀ at) bytes))
@@ -26,35 +23,27 @@ Inv-loop buffer₀ at bytes next₀ i₀ buffer next i = (i ≤ length bytes) ×
 abbrev μ-loop : tie.MeasureT-loop
 μ-loop buffer₀ at bytes next₀ i₀ buffer next i = length bytes - i
 
--- src/lib.rt:89:5
 loop-holds : tie.Need-loop-holds Inv-loop μ-loop
 loop-holds c = (omega arith, (refl, refl))
 
--- src/lib.rt:90:20
 shared-slice-read-byte : tie.Need-shared-slice-read-byte Inv-loop μ-loop
 shared-slice-read-byte c = search needs
 
--- src/lib.rt:91:9
 put-requires : tie.Need-put-requires Inv-loop μ-loop
 put-requires c κs = search needs
 
--- src/lib.rt:92:9
 add-i : tie.Need-add-i Inv-loop μ-loop
 add-i c = search needs
 
--- src/lib.rt:89:5
 loop-less : tie.Need-loop-less Inv-loop μ-loop
 loop-less c = search needs
 
--- src/lib.rt:89:5
 loop-again : tie.Need-loop-again Inv-loop μ-loop
 loop-again c = (omega arith, (c .before .before .put .kept .0 ∙ c .before .before .before .before .before .before .loop .inv .1 .0, write-next _ _ (now (c .before .before .before .before .before .before .before .before .before .args .bytes)) (c .before .before .before .before .before .before .loop .i) _ (c .before .before .put .ensures) (drop-cons (now (c .before .before .before .before .before .before .before .before .before .args .bytes)) (c .before .before .before .before .before .before .loop .i) 0 (c .before .before .before .before .before .loop-test .taken)) ∙ c .before .before .before .before .before .before .loop .inv .1 .1))
 
--- src/lib.rt:84:1
 same-length : tie.Need-same-length Inv-loop μ-loop
 same-length c = search needs
 
--- src/lib.rt:84:1
 returns : tie.Need-returns Inv-loop μ-loop
 returns c = sym (write-done _ _ _ (c .loop-test .left)) ∙ c .before .loop .inv .1 .1
 

@@ -4,36 +4,25 @@ use Rattle.rules.specs.Lines.{line-feed, space}
 use borrow.Author.Needs.{needs}
 use Rattle.lines.proofs.put_counts.Statement.{statement}
 use Rattle.lines.proofs.put_counts.Tie as tie
-use Rattle.lines.proofs.put_counts.Reads as reads
-use Rattle.lines.proofs.put_counts.Lts as lts
-use Rattle.lines.proofs.put.Reads as put-reads
-use Rattle.lines.proofs.put_shown.Reads as put-shown-reads
 
--- src/lib.rt:137:9
 put-requires : tie.Need-put-requires
 put-requires c κs = search needs
 
--- src/lib.rt:138:9
 put-shown-requires : tie.Need-put-shown-requires
 put-shown-requires c κs = search needs
 
--- src/lib.rt:139:9
 put-requires-2 : tie.Need-put-requires-2
 put-requires-2 c κs = search needs
 
--- src/lib.rt:140:9
 put-shown-requires-2 : tie.Need-put-shown-requires-2
 put-shown-requires-2 c κs = search needs
 
--- src/lib.rt:141:5
 put-requires-3 : tie.Need-put-requires-3
 put-requires-3 c κs = search needs
 
--- src/lib.rt:134:1
 same-length : tie.Need-same-length
 same-length c = search needs
 
--- src/lib.rt:134:1
 returns : tie.Need-returns
 unfolding counts-part space line-feed
 returns c = then _ _ _ _ _ (c .before .before .before .before .before .before .before .before .before .before .before .before .before .before .before .before .before .before .put .ensures) (then _ _ _ _ _ (c .before .before .before .before .before .before .before .before .before .before .before .before .before .before .put-shown .ensures) (then _ _ _ _ _ (c .before .before .before .before .before .before .before .before .before .before .put2 .ensures) (then _ _ _ _ _ (c .before .before .before .before .before .before .put-shown2 .ensures) (c .before .before .put3 .ensures))))

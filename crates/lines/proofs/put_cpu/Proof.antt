@@ -4,33 +4,22 @@ use Rattle.rules.specs.Lines.{space}
 use borrow.Author.Needs.{needs}
 use Rattle.lines.proofs.put_cpu.Statement.{statement}
 use Rattle.lines.proofs.put_cpu.Tie as tie
-use Rattle.lines.proofs.put_cpu.Reads as reads
-use Rattle.lines.proofs.put_cpu.Lts as lts
-use Rattle.lines.proofs.put.Reads as put-reads
-use Rattle.lines.proofs.put_running.Reads as put-running-reads
-use Rattle.lines.proofs.put_shown.Reads as put-shown-reads
 
--- src/lib.rt:148:9
 put-requires : tie.Need-put-requires
 put-requires c κs = search needs
 
--- src/lib.rt:149:9
 put-shown-requires : tie.Need-put-shown-requires
 put-shown-requires c κs = search needs
 
--- src/lib.rt:150:9
 put-requires-2 : tie.Need-put-requires-2
 put-requires-2 c κs = search needs
 
--- src/lib.rt:151:5
 put-running-requires : tie.Need-put-running-requires
 put-running-requires c κs = search needs
 
--- src/lib.rt:145:1
 same-length : tie.Need-same-length
 same-length c = search needs
 
--- src/lib.rt:145:1
 returns : tie.Need-returns
 unfolding cpu-part space
 returns c = then _ _ _ _ _ (c .before .before .before .before .before .before .before .before .before .before .before .before .before .before .put .ensures) (then _ _ _ _ _ (c .before .before .before .before .before .before .before .before .before .before .put-shown .ensures) (then _ _ _ _ _ (c .before .before .before .before .before .before .put2 .ensures) (c .before .before .put-running .ensures)))

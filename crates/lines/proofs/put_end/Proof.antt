@@ -3,37 +3,25 @@ use Rattle.rules.specs.Lines.{end-word, line-feed, space}
 use borrow.Author.Needs.{needs}
 use Rattle.lines.proofs.put_end.Statement.{statement}
 use Rattle.lines.proofs.put_end.Tie as tie
-use Rattle.lines.proofs.put_end.Reads as reads
-use Rattle.lines.proofs.put_end.Lts as lts
-use Rattle.lines.proofs.put.Reads as put-reads
-use Rattle.lines.proofs.put_bytes.Reads as put-bytes-reads
-use Rattle.lines.proofs.put_numbers.Reads as put-numbers-reads
 
--- src/lib.rt:181:35
 slice-aggregate-put-bytes : tie.Need-slice-aggregate-put-bytes
 slice-aggregate-put-bytes c = search needs
 
--- src/lib.rt:181:9
 put-bytes-requires : tie.Need-put-bytes-requires
 put-bytes-requires c κs = search needs
 
--- src/lib.rt:182:9
 put-requires : tie.Need-put-requires
 put-requires c κs = search needs
 
--- src/lib.rt:183:9
 put-numbers-requires : tie.Need-put-numbers-requires
 put-numbers-requires c κs = search needs
 
--- src/lib.rt:184:5
 put-requires-2 : tie.Need-put-requires-2
 put-requires-2 c κs = search needs
 
--- src/lib.rt:178:1
 same-length : tie.Need-same-length
 same-length c = search needs
 
--- src/lib.rt:178:1
 returns : tie.Need-returns
 unfolding end-word space line-feed
 returns c = rw (← end-parts) (then _ _ _ _ _ (c .before .before .before .before .before .before .before .before .before .before .before .before .before .before .put-bytes .ensures) (then _ _ _ _ _ (c .before .before .before .before .before .before .before .before .before .before .put .ensures) (then _ _ _ _ _ (c .before .before .before .before .before .before .put-numbers .ensures) (c .before .before .put2 .ensures))))

@@ -4,28 +4,19 @@ use Rattle.rules.specs.Lines.{space}
 use borrow.Author.Needs.{needs}
 use Rattle.lines.proofs.put_numbers.Statement.{statement}
 use Rattle.lines.proofs.put_numbers.Tie as tie
-use Rattle.lines.proofs.put_numbers.Reads as reads
-use Rattle.lines.proofs.put_numbers.Lts as lts
-use Rattle.lines.proofs.put.Reads as put-reads
-use Rattle.lines.proofs.put_number.Reads as put-number-reads
 
--- src/lib.rt:158:9
 put-number-requires : tie.Need-put-number-requires
 put-number-requires c κs = search needs
 
--- src/lib.rt:159:9
 put-requires : tie.Need-put-requires
 put-requires c κs = search needs
 
--- src/lib.rt:160:5
 put-number-requires-2 : tie.Need-put-number-requires-2
 put-number-requires-2 c κs = search needs
 
--- src/lib.rt:155:1
 same-length : tie.Need-same-length
 same-length c = search needs
 
--- src/lib.rt:155:1
 returns : tie.Need-returns
 unfolding numbers-part space
 returns c = then _ _ _ _ _ (c .before .before .before .before .before .before .before .before .before .before .put-number .ensures) (then _ _ _ _ _ (c .before .before .before .before .before .before .put .ensures) (c .before .before .put-number2 .ensures))

@@ -4,41 +4,29 @@ use Rattle.rules.specs.Lines.{number-or-dash}
 use borrow.Author.Needs.{needs}
 use Rattle.lines.proofs.put_shown.Statement.{statement}
 use Rattle.lines.proofs.put_shown.Tie as tie
-use Rattle.lines.proofs.put_shown.Reads as reads
-use Rattle.lines.proofs.put_shown.Lts as lts
-use Rattle.lines.proofs.put.Reads as put-reads
-use Rattle.lines.proofs.put_number.Reads as put-number-reads
 
--- src/lib.rt:118:23
 enum-known-shown : tie.Need-enum-known-shown
 enum-known-shown c = search needs
 
--- src/lib.rt:118:29
 put-number-requires : tie.Need-put-number-requires
 put-number-requires c κs = search needs
 
--- src/lib.rt:119:28
 enum-told : tie.Need-enum-told
 enum-told c = search needs
 
--- src/lib.rt:119:24
 put-requires : tie.Need-put-requires
 put-requires c κs = search needs
 
--- src/lib.rt:114:1
 same-length : tie.Need-same-length
 same-length c = search needs
 
--- src/lib.rt:114:1
 returns : tie.Need-returns
 unfolding number-or-dash shown-option
 returns c = rw (c .before .before .before .before .before .shown .given .1) (c .before .before .put-number .ensures)
 
--- src/lib.rt:114:1
 same-length-2 : tie.Need-same-length-2
 same-length-2 c = search needs
 
--- src/lib.rt:114:1
 returns-2 : tie.Need-returns-2
 unfolding number-or-dash shown-option dash
 returns-2 c = rw (c .before .before .before .before .enum-told .given .1) (c .before .before .put .ensures)

@@ -2,113 +2,87 @@ use Rattle.lines.specs.Lines.{refusal-number}
 use borrow.Author.Needs.{needs}
 use Rattle.lines.proofs.refusal_number.Statement.{statement}
 use Rattle.lines.proofs.refusal_number.Tie as tie
-use Rattle.lines.proofs.refusal_number.Reads as reads
-use Rattle.lines.proofs.refusal_number.Lts as lts
 
--- src/lib.rt:57:28
 enum-told : tie.Need-enum-told
 enum-told c = search needs
 
--- src/lib.rt:58:36
 enum-told-2 : tie.Need-enum-told-2
 enum-told-2 c = search needs
 
--- src/lib.rt:59:30
 enum-told-3 : tie.Need-enum-told-3
 enum-told-3 c = search needs
 
--- src/lib.rt:60:37
 enum-told-4 : tie.Need-enum-told-4
 enum-told-4 c = search needs
 
--- src/lib.rt:61:25
 enum-told-5 : tie.Need-enum-told-5
 enum-told-5 c = search needs
 
--- src/lib.rt:62:28
 enum-told-6 : tie.Need-enum-told-6
 enum-told-6 c = search needs
 
--- src/lib.rt:63:32
 enum-told-7 : tie.Need-enum-told-7
 enum-told-7 c = search needs
 
--- src/lib.rt:64:32
 enum-told-8 : tie.Need-enum-told-8
 enum-told-8 c = search needs
 
--- src/lib.rt:65:26
 enum-told-9 : tie.Need-enum-told-9
 enum-told-9 c = search needs
 
--- src/lib.rt:66:31
 enum-told-10 : tie.Need-enum-told-10
 enum-told-10 c = search needs
 
--- src/lib.rt:67:29
 enum-told-11 : tie.Need-enum-told-11
 enum-told-11 c = search needs
 
--- src/lib.rt:68:33
 enum-told-12 : tie.Need-enum-told-12
 enum-told-12 c = search needs
 
--- src/lib.rt:53:1
 returns : tie.Need-returns
 unfolding refusal-number
 returns c = search needs
 
--- src/lib.rt:53:1
 returns-2 : tie.Need-returns-2
 unfolding refusal-number
 returns-2 c = search needs
 
--- src/lib.rt:53:1
 returns-3 : tie.Need-returns-3
 unfolding refusal-number
 returns-3 c = search needs
 
--- src/lib.rt:53:1
 returns-4 : tie.Need-returns-4
 unfolding refusal-number
 returns-4 c = search needs
 
--- src/lib.rt:53:1
 returns-5 : tie.Need-returns-5
 unfolding refusal-number
 returns-5 c = search needs
 
--- src/lib.rt:53:1
 returns-6 : tie.Need-returns-6
 unfolding refusal-number
 returns-6 c = search needs
 
--- src/lib.rt:53:1
 returns-7 : tie.Need-returns-7
 unfolding refusal-number
 returns-7 c = search needs
 
--- src/lib.rt:53:1
 returns-8 : tie.Need-returns-8
 unfolding refusal-number
 returns-8 c = search needs
 
--- src/lib.rt:53:1
 returns-9 : tie.Need-returns-9
 unfolding refusal-number
 returns-9 c = search needs
 
--- src/lib.rt:53:1
 returns-10 : tie.Need-returns-10
 unfolding refusal-number
 returns-10 c = search needs
 
--- src/lib.rt:53:1
 returns-11 : tie.Need-returns-11
 unfolding refusal-number
 returns-11 c = search needs
 
--- src/lib.rt:53:1
 returns-12 : tie.Need-returns-12
 unfolding refusal-number
 returns-12 c = search needs

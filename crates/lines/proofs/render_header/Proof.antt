@@ -5,42 +5,29 @@ use mathlib.Core.Path.{_∙_, sym}
 use borrow.Author.Needs.{needs}
 use Rattle.lines.proofs.render_header.Statement.{statement}
 use Rattle.lines.proofs.render_header.Tie as tie
-use Rattle.lines.proofs.render_header.Reads as reads
-use Rattle.lines.proofs.render_header.Lts as lts
-use Rattle.lines.proofs.has_room.Reads as has-room-reads
-use Rattle.lines.proofs.put_bytes.Reads as put-bytes-reads
-use Rattle.lines.proofs.written.Reads as written-reads
 
--- src/lib.rt:221:8
 has-room-requires : tie.Need-has-room-requires
 has-room-requires c κs = search needs
 
--- src/lib.rt:222:42
 slice-aggregate-put-bytes : tie.Need-slice-aggregate-put-bytes
 slice-aggregate-put-bytes c = search needs
 
--- src/lib.rt:222:13
 put-bytes-requires : tie.Need-put-bytes-requires
 put-bytes-requires c κs = search needs
 
--- src/lib.rt:223:9
 written-requires : tie.Need-written-requires
 written-requires c κs = search needs
 
--- src/lib.rt:223:9
 same-length : tie.Need-same-length
 same-length c = search needs
 
--- src/lib.rt:223:9
 returns : tie.Need-returns
 unfolding header
 returns c = (c .written .ensures ∙ rendered-is _ _ _ (sym (c .before .before .before .before .before .before .before .has-room .ensures) ∙ c .before .before .before .before .before .before .if1 .taken) _ _ (c .before .before .before .put-bytes .ensures), buffer-is _ _ _ (sym (c .before .before .before .before .before .before .before .has-room .ensures) ∙ c .before .before .before .before .before .before .if1 .taken) _ _ (c .before .before .before .put-bytes .ensures))
 
--- src/lib.rt:218:1
 same-length-2 : tie.Need-same-length-2
 same-length-2 c = search needs
 
--- src/lib.rt:218:1
 returns-2 : tie.Need-returns-2
 returns-2 c = (refused-is _ _ _ (sym (c .before .has-room .ensures) ∙ c .if1 .left), buffer-kept _ _ _ (sym (c .before .has-room .ensures) ∙ c .if1 .left))
 

@@ -4,14 +4,10 @@ use native.Mathlib.Omega.{arith}
 use borrow.Author.Needs.{needs}
 use Rattle.lines.proofs.written.Statement.{statement}
 use Rattle.lines.proofs.written.Tie as tie
-use Rattle.lines.proofs.written.Reads as reads
-use Rattle.lines.proofs.written.Lts as lts
 
--- src/lib.rt:201:9
 returns : tie.Need-returns
 returns c = search needs
 
--- src/lib.rt:197:1
 returns-2 : tie.Need-returns-2
 returns-2 c = ap render.Written (omega arith)
 

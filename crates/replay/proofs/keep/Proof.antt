@@ -8,8 +8,6 @@ use mathlib.Core.Path.{_≡_}
 use borrow.Author.Needs.{needs}
 use Rattle.replay.proofs.keep.Statement.{statement}
 use Rattle.replay.proofs.keep.Tie as tie
-use Rattle.replay.proofs.keep.Reads as reads
-use Rattle.replay.proofs.keep.Lts as lts
 
 abbrev Inv-loop : tie.InvT-loop
 Inv-loop input₀ from n count i₀ input i = (i ≤ count) × (length input ≡ length input₀)
@@ -17,51 +15,39 @@ Inv-loop input₀ from n count i₀ input i = (i ≤ count) × (length input ≡
 abbrev μ-loop : tie.MeasureT-loop
 μ-loop input₀ from n count i₀ input i = count - i
 
--- src/main.rt:41:9
 returns : tie.Need-returns Inv-loop μ-loop
 returns c = search needs
 
--- src/main.rt:44:9
 returns-2 : tie.Need-returns-2 Inv-loop μ-loop
 returns-2 c = search needs
 
--- src/main.rt:46:17
 sub-count : tie.Need-sub-count Inv-loop μ-loop
 sub-count c = search needs
 
--- src/main.rt:48:5
 loop-holds : tie.Need-loop-holds Inv-loop μ-loop
 loop-holds c = search needs
 
--- src/main.rt:49:17
 add-j : tie.Need-add-j Inv-loop μ-loop
 add-j c = search needs
 
--- src/main.rt:50:20
 slice-read-byte : tie.Need-slice-read-byte Inv-loop μ-loop
 slice-read-byte c = search needs
 
--- src/main.rt:51:9
 slice-write-input : tie.Need-slice-write-input Inv-loop μ-loop
 slice-write-input c = search needs
 
--- src/main.rt:52:9
 add-i : tie.Need-add-i Inv-loop μ-loop
 add-i c = search needs
 
--- src/main.rt:48:5
 loop-less : tie.Need-loop-less Inv-loop μ-loop
 loop-less c = search needs
 
--- src/main.rt:48:5
 loop-again : tie.Need-loop-again Inv-loop μ-loop
 loop-again c = (omega arith, simp length-set (c .before .before .loop .inv .1))
 
--- src/main.rt:39:1
 same-length : tie.Need-same-length Inv-loop μ-loop
 same-length c = search needs
 
--- src/main.rt:39:1
 returns-3 : tie.Need-returns-3 Inv-loop μ-loop
 returns-3 c = search needs
 

@@ -1,5 +1,5 @@
 -- `replay::main` meets its contract: a walk of its MIR, written by tools/entrygen.py.
-use mathlib.Core.Path.{_≡_, refl, sym, subst, _∙_}
+use mathlib.Core.Path.{_≡_, refl, sym, ap, subst, _∙_}
 use Prim.Native.Nat.{ℕ}
 use mathlib.Core.List.{[], _∷_, List}
 use lib.ListN.{length, replicate, length-replicate}
@@ -31,8 +31,10 @@ use denote.Triple.Table.{cited}
 use denote.Triple.Clauses.{Clauses}
 use denote.Triple.Walked.{Stays, walkOf, ends-at}
 use Rattle.lent.proofs.Walk.{Datum, number, truth, nil, struct, Dens, AreD, listed, spell, lent-as, slice-of, kept, bare, full, arrayed, freed, told, proved}
-use Rattle.lent.proofs.Lent.{mutable, choice, arr, call-slices, call-slices-none, big-lit, all-freed, rep-is, array-typed-of, says-none, begins0, leaves0}
+use Rattle.lent.proofs.Lent.{mutable, choice, arr, call-slices, call-left, call-slices-none, big-lit, all-freed, rep-is, array-typed-of, says-none, begins0, leaves0}
+use Rattle.command.specs.Lent.{Lent}
 use Rattle.feed.specs.Start.{startDef}
+use Rattle.lent.specs.Left.{Left}
 use Rattle.thread.specs.Thread.{blank}
 use denote.Struct.Laws as LL
 use Rattle.replay.specs.declared.Serving.{Serving}
@@ -188,7 +190,7 @@ module _ {M : Type 1} (𝓤 : URA M) (H : Heap 𝓤) (𝓜 : Model 𝓤 H) (𝓖
         join ! $
         move ! (3 ∷ 0 ∷ []) $
         join ! $
-        call-slices Started° ([]) tt (emp 𝓤) ((mutable Thread·.the-row (replicate {A = Thread} 1024 blank) l₄ 0 n₁ (sym (length-replicate {A = Thread} 1024 blank)) room₁) ∷ (mutable (Array u64 96) (replicate {A = (List ℕ)} 64 r₇) l₅ 0 n₂ (sym (length-replicate {A = (List ℕ)} 64 r₇)) room₂) ∷ (mutable (Array u64 32) (replicate {A = (List ℕ)} 128 r₁₁) l₆ 0 n₃ (sym (length-replicate {A = (List ℕ)} 128 r₁₁)) room₃) ∷ []) ! fm (λ r ws. (r ≡ (startDef (replicate {A = Thread} 1024 blank) (replicate {A = (List ℕ)} 64 r₇) (replicate {A = (List ℕ)} 128 r₁₁) .answer)) × ((ws .0 ≡ (startDef (replicate {A = Thread} 1024 blank) (replicate {A = (List ℕ)} 64 r₇) (replicate {A = (List ℕ)} 128 r₁₁) .threads)) × ((ws .1 .0 ≡ (startDef (replicate {A = Thread} 1024 blank) (replicate {A = (List ℕ)} 64 r₇) (replicate {A = (List ℕ)} 128 r₁₁) .cpus)) × (ws .1 .1 .0 ≡ (startDef (replicate {A = Thread} 1024 blank) (replicate {A = (List ℕ)} 64 r₇) (replicate {A = (List ℕ)} 128 r₁₁) .nodes))))) tt (id⊢ 𝓤 (emp 𝓤))
+        call-left Started° ([]) tt (emp 𝓤) ((mutable Thread·.the-row (replicate {A = Thread} 1024 blank) l₄ 0 n₁ (sym (length-replicate {A = Thread} 1024 blank)) room₁) ∷ (mutable (Array u64 96) (replicate {A = (List ℕ)} 64 r₇) l₅ 0 n₂ (sym (length-replicate {A = (List ℕ)} 64 r₇)) room₂) ∷ (mutable (Array u64 32) (replicate {A = (List ℕ)} 128 r₁₁) l₆ 0 n₃ (sym (length-replicate {A = (List ℕ)} 128 r₁₁)) room₃) ∷ []) ! fm (λ r ws. (r ≡ ((startDef (record { threads = replicate {A = Thread} 1024 blank; cpus = replicate {A = (List ℕ)} 64 r₇; nodes = replicate {A = (List ℕ)} 128 r₁₁ })) .answer)) × ((ws .0 ≡ ((startDef (record { threads = replicate {A = Thread} 1024 blank; cpus = replicate {A = (List ℕ)} 64 r₇; nodes = replicate {A = (List ℕ)} 128 r₁₁ })) .memory .threads)) × ((ws .1 .0 ≡ ((startDef (record { threads = replicate {A = Thread} 1024 blank; cpus = replicate {A = (List ℕ)} 64 r₇; nodes = replicate {A = (List ℕ)} 128 r₁₁ })) .memory .cpus)) × (ws .1 .1 .0 ≡ ((startDef (record { threads = replicate {A = Thread} 1024 blank; cpus = replicate {A = (List ℕ)} 64 r₇; nodes = replicate {A = (List ℕ)} 128 r₁₁ })) .memory .nodes))))) (λ r ws. _≡_ {A = Left Started Lent} (record { answer = r; memory = record { threads = ws .0; cpus = ws .1 .0; nodes = ws .1 .1 .0 } }) (startDef (record { threads = replicate {A = Thread} 1024 blank; cpus = replicate {A = (List ℕ)} 64 r₇; nodes = replicate {A = (List ℕ)} 128 r₁₁ }))) (λ r ws e. (ap (λ (z : Left Started Lent). z .answer) e, (ap (λ (z : Left Started Lent). z .memory .threads) e, (ap (λ (z : Left Started Lent). z .memory .cpus) e, ap (λ (z : Left Started Lent). z .memory .nodes) e)))) tt (id⊢ 𝓤 (emp 𝓤))
         (λ νs. cited 𝓤 H (tripleOf 𝓤 H A fn-feed-start-start.signature (fn-feed-start-start.spec 𝓤 H A (𝓜 .mem) (𝓡 .run))) 𝓜 𝓡 code.env fn-feed-start-start-def.name fn-feed-start-start-def.routine code.calls-feed·start·start (fn-feed-start-start-thm.met 𝓤 H 𝓜 𝓖 𝓡) (((νs .0 .0 ∷ [], (νs .1 .0 .0 ∷ [], (νs .1 .1 .0 .0 ∷ [], tt))), (fullShare, (fullShare, (fullShare, tt))), tt, (lent-as l₄ 0 (νs .0 .1) (replicate {A = Thread} 1024 blank), (lent-as l₅ 0 (νs .1 .0 .1) (replicate {A = (List ℕ)} 64 r₇), (lent-as l₆ 0 (νs .1 .1 .0 .1) (replicate {A = (List ℕ)} 128 r₁₁), tt))), (slice-of l₄ 0 (replicate {A = Thread} 1024 blank) ∷ [], (slice-of l₅ 0 (replicate {A = (List ℕ)} 64 r₇) ∷ [], (slice-of l₆ 0 (replicate {A = (List ℕ)} 128 r₁₁) ∷ [], spell ([]) tt)))), tt))
         (λ k. and-then ! (load ! (from ! (stop !)) (look ! 33 refl)) (and-then ! (load ! (from ! (stop !)) (look ! 29 refl)) (and-then ! (load ! (from ! (stop !)) (look ! 25 refl)) (no-more !)))) (λ r₁₅ ws₁₆ is₁₇ ls₁₈ e₁₉.
         split ! $
@@ -202,10 +204,10 @@ module _ {M : Type 1} (𝓤 : URA M) (H : Heap 𝓤) (𝓜 : Model 𝓤 H) (𝓖
         rewrite ! 1 (λ (us : List (List ℕ)). ‵ (row (Array u64 96) fullShare us l₅ 0)) (e₁₉ .1 .1 .0) refl $
         rewrite ! 0 (λ (us : List (List ℕ)). ‵ (row (Array u64 32) fullShare us l₆ 0)) (e₁₉ .1 .1 .1) refl $
         told ! Started° (e₁₉ .0) is₁₇ (λ is₂₀.
-        land ! (from ! (stop !)) (init ! 41 refl (Started° .typed 𝓤 H A W (startDef (replicate {A = Thread} 1024 blank) (replicate {A = (List ℕ)} 64 r₇) (replicate {A = (List ℕ)} 128 r₁₁) .answer) (is₂₀) .0)) $
+        land ! (from ! (stop !)) (init ! 41 refl (Started° .typed 𝓤 H A W ((startDef (record { threads = replicate {A = Thread} 1024 blank; cpus = replicate {A = (List ℕ)} 64 r₇; nodes = replicate {A = (List ℕ)} 128 r₁₁ })) .answer) (is₂₀) .0)) $
         nothing ! $
-        call-slices-none Serving° (Started° ∷ []) ((startDef (replicate {A = Thread} 1024 blank) (replicate {A = (List ℕ)} 64 r₇) (replicate {A = (List ℕ)} 128 r₁₁) .answer, tt)) (emp 𝓤) ([]) ! fm ((is₂₀, tt)) (id⊢ 𝓤 (emp 𝓤))
-        (λ νs. cited 𝓤 H (tripleOf 𝓤 H A fn-replay-begun.signature (fn-replay-begun.spec 𝓤 H A (𝓜 .mem) (𝓡 .run))) 𝓜 𝓡 code.env fn-replay-begun-def.name fn-replay-begun-def.routine code.calls-replay·begun (fn-replay-begun-thm.met 𝓤 H 𝓜 𝓖 𝓡) ((tt, tt, tt, (startDef (replicate {A = Thread} 1024 blank) (replicate {A = (List ℕ)} 64 r₇) (replicate {A = (List ℕ)} 128 r₁₁) .answer, tt), spell (Started° ∷ []) ((startDef (replicate {A = Thread} 1024 blank) (replicate {A = (List ℕ)} 64 r₇) (replicate {A = (List ℕ)} 128 r₁₁) .answer, tt))), tt))
+        call-slices-none Serving° (Started° ∷ []) (((startDef (record { threads = replicate {A = Thread} 1024 blank; cpus = replicate {A = (List ℕ)} 64 r₇; nodes = replicate {A = (List ℕ)} 128 r₁₁ })) .answer, tt)) (emp 𝓤) ([]) ! fm ((is₂₀, tt)) (id⊢ 𝓤 (emp 𝓤))
+        (λ νs. cited 𝓤 H (tripleOf 𝓤 H A fn-replay-begun.signature (fn-replay-begun.spec 𝓤 H A (𝓜 .mem) (𝓡 .run))) 𝓜 𝓡 code.env fn-replay-begun-def.name fn-replay-begun-def.routine code.calls-replay·begun (fn-replay-begun-thm.met 𝓤 H 𝓜 𝓖 𝓡) ((tt, tt, tt, ((startDef (record { threads = replicate {A = Thread} 1024 blank; cpus = replicate {A = (List ℕ)} 64 r₇; nodes = replicate {A = (List ℕ)} 128 r₁₁ })) .answer, tt), spell (Started° ∷ []) (((startDef (record { threads = replicate {A = Thread} 1024 blank; cpus = replicate {A = (List ℕ)} 64 r₇; nodes = replicate {A = (List ℕ)} 128 r₁₁ })) .answer, tt))), tt))
         (λ k. and-then ! (load ! (from ! (stop !)) (look ! 42 refl)) (no-more !)) (λ r₂₁ ws₂₂ is₂₃ ls₂₄.
         drop ! $
         land ! (from ! (stop !)) (init ! 39 refl (Serving° .typed 𝓤 H A W (r₂₁) (is₂₃) .0)) $
@@ -230,8 +232,8 @@ module _ {M : Type 1} (𝓤 : URA M) (H : Heap 𝓤) (𝓜 : Model 𝓤 H) (𝓖
         join ! $
         move ! (1 ∷ 0 ∷ []) $
         join ! $
-        call-slices-none truth (Serving° ∷ []) ((r₂₁, tt)) (emp 𝓤) ((mutable Thread·.the-row (startDef (replicate {A = Thread} 1024 blank) (replicate {A = (List ℕ)} 64 r₇) (replicate {A = (List ℕ)} 128 r₁₁) .threads) l₄ 0 n₁ ((sym (length-replicate {A = Thread} 1024 blank) ∙ sym (subst (λ (us : List Thread). length us ≡ length (replicate {A = Thread} 1024 blank)) (e₁₉ .1 .0) (ls₁₈ .0)))) room₁) ∷ (mutable (Array u64 96) (startDef (replicate {A = Thread} 1024 blank) (replicate {A = (List ℕ)} 64 r₇) (replicate {A = (List ℕ)} 128 r₁₁) .cpus) l₅ 0 n₂ ((sym (length-replicate {A = (List ℕ)} 64 r₇) ∙ sym (subst (λ (us : List (List ℕ)). length us ≡ length (replicate {A = (List ℕ)} 64 r₇)) (e₁₉ .1 .1 .0) (ls₁₈ .1 .0)))) room₂) ∷ (mutable (Array u64 32) (startDef (replicate {A = Thread} 1024 blank) (replicate {A = (List ℕ)} 64 r₇) (replicate {A = (List ℕ)} 128 r₁₁) .nodes) l₆ 0 n₃ ((sym (length-replicate {A = (List ℕ)} 128 r₁₁) ∙ sym (subst (λ (us : List (List ℕ)). length us ≡ length (replicate {A = (List ℕ)} 128 r₁₁)) (e₁₉ .1 .1 .1) (ls₁₈ .1 .1 .0)))) room₃) ∷ (mutable u8 (replicate {A = ℕ} 4096 0) l₇ 0 n₄ (sym (length-replicate {A = ℕ} 4096 0)) room₄) ∷ (mutable u8 (replicate {A = ℕ} 262144 0) l₈ 0 n₅ (sym (length-replicate {A = ℕ} 262144 0)) room₅) ∷ []) ! fm ((is₂₃, tt)) (id⊢ 𝓤 (emp 𝓤))
-        (λ νs. cited 𝓤 H (tripleOf 𝓤 H A fn-replay-serve.signature (fn-replay-serve.spec 𝓤 H A (𝓜 .mem) (𝓡 .run))) 𝓜 𝓡 code.env fn-replay-serve-def.name fn-replay-serve-def.routine code.calls-replay·serve (fn-replay-serve-thm.met 𝓤 H 𝓜 𝓖 𝓡) (((νs .0 .0 ∷ [], (νs .1 .0 .0 ∷ [], (νs .1 .1 .0 .0 ∷ [], (νs .1 .1 .1 .0 .0 ∷ [], (νs .1 .1 .1 .1 .0 .0 ∷ [], tt))))), (fullShare, (fullShare, (fullShare, (fullShare, (fullShare, tt))))), tt, (lent-as l₄ 0 (νs .0 .1) (startDef (replicate {A = Thread} 1024 blank) (replicate {A = (List ℕ)} 64 r₇) (replicate {A = (List ℕ)} 128 r₁₁) .threads), (lent-as l₅ 0 (νs .1 .0 .1) (startDef (replicate {A = Thread} 1024 blank) (replicate {A = (List ℕ)} 64 r₇) (replicate {A = (List ℕ)} 128 r₁₁) .cpus), (lent-as l₆ 0 (νs .1 .1 .0 .1) (startDef (replicate {A = Thread} 1024 blank) (replicate {A = (List ℕ)} 64 r₇) (replicate {A = (List ℕ)} 128 r₁₁) .nodes), (lent-as l₇ 0 (νs .1 .1 .1 .0 .1) (replicate {A = ℕ} 4096 0), (lent-as l₈ 0 (νs .1 .1 .1 .1 .0 .1) (replicate {A = ℕ} 262144 0), (r₂₁, tt)))))), (slice-of l₄ 0 (startDef (replicate {A = Thread} 1024 blank) (replicate {A = (List ℕ)} 64 r₇) (replicate {A = (List ℕ)} 128 r₁₁) .threads) ∷ [], (slice-of l₅ 0 (startDef (replicate {A = Thread} 1024 blank) (replicate {A = (List ℕ)} 64 r₇) (replicate {A = (List ℕ)} 128 r₁₁) .cpus) ∷ [], (slice-of l₆ 0 (startDef (replicate {A = Thread} 1024 blank) (replicate {A = (List ℕ)} 64 r₇) (replicate {A = (List ℕ)} 128 r₁₁) .nodes) ∷ [], (slice-of l₇ 0 (replicate {A = ℕ} 4096 0) ∷ [], (slice-of l₈ 0 (replicate {A = ℕ} 262144 0) ∷ [], spell (Serving° ∷ []) ((r₂₁, tt)))))))), tt))
+        call-slices-none truth (Serving° ∷ []) ((r₂₁, tt)) (emp 𝓤) ((mutable Thread·.the-row ((startDef (record { threads = replicate {A = Thread} 1024 blank; cpus = replicate {A = (List ℕ)} 64 r₇; nodes = replicate {A = (List ℕ)} 128 r₁₁ })) .memory .threads) l₄ 0 n₁ ((sym (length-replicate {A = Thread} 1024 blank) ∙ sym (subst (λ (us : List Thread). length us ≡ length (replicate {A = Thread} 1024 blank)) (e₁₉ .1 .0) (ls₁₈ .0)))) room₁) ∷ (mutable (Array u64 96) ((startDef (record { threads = replicate {A = Thread} 1024 blank; cpus = replicate {A = (List ℕ)} 64 r₇; nodes = replicate {A = (List ℕ)} 128 r₁₁ })) .memory .cpus) l₅ 0 n₂ ((sym (length-replicate {A = (List ℕ)} 64 r₇) ∙ sym (subst (λ (us : List (List ℕ)). length us ≡ length (replicate {A = (List ℕ)} 64 r₇)) (e₁₉ .1 .1 .0) (ls₁₈ .1 .0)))) room₂) ∷ (mutable (Array u64 32) ((startDef (record { threads = replicate {A = Thread} 1024 blank; cpus = replicate {A = (List ℕ)} 64 r₇; nodes = replicate {A = (List ℕ)} 128 r₁₁ })) .memory .nodes) l₆ 0 n₃ ((sym (length-replicate {A = (List ℕ)} 128 r₁₁) ∙ sym (subst (λ (us : List (List ℕ)). length us ≡ length (replicate {A = (List ℕ)} 128 r₁₁)) (e₁₉ .1 .1 .1) (ls₁₈ .1 .1 .0)))) room₃) ∷ (mutable u8 (replicate {A = ℕ} 4096 0) l₇ 0 n₄ (sym (length-replicate {A = ℕ} 4096 0)) room₄) ∷ (mutable u8 (replicate {A = ℕ} 262144 0) l₈ 0 n₅ (sym (length-replicate {A = ℕ} 262144 0)) room₅) ∷ []) ! fm ((is₂₃, tt)) (id⊢ 𝓤 (emp 𝓤))
+        (λ νs. cited 𝓤 H (tripleOf 𝓤 H A fn-replay-serve.signature (fn-replay-serve.spec 𝓤 H A (𝓜 .mem) (𝓡 .run))) 𝓜 𝓡 code.env fn-replay-serve-def.name fn-replay-serve-def.routine code.calls-replay·serve (fn-replay-serve-thm.met 𝓤 H 𝓜 𝓖 𝓡) (((νs .0 .0 ∷ [], (νs .1 .0 .0 ∷ [], (νs .1 .1 .0 .0 ∷ [], (νs .1 .1 .1 .0 .0 ∷ [], (νs .1 .1 .1 .1 .0 .0 ∷ [], tt))))), (fullShare, (fullShare, (fullShare, (fullShare, (fullShare, tt))))), tt, (lent-as l₄ 0 (νs .0 .1) ((startDef (record { threads = replicate {A = Thread} 1024 blank; cpus = replicate {A = (List ℕ)} 64 r₇; nodes = replicate {A = (List ℕ)} 128 r₁₁ })) .memory .threads), (lent-as l₅ 0 (νs .1 .0 .1) ((startDef (record { threads = replicate {A = Thread} 1024 blank; cpus = replicate {A = (List ℕ)} 64 r₇; nodes = replicate {A = (List ℕ)} 128 r₁₁ })) .memory .cpus), (lent-as l₆ 0 (νs .1 .1 .0 .1) ((startDef (record { threads = replicate {A = Thread} 1024 blank; cpus = replicate {A = (List ℕ)} 64 r₇; nodes = replicate {A = (List ℕ)} 128 r₁₁ })) .memory .nodes), (lent-as l₇ 0 (νs .1 .1 .1 .0 .1) (replicate {A = ℕ} 4096 0), (lent-as l₈ 0 (νs .1 .1 .1 .1 .0 .1) (replicate {A = ℕ} 262144 0), (r₂₁, tt)))))), (slice-of l₄ 0 ((startDef (record { threads = replicate {A = Thread} 1024 blank; cpus = replicate {A = (List ℕ)} 64 r₇; nodes = replicate {A = (List ℕ)} 128 r₁₁ })) .memory .threads) ∷ [], (slice-of l₅ 0 ((startDef (record { threads = replicate {A = Thread} 1024 blank; cpus = replicate {A = (List ℕ)} 64 r₇; nodes = replicate {A = (List ℕ)} 128 r₁₁ })) .memory .cpus) ∷ [], (slice-of l₆ 0 ((startDef (record { threads = replicate {A = Thread} 1024 blank; cpus = replicate {A = (List ℕ)} 64 r₇; nodes = replicate {A = (List ℕ)} 128 r₁₁ })) .memory .nodes) ∷ [], (slice-of l₇ 0 (replicate {A = ℕ} 4096 0) ∷ [], (slice-of l₈ 0 (replicate {A = ℕ} 262144 0) ∷ [], spell (Serving° ∷ []) ((r₂₁, tt)))))))), tt))
         (λ k. and-then ! (load ! (from ! (stop !)) (look ! 17 refl)) (and-then ! (load ! (from ! (stop !)) (look ! 13 refl)) (and-then ! (load ! (from ! (stop !)) (look ! 9 refl)) (and-then ! (load ! (from ! (stop !)) (look ! 5 refl)) (and-then ! (load ! (from ! (stop !)) (look ! 1 refl)) (and-then ! (load ! (from ! (stop !)) (look ! 35 refl)) (no-more !))))))) (λ r₂₅ ws₂₆ is₂₇ ls₂₈.
         split ! $
         move ! (1 ∷ []) $

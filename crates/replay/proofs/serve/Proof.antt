@@ -1,5 +1,5 @@
 -- `replay::serve` meets its contract: a walk of its MIR, written by tools/entrygen.py.
-use mathlib.Core.Path.{_≡_, refl, sym, subst, _∙_}
+use mathlib.Core.Path.{_≡_, refl, sym, ap, subst, _∙_}
 use Prim.Native.Nat.{ℕ, _<_, _-_}
 use native.Mathlib.Omega.{arith}
 use native.Mathlib.Nat.{lt-of-le-of-lt, sub-le}
@@ -39,8 +39,8 @@ use denote.Triple.Clauses.{Clauses}
 use denote.Triple.Walked.{Stays, stay-none, stay-slice, walkOf, goes-none, goes-slice, ends-at}
 use denote.Exit.{yes as kept-yes}
 use Rattle.lent.proofs.Walk.{Datum, number, truth, struct, Dens, AreD, listed, spell, lent-as, slice-of, kept, opened, closed, guards, whiles, env-of, standing, bare, full, told, proved}
-use Rattle.lent.proofs.Lent.{mutable, shared, call-slices, call-slices-none, all-freed, says-none, begins5, leaves5}
-use Rattle.feed.specs.Feed.{worldOf, feedDef}
+use Rattle.lent.proofs.Lent.{mutable, shared, call-left, call-slices-none, all-freed, says-none, begins5, leaves5}
+use Rattle.feed.specs.Feed.{feedDef, World}
 use denote.Struct.Laws as LL
 use Rattle.feed.specs.declared.fed.Fed.{Fed}
 use Rattle.feed.proofs.fed.Fed as Fed·
@@ -168,10 +168,10 @@ module _ {M : Type 1} (𝓤 : URA M) (H : Heap 𝓤) (𝓜 : Model 𝓤 H) (𝓖
       abbrev I : X → List (Item 𝓤)
       I t = ‵ (row Thread·.the-row fullShare (t .0 .0) b o) ∷ ‵ (kept Thread·.the-row κ q γ b o ys) ∷ ‵ (row (Array u64 96) fullShare (t .0 .1 .0) b′ o′) ∷ ‵ (kept (Array u64 96) κ′ q′ γ′ b′ o′ ys′) ∷ ‵ (row (Array u64 32) fullShare (t .0 .1 .1 .0) b″ o″) ∷ ‵ (kept (Array u64 32) κ″ q″ γ″ b″ o″ ys″) ∷ ‵ (row u8 fullShare (t .0 .1 .1 .1 .0) b‴ o‴) ∷ ‵ (kept u8 κ‴ q‴ γ‴ b‴ o‴ ys‴) ∷ ‵ (row u8 fullShare (t .0 .1 .1 .1 .1 .0) b⁗ o⁗) ∷ ‵ (kept u8 κ⁗ q⁗ γ⁗ b⁗ o⁗ ys⁗) ∷ standing 𝓤 mir.locals (l₀ ∷ l₁ ∷ l₂ ∷ l₃ ∷ l₄ ∷ l₅ ∷ l₆ ∷ l₇ ∷ l₈ ∷ l₉ ∷ l₁₀ ∷ l₁₁ ∷ l₁₂ ∷ l₁₃ ∷ l₁₄ ∷ l₁₅ ∷ l₁₆ ∷ l₁₇ ∷ l₁₈ ∷ l₁₉ ∷ l₂₀ ∷ l₂₁ ∷ l₂₂ ∷ l₂₃ ∷ l₂₄ ∷ l₂₅ ∷ l₂₆ ∷ l₂₇ ∷ l₂₈ ∷ l₂₉ ∷ l₃₀ ∷ l₃₁ ∷ l₃₂ ∷ l₃₃ ∷ l₃₄ ∷ []) (bare ∷ full s ∷ full s′ ∷ full s″ ∷ full s‴ ∷ full s⁗ ∷ full (Serving° .val (a .0)) ∷ full (Serving° .val (t .0 .1 .1 .1 .1 .1 .0)) ∷ full ((number w64) .val (t .0 .1 .1 .1 .1 .1 .1)) ∷ bare ∷ bare ∷ bare ∷ bare ∷ bare ∷ bare ∷ bare ∷ bare ∷ bare ∷ bare ∷ bare ∷ bare ∷ bare ∷ bare ∷ bare ∷ bare ∷ bare ∷ bare ∷ bare ∷ bare ∷ bare ∷ bare ∷ bare ∷ bare ∷ bare ∷ bare ∷ []) []
 
-      abbrev Left : Outcome → SProp 𝓤
-      Left = afterBlock 𝓤 H (afterSeq 𝓤 H (Wp 𝓤 H C Λ En mir.t-4 (atReturn 𝓤 H En Post)) (atReturn 𝓤 H En Post))
+      abbrev Rest : Outcome → SProp 𝓤
+      Rest = afterBlock 𝓤 H (afterSeq 𝓤 H (Wp 𝓤 H C Λ En mir.t-4 (atReturn 𝓤 H En Post)) (atReturn 𝓤 H En Post))
 
-      turn : (z : Z) (w : Facts z) → Sq W (I (z, w)) (runs C Λ En mir.turn-1 (anyQ (afterTurn 𝓤 H (Below 𝓤 H A nearer I (z, w)) Left)))
+      turn : (z : Z) (w : Facts z) → Sq W (I (z, w)) (runs C Λ En mir.turn-1 (anyQ (afterTurn 𝓤 H (Below 𝓤 H A nearer I (z, w)) Rest)))
       unfolding afterTurn
       turn z w =
           assigns ! (bin ! (lit ! tt) (load ! (from ! (stop !)) (look ! 62 refl)) tt) (from ! (stop !)) (init ! 44 refl (tt, tt)) $
@@ -213,7 +213,7 @@ module _ {M : Type 1} (𝓤 : URA M) (H : Heap 𝓤) (𝓜 : Model 𝓤 H) (𝓖
           join ! $
           move ! (1 ∷ 0 ∷ []) $
           join ! $
-          call-slices Fed° (number w64 ∷ truth ∷ Fed° ∷ []) ((r₅, (leb (r₅) ((z .1 .1 .1 .1 .1 .0) .left), ((z .1 .1 .1 .1 .1 .0) .fed, tt)))) (emp 𝓤) ((mutable Thread·.the-row (z .0) b o n (w .0) room) ∷ (mutable (Array u64 96) (z .1 .0) b′ o′ n′ (w .1 .0) room′) ∷ (mutable (Array u64 32) (z .1 .1 .0) b″ o″ n″ (w .1 .1 .0) room″) ∷ (shared u8 (ws₆ .0) b‴ o‴ n‴ ((w .1 .1 .1 .0 ∙ sym (ls₈ .0))) room‴) ∷ (mutable u8 (z .1 .1 .1 .1 .0) b⁗ o⁗ n⁗ (w .1 .1 .1 .1 .0) room⁗) ∷ []) ! fm (λ r ws. (r ≡ (feedDef (ws₆ .0) r₅ (leb (r₅) ((z .1 .1 .1 .1 .1 .0) .left)) (worldOf (z .0) (z .1 .0) (z .1 .1 .0) (z .1 .1 .1 .1 .0) ((z .1 .1 .1 .1 .1 .0) .fed)) .fed)) × ((ws .0 ≡ (feedDef (ws₆ .0) r₅ (leb (r₅) ((z .1 .1 .1 .1 .1 .0) .left)) (worldOf (z .0) (z .1 .0) (z .1 .1 .0) (z .1 .1 .1 .1 .0) ((z .1 .1 .1 .1 .1 .0) .fed)) .threads)) × ((ws .1 .0 ≡ (feedDef (ws₆ .0) r₅ (leb (r₅) ((z .1 .1 .1 .1 .1 .0) .left)) (worldOf (z .0) (z .1 .0) (z .1 .1 .0) (z .1 .1 .1 .1 .0) ((z .1 .1 .1 .1 .1 .0) .fed)) .cpus)) × ((ws .1 .1 .0 ≡ (feedDef (ws₆ .0) r₅ (leb (r₅) ((z .1 .1 .1 .1 .1 .0) .left)) (worldOf (z .0) (z .1 .0) (z .1 .1 .0) (z .1 .1 .1 .1 .0) ((z .1 .1 .1 .1 .1 .0) .fed)) .nodes)) × (ws .1 .1 .1 .1 .0 ≡ (feedDef (ws₆ .0) r₅ (leb (r₅) ((z .1 .1 .1 .1 .1 .0) .left)) (worldOf (z .0) (z .1 .0) (z .1 .1 .0) (z .1 .1 .1 .1 .0) ((z .1 .1 .1 .1 .1 .0) .fed)) .output)))))) ((is₇, (refl, (LL.owed Serving·.the-type Serving·laws.the-laws (z .1 .1 .1 .1 .1 .0) _ (w .1 .1 .1 .1 .1 .0) .0, tt)))) (id⊢ 𝓤 (emp 𝓤))
+          call-left Fed° (number w64 ∷ truth ∷ Fed° ∷ []) ((r₅, (leb (r₅) ((z .1 .1 .1 .1 .1 .0) .left), ((z .1 .1 .1 .1 .1 .0) .fed, tt)))) (emp 𝓤) ((mutable Thread·.the-row (z .0) b o n (w .0) room) ∷ (mutable (Array u64 96) (z .1 .0) b′ o′ n′ (w .1 .0) room′) ∷ (mutable (Array u64 32) (z .1 .1 .0) b″ o″ n″ (w .1 .1 .0) room″) ∷ (shared u8 (ws₆ .0) b‴ o‴ n‴ ((w .1 .1 .1 .0 ∙ sym (ls₈ .0))) room‴) ∷ (mutable u8 (z .1 .1 .1 .1 .0) b⁗ o⁗ n⁗ (w .1 .1 .1 .1 .0) room⁗) ∷ []) ! fm (λ r ws. (r ≡ ((feedDef (ws₆ .0) r₅ (leb (r₅) ((z .1 .1 .1 .1 .1 .0) .left)) (record { threads = z .0; cpus = z .1 .0; nodes = z .1 .1 .0; output = z .1 .1 .1 .1 .0; fed = ((z .1 .1 .1 .1 .1 .0) .fed) })) .fed)) × ((ws .0 ≡ ((feedDef (ws₆ .0) r₅ (leb (r₅) ((z .1 .1 .1 .1 .1 .0) .left)) (record { threads = z .0; cpus = z .1 .0; nodes = z .1 .1 .0; output = z .1 .1 .1 .1 .0; fed = ((z .1 .1 .1 .1 .1 .0) .fed) })) .threads)) × ((ws .1 .0 ≡ ((feedDef (ws₆ .0) r₅ (leb (r₅) ((z .1 .1 .1 .1 .1 .0) .left)) (record { threads = z .0; cpus = z .1 .0; nodes = z .1 .1 .0; output = z .1 .1 .1 .1 .0; fed = ((z .1 .1 .1 .1 .1 .0) .fed) })) .cpus)) × ((ws .1 .1 .0 ≡ ((feedDef (ws₆ .0) r₅ (leb (r₅) ((z .1 .1 .1 .1 .1 .0) .left)) (record { threads = z .0; cpus = z .1 .0; nodes = z .1 .1 .0; output = z .1 .1 .1 .1 .0; fed = ((z .1 .1 .1 .1 .1 .0) .fed) })) .nodes)) × (ws .1 .1 .1 .1 .0 ≡ ((feedDef (ws₆ .0) r₅ (leb (r₅) ((z .1 .1 .1 .1 .1 .0) .left)) (record { threads = z .0; cpus = z .1 .0; nodes = z .1 .1 .0; output = z .1 .1 .1 .1 .0; fed = ((z .1 .1 .1 .1 .1 .0) .fed) })) .output)))))) (λ r ws. _≡_ {A = World} (record { threads = ws .0; cpus = ws .1 .0; nodes = ws .1 .1 .0; output = ws .1 .1 .1 .1 .0; fed = r }) (feedDef (ws₆ .0) r₅ (leb (r₅) ((z .1 .1 .1 .1 .1 .0) .left)) (record { threads = z .0; cpus = z .1 .0; nodes = z .1 .1 .0; output = z .1 .1 .1 .1 .0; fed = ((z .1 .1 .1 .1 .1 .0) .fed) }))) (λ r ws e. (ap (λ (z : World). z .fed) e, (ap (λ (z : World). z .threads) e, (ap (λ (z : World). z .cpus) e, (ap (λ (z : World). z .nodes) e, ap (λ (z : World). z .output) e))))) ((is₇, (refl, (LL.owed Serving·.the-type Serving·laws.the-laws (z .1 .1 .1 .1 .1 .0) _ (w .1 .1 .1 .1 .1 .0) .0, tt)))) (id⊢ 𝓤 (emp 𝓤))
           (λ νs. cited 𝓤 H (tripleOf 𝓤 H A fn-feed-feed-feed.signature (fn-feed-feed-feed.spec 𝓤 H A (𝓜 .mem) (𝓡 .run))) 𝓜 𝓡 code.env fn-feed-feed-feed-def.name fn-feed-feed-feed-def.routine code.calls-feed·feed·feed (fn-feed-feed-feed-thm.met 𝓤 H 𝓜 𝓖 𝓡) (((νs .0 .0 ∷ [], (νs .1 .0 .0 ∷ [], (νs .1 .1 .0 .0 ∷ [], (νs .1 .1 .1 .0 .0 ∷ [], (νs .1 .1 .1 .1 .0 .0 ∷ [], tt))))), (fullShare, (fullShare, (fullShare, (fullShare, (fullShare, tt))))), tt, (lent-as b o (νs .0 .1) (z .0), (lent-as b′ o′ (νs .1 .0 .1) (z .1 .0), (lent-as b″ o″ (νs .1 .1 .0 .1) (z .1 .1 .0), (lent-as b‴ o‴ (νs .1 .1 .1 .0 .1) (ws₆ .0), (lent-as b⁗ o⁗ (νs .1 .1 .1 .1 .0 .1) (z .1 .1 .1 .1 .0), (r₅, (leb (r₅) ((z .1 .1 .1 .1 .1 .0) .left), ((z .1 .1 .1 .1 .1 .0) .fed, tt)))))))), (slice-of b o (z .0) ∷ [], (slice-of b′ o′ (z .1 .0) ∷ [], (slice-of b″ o″ (z .1 .1 .0) ∷ [], (slice-of b‴ o‴ (ws₆ .0) ∷ [], (slice-of b⁗ o⁗ (z .1 .1 .1 .1 .0) ∷ [], spell (number w64 ∷ truth ∷ Fed° ∷ []) ((r₅, (leb (r₅) ((z .1 .1 .1 .1 .1 .0) .left), ((z .1 .1 .1 .1 .1 .0) .fed, tt)))))))))), tt))
           (λ k. and-then ! (load ! (from ! (stop !)) (look ! 32 refl)) (and-then ! (load ! (from ! (stop !)) (look ! 28 refl)) (and-then ! (load ! (from ! (stop !)) (look ! 24 refl)) (and-then ! (load ! (from ! (stop !)) (look ! 20 refl)) (and-then ! (load ! (from ! (stop !)) (look ! 16 refl)) (and-then ! (load ! (from ! (stop !)) (look ! 52 refl)) (and-then ! (load ! (from ! (stop !)) (look ! 50 refl)) (and-then ! (load ! (from ! (stop !)) (look ! 54 refl)) (no-more !))))))))) (λ r₉ ws₁₀ is₁₁ ls₁₂ e₁₃.
           split ! $
@@ -232,22 +232,22 @@ module _ {M : Type 1} (𝓤 : URA M) (H : Heap 𝓤) (𝓜 : Model 𝓤 H) (𝓖
           rewrite ! 2 (λ (us : List (List ℕ)). ‵ (row (Array u64 32) fullShare us b″ o″)) (e₁₃ .1 .1 .1 .0) refl $
           rewrite ! 0 (λ (us : List ℕ). ‵ (row u8 fullShare us b⁗ o⁗)) (e₁₃ .1 .1 .1 .1) refl $
           told ! Fed° (e₁₃ .0) is₁₁ (λ is₁₄.
-          land ! (from ! (stop !)) (init ! 52 refl (Fed° .typed 𝓤 H A W (feedDef (ws₆ .0) r₅ (leb (r₅) ((z .1 .1 .1 .1 .1 .0) .left)) (worldOf (z .0) (z .1 .0) (z .1 .1 .0) (z .1 .1 .1 .1 .0) ((z .1 .1 .1 .1 .1 .0) .fed)) .fed) (is₁₄) .0)) $
+          land ! (from ! (stop !)) (init ! 52 refl (Fed° .typed 𝓤 H A W ((feedDef (ws₆ .0) r₅ (leb (r₅) ((z .1 .1 .1 .1 .1 .0) .left)) (record { threads = z .0; cpus = z .1 .0; nodes = z .1 .1 .0; output = z .1 .1 .1 .1 .0; fed = ((z .1 .1 .1 .1 .1 .0) .fed) })) .fed) (is₁₄) .0)) $
           assigns ! (addr ! (from ! (fld ! refl (hop ! (look-in ! 68 (sub ! 0 refl (whole !))) (stop !))))) (from ! (stop !)) (init ! 18 refl (tt, tt)) $
           assigns ! (agg ! (and-then ! (load ! (from ! (stop !)) (look ! 18 refl)) (and-then ! (load ! (from ! (fld ! refl (stop !))) (look-in ! 68 (sub ! 1 refl (whole !)))) (no-more !)))) (from ! (stop !)) (init ! 16 refl (tt, (tt, (record { fits = room⁗ .0 }, tt)))) $
           nothing ! $
           move ! (1 ∷ 0 ∷ []) $
           join ! $
-          call-slices-none truth (number w64 ∷ []) (((feedDef (ws₆ .0) r₅ (leb (r₅) ((z .1 .1 .1 .1 .1 .0) .left)) (worldOf (z .0) (z .1 .0) (z .1 .1 .0) (z .1 .1 .1 .1 .0) ((z .1 .1 .1 .1 .1 .0) .fed)) .fed) .done, tt)) (emp 𝓤) ((shared u8 (feedDef (ws₆ .0) r₅ (leb (r₅) ((z .1 .1 .1 .1 .1 .0) .left)) (worldOf (z .0) (z .1 .0) (z .1 .1 .0) (z .1 .1 .1 .1 .0) ((z .1 .1 .1 .1 .1 .0) .fed)) .output) b⁗ o⁗ n⁗ ((w .1 .1 .1 .1 .0 ∙ sym (subst (λ (us : List ℕ). length us ≡ length (z .1 .1 .1 .1 .0)) (e₁₃ .1 .1 .1 .1) (ls₁₂ .1 .1 .1 .1 .0)))) room⁗) ∷ []) ! fm ((LL.owed Fed·.the-type Fed·laws.the-laws (feedDef (ws₆ .0) r₅ (leb (r₅) ((z .1 .1 .1 .1 .1 .0) .left)) (worldOf (z .0) (z .1 .0) (z .1 .1 .0) (z .1 .1 .1 .1 .0) ((z .1 .1 .1 .1 .1 .0) .fed)) .fed) _ (is₁₄) .1 .0, tt)) (id⊢ 𝓤 (emp 𝓤))
-          (λ νs. cited 𝓤 H (tripleOf 𝓤 H A fn-replay-show.signature (fn-replay-show.spec 𝓤 H A (𝓜 .mem) (𝓡 .run))) 𝓜 𝓡 code.env fn-replay-show-def.name fn-replay-show-def.routine code.calls-replay·show (fn-replay-show-thm.met 𝓤 H 𝓜 𝓖 𝓡) (((νs .0 .0 ∷ [], tt), (fullShare, tt), tt, (lent-as b⁗ o⁗ (νs .0 .1) (feedDef (ws₆ .0) r₅ (leb (r₅) ((z .1 .1 .1 .1 .1 .0) .left)) (worldOf (z .0) (z .1 .0) (z .1 .1 .0) (z .1 .1 .1 .1 .0) ((z .1 .1 .1 .1 .1 .0) .fed)) .output), ((feedDef (ws₆ .0) r₅ (leb (r₅) ((z .1 .1 .1 .1 .1 .0) .left)) (worldOf (z .0) (z .1 .0) (z .1 .1 .0) (z .1 .1 .1 .1 .0) ((z .1 .1 .1 .1 .1 .0) .fed)) .fed) .done, tt)), (slice-of b⁗ o⁗ (feedDef (ws₆ .0) r₅ (leb (r₅) ((z .1 .1 .1 .1 .1 .0) .left)) (worldOf (z .0) (z .1 .0) (z .1 .1 .0) (z .1 .1 .1 .1 .0) ((z .1 .1 .1 .1 .1 .0) .fed)) .output) ∷ [], spell (number w64 ∷ []) (((feedDef (ws₆ .0) r₅ (leb (r₅) ((z .1 .1 .1 .1 .1 .0) .left)) (worldOf (z .0) (z .1 .0) (z .1 .1 .0) (z .1 .1 .1 .1 .0) ((z .1 .1 .1 .1 .1 .0) .fed)) .fed) .done, tt)))), tt))
+          call-slices-none truth (number w64 ∷ []) ((((feedDef (ws₆ .0) r₅ (leb (r₅) ((z .1 .1 .1 .1 .1 .0) .left)) (record { threads = z .0; cpus = z .1 .0; nodes = z .1 .1 .0; output = z .1 .1 .1 .1 .0; fed = ((z .1 .1 .1 .1 .1 .0) .fed) })) .fed) .done, tt)) (emp 𝓤) ((shared u8 ((feedDef (ws₆ .0) r₅ (leb (r₅) ((z .1 .1 .1 .1 .1 .0) .left)) (record { threads = z .0; cpus = z .1 .0; nodes = z .1 .1 .0; output = z .1 .1 .1 .1 .0; fed = ((z .1 .1 .1 .1 .1 .0) .fed) })) .output) b⁗ o⁗ n⁗ ((w .1 .1 .1 .1 .0 ∙ sym (subst (λ (us : List ℕ). length us ≡ length (z .1 .1 .1 .1 .0)) (e₁₃ .1 .1 .1 .1) (ls₁₂ .1 .1 .1 .1 .0)))) room⁗) ∷ []) ! fm ((LL.owed Fed·.the-type Fed·laws.the-laws ((feedDef (ws₆ .0) r₅ (leb (r₅) ((z .1 .1 .1 .1 .1 .0) .left)) (record { threads = z .0; cpus = z .1 .0; nodes = z .1 .1 .0; output = z .1 .1 .1 .1 .0; fed = ((z .1 .1 .1 .1 .1 .0) .fed) })) .fed) _ (is₁₄) .1 .0, tt)) (id⊢ 𝓤 (emp 𝓤))
+          (λ νs. cited 𝓤 H (tripleOf 𝓤 H A fn-replay-show.signature (fn-replay-show.spec 𝓤 H A (𝓜 .mem) (𝓡 .run))) 𝓜 𝓡 code.env fn-replay-show-def.name fn-replay-show-def.routine code.calls-replay·show (fn-replay-show-thm.met 𝓤 H 𝓜 𝓖 𝓡) (((νs .0 .0 ∷ [], tt), (fullShare, tt), tt, (lent-as b⁗ o⁗ (νs .0 .1) ((feedDef (ws₆ .0) r₅ (leb (r₅) ((z .1 .1 .1 .1 .1 .0) .left)) (record { threads = z .0; cpus = z .1 .0; nodes = z .1 .1 .0; output = z .1 .1 .1 .1 .0; fed = ((z .1 .1 .1 .1 .1 .0) .fed) })) .output), (((feedDef (ws₆ .0) r₅ (leb (r₅) ((z .1 .1 .1 .1 .1 .0) .left)) (record { threads = z .0; cpus = z .1 .0; nodes = z .1 .1 .0; output = z .1 .1 .1 .1 .0; fed = ((z .1 .1 .1 .1 .1 .0) .fed) })) .fed) .done, tt)), (slice-of b⁗ o⁗ ((feedDef (ws₆ .0) r₅ (leb (r₅) ((z .1 .1 .1 .1 .1 .0) .left)) (record { threads = z .0; cpus = z .1 .0; nodes = z .1 .1 .0; output = z .1 .1 .1 .1 .0; fed = ((z .1 .1 .1 .1 .1 .0) .fed) })) .output) ∷ [], spell (number w64 ∷ []) ((((feedDef (ws₆ .0) r₅ (leb (r₅) ((z .1 .1 .1 .1 .1 .0) .left)) (record { threads = z .0; cpus = z .1 .0; nodes = z .1 .1 .0; output = z .1 .1 .1 .1 .0; fed = ((z .1 .1 .1 .1 .1 .0) .fed) })) .fed) .done, tt)))), tt))
           (λ k. and-then ! (load ! (from ! (stop !)) (look ! 16 refl)) (and-then ! (load ! (from ! (fld ! refl (stop !))) (look-in ! 52 (sub ! 1 refl (whole !)))) (no-more !))) (λ r₁₅ ws₁₆ is₁₇ ls₁₈.
           split ! $
           move ! (1 ∷ []) $
           drop ! $
           land ! (from ! (stop !)) (init ! 50 refl (tt, tt)) $
           nothing ! $
-          call-slices-none truth (Fed° ∷ truth ∷ []) ((feedDef (ws₆ .0) r₅ (leb (r₅) ((z .1 .1 .1 .1 .1 .0) .left)) (worldOf (z .0) (z .1 .0) (z .1 .1 .0) (z .1 .1 .1 .1 .0) ((z .1 .1 .1 .1 .1 .0) .fed)) .fed, (r₁₅, tt))) (emp 𝓤) ([]) ! fm ((is₁₄, (is₁₇, tt))) (id⊢ 𝓤 (emp 𝓤))
-          (λ νs. cited 𝓤 H (tripleOf 𝓤 H A fn-replay-stops.signature (fn-replay-stops.spec 𝓤 H A (𝓜 .mem) (𝓡 .run))) 𝓜 𝓡 code.env fn-replay-stops-def.name fn-replay-stops-def.routine code.calls-replay·stops (fn-replay-stops-thm.met 𝓤 H 𝓜 𝓖 𝓡) ((tt, tt, tt, (feedDef (ws₆ .0) r₅ (leb (r₅) ((z .1 .1 .1 .1 .1 .0) .left)) (worldOf (z .0) (z .1 .0) (z .1 .1 .0) (z .1 .1 .1 .1 .0) ((z .1 .1 .1 .1 .1 .0) .fed)) .fed, (r₁₅, tt)), spell (Fed° ∷ truth ∷ []) ((feedDef (ws₆ .0) r₅ (leb (r₅) ((z .1 .1 .1 .1 .1 .0) .left)) (worldOf (z .0) (z .1 .0) (z .1 .1 .0) (z .1 .1 .1 .1 .0) ((z .1 .1 .1 .1 .1 .0) .fed)) .fed, (r₁₅, tt)))), tt))
+          call-slices-none truth (Fed° ∷ truth ∷ []) (((feedDef (ws₆ .0) r₅ (leb (r₅) ((z .1 .1 .1 .1 .1 .0) .left)) (record { threads = z .0; cpus = z .1 .0; nodes = z .1 .1 .0; output = z .1 .1 .1 .1 .0; fed = ((z .1 .1 .1 .1 .1 .0) .fed) })) .fed, (r₁₅, tt))) (emp 𝓤) ([]) ! fm ((is₁₄, (is₁₇, tt))) (id⊢ 𝓤 (emp 𝓤))
+          (λ νs. cited 𝓤 H (tripleOf 𝓤 H A fn-replay-stops.signature (fn-replay-stops.spec 𝓤 H A (𝓜 .mem) (𝓡 .run))) 𝓜 𝓡 code.env fn-replay-stops-def.name fn-replay-stops-def.routine code.calls-replay·stops (fn-replay-stops-thm.met 𝓤 H 𝓜 𝓖 𝓡) ((tt, tt, tt, ((feedDef (ws₆ .0) r₅ (leb (r₅) ((z .1 .1 .1 .1 .1 .0) .left)) (record { threads = z .0; cpus = z .1 .0; nodes = z .1 .1 .0; output = z .1 .1 .1 .1 .0; fed = ((z .1 .1 .1 .1 .1 .0) .fed) })) .fed, (r₁₅, tt)), spell (Fed° ∷ truth ∷ []) (((feedDef (ws₆ .0) r₅ (leb (r₅) ((z .1 .1 .1 .1 .1 .0) .left)) (record { threads = z .0; cpus = z .1 .0; nodes = z .1 .1 .0; output = z .1 .1 .1 .1 .0; fed = ((z .1 .1 .1 .1 .1 .0) .fed) })) .fed, (r₁₅, tt)))), tt))
           (λ k. and-then ! (load ! (from ! (stop !)) (look ! 53 refl)) (and-then ! (load ! (from ! (stop !)) (look ! 51 refl)) (no-more !))) (λ r₁₉ ws₂₀ is₂₁ ls₂₂.
           drop ! $
           land ! (from ! (stop !)) (init ! 14 refl (tt, tt)) $
@@ -255,19 +255,19 @@ module _ {M : Type 1} (𝓤 : URA M) (H : Heap 𝓤) (𝓜 : Model 𝓤 H) (𝓖
           (λ h₂.
           assigns ! (of-opd ! (load ! (from ! (stop !)) (look ! 50 refl))) (from ! (stop !)) (init ! 78 refl (tt, tt)) $
           move ! (0 ∷ 9 ∷ []) $
-          closed ! tt u8 ys⁗ (feedDef (ws₆ .0) r₅ (leb (r₅) ((z .1 .1 .1 .1 .1 .0) .left)) (worldOf (z .0) (z .1 .0) (z .1 .1 .0) (z .1 .1 .1 .1 .0) ((z .1 .1 .1 .1 .1 .0) .fed)) .output) b⁗ o⁗ room⁗ (sym ((w .1 .1 .1 .1 .0 ∙ sym (subst (λ (us : List ℕ). length us ≡ length (z .1 .1 .1 .1 .0)) (e₁₃ .1 .1 .1 .1) (ls₁₂ .1 .1 .1 .1 .0))))) $
+          closed ! tt u8 ys⁗ ((feedDef (ws₆ .0) r₅ (leb (r₅) ((z .1 .1 .1 .1 .1 .0) .left)) (record { threads = z .0; cpus = z .1 .0; nodes = z .1 .1 .0; output = z .1 .1 .1 .1 .0; fed = ((z .1 .1 .1 .1 .1 .0) .fed) })) .output) b⁗ o⁗ room⁗ (sym ((w .1 .1 .1 .1 .0 ∙ sym (subst (λ (us : List ℕ). length us ≡ length (z .1 .1 .1 .1 .0)) (e₁₃ .1 .1 .1 .1) (ls₁₂ .1 .1 .1 .1 .0))))) $
           move ! (2 ∷ 9 ∷ []) $
           closed ! tt u8 ys‴ (ws₆ .0) b‴ o‴ room‴ (sym ((w .1 .1 .1 .0 ∙ sym (ls₈ .0)))) $
           move ! (4 ∷ 9 ∷ []) $
-          closed ! tt (Array u64 32) ys″ (feedDef (ws₆ .0) r₅ (leb (r₅) ((z .1 .1 .1 .1 .1 .0) .left)) (worldOf (z .0) (z .1 .0) (z .1 .1 .0) (z .1 .1 .1 .1 .0) ((z .1 .1 .1 .1 .1 .0) .fed)) .nodes) b″ o″ room″ (sym ((w .1 .1 .0 ∙ sym (subst (λ (us : List (List ℕ)). length us ≡ length (z .1 .1 .0)) (e₁₃ .1 .1 .1 .0) (ls₁₂ .1 .1 .0))))) $
+          closed ! tt (Array u64 32) ys″ ((feedDef (ws₆ .0) r₅ (leb (r₅) ((z .1 .1 .1 .1 .1 .0) .left)) (record { threads = z .0; cpus = z .1 .0; nodes = z .1 .1 .0; output = z .1 .1 .1 .1 .0; fed = ((z .1 .1 .1 .1 .1 .0) .fed) })) .nodes) b″ o″ room″ (sym ((w .1 .1 .0 ∙ sym (subst (λ (us : List (List ℕ)). length us ≡ length (z .1 .1 .0)) (e₁₃ .1 .1 .1 .0) (ls₁₂ .1 .1 .0))))) $
           move ! (6 ∷ 9 ∷ []) $
-          closed ! tt (Array u64 96) ys′ (feedDef (ws₆ .0) r₅ (leb (r₅) ((z .1 .1 .1 .1 .1 .0) .left)) (worldOf (z .0) (z .1 .0) (z .1 .1 .0) (z .1 .1 .1 .1 .0) ((z .1 .1 .1 .1 .1 .0) .fed)) .cpus) b′ o′ room′ (sym ((w .1 .0 ∙ sym (subst (λ (us : List (List ℕ)). length us ≡ length (z .1 .0)) (e₁₃ .1 .1 .0) (ls₁₂ .1 .0))))) $
+          closed ! tt (Array u64 96) ys′ ((feedDef (ws₆ .0) r₅ (leb (r₅) ((z .1 .1 .1 .1 .1 .0) .left)) (record { threads = z .0; cpus = z .1 .0; nodes = z .1 .1 .0; output = z .1 .1 .1 .1 .0; fed = ((z .1 .1 .1 .1 .1 .0) .fed) })) .cpus) b′ o′ room′ (sym ((w .1 .0 ∙ sym (subst (λ (us : List (List ℕ)). length us ≡ length (z .1 .0)) (e₁₃ .1 .1 .0) (ls₁₂ .1 .0))))) $
           move ! (8 ∷ 9 ∷ []) $
-          closed ! tt Thread·.the-row ys (feedDef (ws₆ .0) r₅ (leb (r₅) ((z .1 .1 .1 .1 .1 .0) .left)) (worldOf (z .0) (z .1 .0) (z .1 .1 .0) (z .1 .1 .1 .1 .0) ((z .1 .1 .1 .1 .1 .0) .fed)) .threads) b o room (sym ((w .0 ∙ sym (subst (λ (us : List Thread). length us ≡ length (z .0)) (e₁₃ .1 .0) (ls₁₂ .0))))) $
+          closed ! tt Thread·.the-row ys ((feedDef (ws₆ .0) r₅ (leb (r₅) ((z .1 .1 .1 .1 .1 .0) .left)) (record { threads = z .0; cpus = z .1 .0; nodes = z .1 .1 .0; output = z .1 .1 .1 .1 .0; fed = ((z .1 .1 .1 .1 .1 .0) .fed) })) .threads) b o room (sym ((w .0 ∙ sym (subst (λ (us : List Thread). length us ≡ length (z .0)) (e₁₃ .1 .0) (ls₁₂ .0))))) $
           returns-within ! Post refl (look ! 78 refl) $
           move ! (78 ∷ 79 ∷ 76 ∷ 77 ∷ 74 ∷ 75 ∷ 72 ∷ 73 ∷ 70 ∷ 71 ∷ 68 ∷ 69 ∷ 66 ∷ 67 ∷ 64 ∷ 65 ∷ 62 ∷ 63 ∷ 60 ∷ 61 ∷ 58 ∷ 59 ∷ 56 ∷ 57 ∷ 54 ∷ 55 ∷ 52 ∷ 53 ∷ 50 ∷ 51 ∷ 48 ∷ 49 ∷ 46 ∷ 47 ∷ 44 ∷ 45 ∷ 42 ∷ 43 ∷ 40 ∷ 41 ∷ 38 ∷ 39 ∷ 36 ∷ 37 ∷ 34 ∷ 35 ∷ 32 ∷ 33 ∷ 30 ∷ 31 ∷ 28 ∷ 29 ∷ 26 ∷ 27 ∷ 24 ∷ 25 ∷ 22 ∷ 23 ∷ 20 ∷ 21 ∷ 18 ∷ 19 ∷ 16 ∷ 17 ∷ 14 ∷ 15 ∷ 12 ∷ 13 ∷ 10 ∷ 11 ∷ []) $
           all-freed ! mir.locals (l₀ ∷ l₁ ∷ l₂ ∷ l₃ ∷ l₄ ∷ l₅ ∷ l₆ ∷ l₇ ∷ l₈ ∷ l₉ ∷ l₁₀ ∷ l₁₁ ∷ l₁₂ ∷ l₁₃ ∷ l₁₄ ∷ l₁₅ ∷ l₁₆ ∷ l₁₇ ∷ l₁₈ ∷ l₁₉ ∷ l₂₀ ∷ l₂₁ ∷ l₂₂ ∷ l₂₃ ∷ l₂₄ ∷ l₂₅ ∷ l₂₆ ∷ l₂₇ ∷ l₂₈ ∷ l₂₉ ∷ l₃₀ ∷ l₃₁ ∷ l₃₂ ∷ l₃₃ ∷ l₃₄ ∷ []) (full _ ∷ full _ ∷ full _ ∷ full _ ∷ full _ ∷ full _ ∷ full _ ∷ full _ ∷ full _ ∷ full _ ∷ full _ ∷ full _ ∷ full _ ∷ full _ ∷ full _ ∷ bare ∷ bare ∷ full _ ∷ full _ ∷ full _ ∷ full _ ∷ full _ ∷ full _ ∷ full _ ∷ full _ ∷ full _ ∷ full _ ∷ full _ ∷ full _ ∷ full _ ∷ full _ ∷ full _ ∷ full _ ∷ bare ∷ bare ∷ []) tt $
-          suffices ! _ (ends-at 𝓤 H A serve.ended stayed c W y _ (r₁₅) (feedDef (ws₆ .0) r₅ (leb (r₅) ((z .1 .1 .1 .1 .1 .0) .left)) (worldOf (z .0) (z .1 .0) (z .1 .1 .0) (z .1 .1 .1 .1 .0) ((z .1 .1 .1 .1 .1 .0) .fed)) .threads, (feedDef (ws₆ .0) r₅ (leb (r₅) ((z .1 .1 .1 .1 .1 .0) .left)) (worldOf (z .0) (z .1 .0) (z .1 .1 .0) (z .1 .1 .1 .1 .0) ((z .1 .1 .1 .1 .1 .0) .fed)) .cpus, (feedDef (ws₆ .0) r₅ (leb (r₅) ((z .1 .1 .1 .1 .1 .0) .left)) (worldOf (z .0) (z .1 .0) (z .1 .1 .0) (z .1 .1 .1 .1 .0) ((z .1 .1 .1 .1 .1 .0) .fed)) .nodes, (ws₆ .0, (feedDef (ws₆ .0) r₅ (leb (r₅) ((z .1 .1 .1 .1 .1 .0) .left)) (worldOf (z .0) (z .1 .0) (z .1 .1 .0) (z .1 .1 .1 .1 .0) ((z .1 .1 .1 .1 .1 .0) .fed)) .output, (tt, tt)))))) (sym ((w .0 ∙ sym (subst (λ (us : List Thread). length us ≡ length (z .0)) (e₁₃ .1 .0) (ls₁₂ .0)))), (sym ((w .1 .0 ∙ sym (subst (λ (us : List (List ℕ)). length us ≡ length (z .1 .0)) (e₁₃ .1 .1 .0) (ls₁₂ .1 .0)))), (sym ((w .1 .1 .0 ∙ sym (subst (λ (us : List (List ℕ)). length us ≡ length (z .1 .1 .0)) (e₁₃ .1 .1 .1 .0) (ls₁₂ .1 .1 .0)))), (sym ((w .1 .1 .1 .0 ∙ sym (ls₈ .0))), (sym ((w .1 .1 .1 .1 .0 ∙ sym (subst (λ (us : List ℕ). length us ≡ length (z .1 .1 .1 .1 .0)) (e₁₃ .1 .1 .1 .1) (ls₁₂ .1 .1 .1 .1 .0)))), (tt, tt))))))) $ says-none ! $
+          suffices ! _ (ends-at 𝓤 H A serve.ended stayed c W y _ (r₁₅) ((feedDef (ws₆ .0) r₅ (leb (r₅) ((z .1 .1 .1 .1 .1 .0) .left)) (record { threads = z .0; cpus = z .1 .0; nodes = z .1 .1 .0; output = z .1 .1 .1 .1 .0; fed = ((z .1 .1 .1 .1 .1 .0) .fed) })) .threads, ((feedDef (ws₆ .0) r₅ (leb (r₅) ((z .1 .1 .1 .1 .1 .0) .left)) (record { threads = z .0; cpus = z .1 .0; nodes = z .1 .1 .0; output = z .1 .1 .1 .1 .0; fed = ((z .1 .1 .1 .1 .1 .0) .fed) })) .cpus, ((feedDef (ws₆ .0) r₅ (leb (r₅) ((z .1 .1 .1 .1 .1 .0) .left)) (record { threads = z .0; cpus = z .1 .0; nodes = z .1 .1 .0; output = z .1 .1 .1 .1 .0; fed = ((z .1 .1 .1 .1 .1 .0) .fed) })) .nodes, (ws₆ .0, ((feedDef (ws₆ .0) r₅ (leb (r₅) ((z .1 .1 .1 .1 .1 .0) .left)) (record { threads = z .0; cpus = z .1 .0; nodes = z .1 .1 .0; output = z .1 .1 .1 .1 .0; fed = ((z .1 .1 .1 .1 .1 .0) .fed) })) .output, (tt, tt)))))) (sym ((w .0 ∙ sym (subst (λ (us : List Thread). length us ≡ length (z .0)) (e₁₃ .1 .0) (ls₁₂ .0)))), (sym ((w .1 .0 ∙ sym (subst (λ (us : List (List ℕ)). length us ≡ length (z .1 .0)) (e₁₃ .1 .1 .0) (ls₁₂ .1 .0)))), (sym ((w .1 .1 .0 ∙ sym (subst (λ (us : List (List ℕ)). length us ≡ length (z .1 .1 .0)) (e₁₃ .1 .1 .1 .0) (ls₁₂ .1 .1 .0)))), (sym ((w .1 .1 .1 .0 ∙ sym (ls₈ .0))), (sym ((w .1 .1 .1 .1 .0 ∙ sym (subst (λ (us : List ℕ). length us ≡ length (z .1 .1 .1 .1 .0)) (e₁₃ .1 .1 .1 .1) (ls₁₂ .1 .1 .1 .1 .0)))), (tt, tt))))))) $ says-none ! $
           leaves5 ! truth Ds a (r₁₅) are (is₁₇))
           (λ h₂.
           assigns ! (addr ! (from ! (fld ! refl (hop ! (look-in ! 70 (sub ! 0 refl (whole !))) (stop !))))) (from ! (stop !)) (init ! 12 refl (tt, tt)) $
@@ -275,16 +275,16 @@ module _ {M : Type 1} (𝓤 : URA M) (H : Heap 𝓤) (𝓜 : Model 𝓤 H) (𝓖
           nothing ! $
           move ! (2 ∷ 0 ∷ []) $
           join ! $
-          call-slices-none (number w64) (number w64 ∷ number w64 ∷ []) (((feedDef (ws₆ .0) r₅ (leb (r₅) ((z .1 .1 .1 .1 .1 .0) .left)) (worldOf (z .0) (z .1 .0) (z .1 .1 .0) (z .1 .1 .1 .1 .0) ((z .1 .1 .1 .1 .1 .0) .fed)) .fed) .at, (r₅, tt))) (emp 𝓤) ((mutable u8 (ws₆ .0) b‴ o‴ n‴ ((w .1 .1 .1 .0 ∙ sym (ls₈ .0))) room‴) ∷ []) ! fm ((LL.owed Fed·.the-type Fed·laws.the-laws (feedDef (ws₆ .0) r₅ (leb (r₅) ((z .1 .1 .1 .1 .1 .0) .left)) (worldOf (z .0) (z .1 .0) (z .1 .1 .0) (z .1 .1 .1 .1 .0) ((z .1 .1 .1 .1 .1 .0) .fed)) .fed) _ (is₁₄) .0, (is₇, tt))) (id⊢ 𝓤 (emp 𝓤))
-          (λ νs. cited 𝓤 H (tripleOf 𝓤 H A fn-replay-keep.signature (fn-replay-keep.spec 𝓤 H A (𝓜 .mem) (𝓡 .run))) 𝓜 𝓡 code.env fn-replay-keep-def.name fn-replay-keep-def.routine code.calls-replay·keep (fn-replay-keep-thm.met 𝓤 H 𝓜 𝓖 𝓡) (((νs .0 .0 ∷ [], tt), (fullShare, tt), tt, (lent-as b‴ o‴ (νs .0 .1) (ws₆ .0), ((feedDef (ws₆ .0) r₅ (leb (r₅) ((z .1 .1 .1 .1 .1 .0) .left)) (worldOf (z .0) (z .1 .0) (z .1 .1 .0) (z .1 .1 .1 .1 .0) ((z .1 .1 .1 .1 .1 .0) .fed)) .fed) .at, (r₅, tt))), (slice-of b‴ o‴ (ws₆ .0) ∷ [], spell (number w64 ∷ number w64 ∷ []) (((feedDef (ws₆ .0) r₅ (leb (r₅) ((z .1 .1 .1 .1 .1 .0) .left)) (worldOf (z .0) (z .1 .0) (z .1 .1 .0) (z .1 .1 .1 .1 .0) ((z .1 .1 .1 .1 .1 .0) .fed)) .fed) .at, (r₅, tt))))), tt))
+          call-slices-none (number w64) (number w64 ∷ number w64 ∷ []) ((((feedDef (ws₆ .0) r₅ (leb (r₅) ((z .1 .1 .1 .1 .1 .0) .left)) (record { threads = z .0; cpus = z .1 .0; nodes = z .1 .1 .0; output = z .1 .1 .1 .1 .0; fed = ((z .1 .1 .1 .1 .1 .0) .fed) })) .fed) .at, (r₅, tt))) (emp 𝓤) ((mutable u8 (ws₆ .0) b‴ o‴ n‴ ((w .1 .1 .1 .0 ∙ sym (ls₈ .0))) room‴) ∷ []) ! fm ((LL.owed Fed·.the-type Fed·laws.the-laws ((feedDef (ws₆ .0) r₅ (leb (r₅) ((z .1 .1 .1 .1 .1 .0) .left)) (record { threads = z .0; cpus = z .1 .0; nodes = z .1 .1 .0; output = z .1 .1 .1 .1 .0; fed = ((z .1 .1 .1 .1 .1 .0) .fed) })) .fed) _ (is₁₄) .0, (is₇, tt))) (id⊢ 𝓤 (emp 𝓤))
+          (λ νs. cited 𝓤 H (tripleOf 𝓤 H A fn-replay-keep.signature (fn-replay-keep.spec 𝓤 H A (𝓜 .mem) (𝓡 .run))) 𝓜 𝓡 code.env fn-replay-keep-def.name fn-replay-keep-def.routine code.calls-replay·keep (fn-replay-keep-thm.met 𝓤 H 𝓜 𝓖 𝓡) (((νs .0 .0 ∷ [], tt), (fullShare, tt), tt, (lent-as b‴ o‴ (νs .0 .1) (ws₆ .0), (((feedDef (ws₆ .0) r₅ (leb (r₅) ((z .1 .1 .1 .1 .1 .0) .left)) (record { threads = z .0; cpus = z .1 .0; nodes = z .1 .1 .0; output = z .1 .1 .1 .1 .0; fed = ((z .1 .1 .1 .1 .1 .0) .fed) })) .fed) .at, (r₅, tt))), (slice-of b‴ o‴ (ws₆ .0) ∷ [], spell (number w64 ∷ number w64 ∷ []) ((((feedDef (ws₆ .0) r₅ (leb (r₅) ((z .1 .1 .1 .1 .1 .0) .left)) (record { threads = z .0; cpus = z .1 .0; nodes = z .1 .1 .0; output = z .1 .1 .1 .1 .0; fed = ((z .1 .1 .1 .1 .1 .0) .fed) })) .fed) .at, (r₅, tt))))), tt))
           (λ k. and-then ! (load ! (from ! (stop !)) (look ! 10 refl)) (and-then ! (load ! (from ! (fld ! refl (stop !))) (look-in ! 52 (sub ! 0 refl (whole !)))) (and-then ! (load ! (from ! (stop !)) (look ! 56 refl)) (no-more !)))) (λ r₂₃ ws₂₄ is₂₅ ls₂₆.
           split ! $
           move ! (1 ∷ []) $
           drop ! $
           land ! (from ! (stop !)) (init ! 48 refl ((number w64) .typed 𝓤 H A W (r₂₃) (is₂₅) .0)) $
           nothing ! $
-          call-slices-none Serving° (Fed° ∷ number w64 ∷ []) ((feedDef (ws₆ .0) r₅ (leb (r₅) ((z .1 .1 .1 .1 .1 .0) .left)) (worldOf (z .0) (z .1 .0) (z .1 .1 .0) (z .1 .1 .1 .1 .0) ((z .1 .1 .1 .1 .1 .0) .fed)) .fed, (r₂₃, tt))) (emp 𝓤) ([]) ! fm ((is₁₄, (is₂₅, tt))) (id⊢ 𝓤 (emp 𝓤))
-          (λ νs. cited 𝓤 H (tripleOf 𝓤 H A fn-replay-with-left.signature (fn-replay-with-left.spec 𝓤 H A (𝓜 .mem) (𝓡 .run))) 𝓜 𝓡 code.env fn-replay-with-left-def.name fn-replay-with-left-def.routine code.calls-replay·with-left (fn-replay-with-left-thm.met 𝓤 H 𝓜 𝓖 𝓡) ((tt, tt, tt, (feedDef (ws₆ .0) r₅ (leb (r₅) ((z .1 .1 .1 .1 .1 .0) .left)) (worldOf (z .0) (z .1 .0) (z .1 .1 .0) (z .1 .1 .1 .1 .0) ((z .1 .1 .1 .1 .1 .0) .fed)) .fed, (r₂₃, tt)), spell (Fed° ∷ number w64 ∷ []) ((feedDef (ws₆ .0) r₅ (leb (r₅) ((z .1 .1 .1 .1 .1 .0) .left)) (worldOf (z .0) (z .1 .0) (z .1 .1 .0) (z .1 .1 .1 .1 .0) ((z .1 .1 .1 .1 .1 .0) .fed)) .fed, (r₂₃, tt)))), tt))
+          call-slices-none Serving° (Fed° ∷ number w64 ∷ []) (((feedDef (ws₆ .0) r₅ (leb (r₅) ((z .1 .1 .1 .1 .1 .0) .left)) (record { threads = z .0; cpus = z .1 .0; nodes = z .1 .1 .0; output = z .1 .1 .1 .1 .0; fed = ((z .1 .1 .1 .1 .1 .0) .fed) })) .fed, (r₂₃, tt))) (emp 𝓤) ([]) ! fm ((is₁₄, (is₂₅, tt))) (id⊢ 𝓤 (emp 𝓤))
+          (λ νs. cited 𝓤 H (tripleOf 𝓤 H A fn-replay-with-left.signature (fn-replay-with-left.spec 𝓤 H A (𝓜 .mem) (𝓡 .run))) 𝓜 𝓡 code.env fn-replay-with-left-def.name fn-replay-with-left-def.routine code.calls-replay·with-left (fn-replay-with-left-thm.met 𝓤 H 𝓜 𝓖 𝓡) ((tt, tt, tt, ((feedDef (ws₆ .0) r₅ (leb (r₅) ((z .1 .1 .1 .1 .1 .0) .left)) (record { threads = z .0; cpus = z .1 .0; nodes = z .1 .1 .0; output = z .1 .1 .1 .1 .0; fed = ((z .1 .1 .1 .1 .1 .0) .fed) })) .fed, (r₂₃, tt)), spell (Fed° ∷ number w64 ∷ []) (((feedDef (ws₆ .0) r₅ (leb (r₅) ((z .1 .1 .1 .1 .1 .0) .left)) (record { threads = z .0; cpus = z .1 .0; nodes = z .1 .1 .0; output = z .1 .1 .1 .1 .0; fed = ((z .1 .1 .1 .1 .1 .0) .fed) })) .fed, (r₂₃, tt)))), tt))
           (λ k. and-then ! (load ! (from ! (stop !)) (look ! 53 refl)) (and-then ! (load ! (from ! (stop !)) (look ! 49 refl)) (no-more !))) (λ r₂₇ ws₂₈ is₂₉ ls₃₀.
           drop ! $
           land ! (from ! (stop !)) (init ! 46 refl (Serving° .typed 𝓤 H A W (r₂₇) (is₂₉) .0)) $
@@ -317,7 +317,7 @@ module _ {M : Type 1} (𝓤 : URA M) (H : Heap 𝓤) (𝓜 : Model 𝓤 H) (𝓖
           forget ! 12 refl $
           forget ! 10 refl $
           move ! (4 ∷ 5 ∷ 3 ∷ 6 ∷ 2 ∷ 7 ∷ 0 ∷ 8 ∷ 1 ∷ 9 ∷ 10 ∷ 11 ∷ 12 ∷ 13 ∷ 14 ∷ 15 ∷ 16 ∷ 17 ∷ 18 ∷ 19 ∷ 20 ∷ 21 ∷ 22 ∷ 23 ∷ 24 ∷ 25 ∷ 26 ∷ 27 ∷ 28 ∷ 29 ∷ 30 ∷ 31 ∷ 32 ∷ 33 ∷ 34 ∷ 35 ∷ 36 ∷ 37 ∷ 38 ∷ 39 ∷ 40 ∷ 41 ∷ 42 ∷ 43 ∷ 44 ∷ 45 ∷ 46 ∷ 47 ∷ 48 ∷ 49 ∷ 50 ∷ 51 ∷ 52 ∷ 53 ∷ 54 ∷ 55 ∷ 56 ∷ 57 ∷ 58 ∷ 59 ∷ 60 ∷ 61 ∷ 62 ∷ 63 ∷ 64 ∷ 65 ∷ 66 ∷ 67 ∷ 68 ∷ 69 ∷ 70 ∷ 71 ∷ 72 ∷ 73 ∷ 74 ∷ 75 ∷ 76 ∷ 77 ∷ 78 ∷ 79 ∷ []) $
-          again ! nearer I (z, w) ((feedDef (ws₆ .0) r₅ (leb (r₅) ((z .1 .1 .1 .1 .1 .0) .left)) (worldOf (z .0) (z .1 .0) (z .1 .1 .0) (z .1 .1 .1 .1 .0) ((z .1 .1 .1 .1 .1 .0) .fed)) .threads, (feedDef (ws₆ .0) r₅ (leb (r₅) ((z .1 .1 .1 .1 .1 .0) .left)) (worldOf (z .0) (z .1 .0) (z .1 .1 .0) (z .1 .1 .1 .1 .0) ((z .1 .1 .1 .1 .1 .0) .fed)) .cpus, (feedDef (ws₆ .0) r₅ (leb (r₅) ((z .1 .1 .1 .1 .1 .0) .left)) (worldOf (z .0) (z .1 .0) (z .1 .1 .0) (z .1 .1 .1 .1 .0) ((z .1 .1 .1 .1 .1 .0) .fed)) .nodes, (ws₂₄ .0, (feedDef (ws₆ .0) r₅ (leb (r₅) ((z .1 .1 .1 .1 .1 .0) .left)) (worldOf (z .0) (z .1 .0) (z .1 .1 .0) (z .1 .1 .1 .1 .0) ((z .1 .1 .1 .1 .1 .0) .fed)) .output, (r₂₇, (z .1 .1 .1 .1 .1 .1) - (1))))))), ((w .0 ∙ sym (subst (λ (us : List Thread). length us ≡ length (z .0)) (e₁₃ .1 .0) (ls₁₂ .0))), ((w .1 .0 ∙ sym (subst (λ (us : List (List ℕ)). length us ≡ length (z .1 .0)) (e₁₃ .1 .1 .0) (ls₁₂ .1 .0))), ((w .1 .1 .0 ∙ sym (subst (λ (us : List (List ℕ)). length us ≡ length (z .1 .1 .0)) (e₁₃ .1 .1 .1 .0) (ls₁₂ .1 .1 .0))), (((w .1 .1 .1 .0 ∙ sym (ls₈ .0)) ∙ sym (ls₂₆ .0)), ((w .1 .1 .1 .1 .0 ∙ sym (subst (λ (us : List ℕ). length us ≡ length (z .1 .1 .1 .1 .0)) (e₁₃ .1 .1 .1 .1) (ls₁₂ .1 .1 .1 .1 .0))), (is₂₉, ((refl, lt-of-le-of-lt (sub-le (z .1 .1 .1 .1 .1 .1) (1)) (w .1 .1 .1 .1 .1 .1 .0 .1)), (tt))))))))) (omega (arith, ltb→lt 0 (z .1 .1 .1 .1 .1 .1) h₁)))))))))))
+          again ! nearer I (z, w) (((feedDef (ws₆ .0) r₅ (leb (r₅) ((z .1 .1 .1 .1 .1 .0) .left)) (record { threads = z .0; cpus = z .1 .0; nodes = z .1 .1 .0; output = z .1 .1 .1 .1 .0; fed = ((z .1 .1 .1 .1 .1 .0) .fed) })) .threads, ((feedDef (ws₆ .0) r₅ (leb (r₅) ((z .1 .1 .1 .1 .1 .0) .left)) (record { threads = z .0; cpus = z .1 .0; nodes = z .1 .1 .0; output = z .1 .1 .1 .1 .0; fed = ((z .1 .1 .1 .1 .1 .0) .fed) })) .cpus, ((feedDef (ws₆ .0) r₅ (leb (r₅) ((z .1 .1 .1 .1 .1 .0) .left)) (record { threads = z .0; cpus = z .1 .0; nodes = z .1 .1 .0; output = z .1 .1 .1 .1 .0; fed = ((z .1 .1 .1 .1 .1 .0) .fed) })) .nodes, (ws₂₄ .0, ((feedDef (ws₆ .0) r₅ (leb (r₅) ((z .1 .1 .1 .1 .1 .0) .left)) (record { threads = z .0; cpus = z .1 .0; nodes = z .1 .1 .0; output = z .1 .1 .1 .1 .0; fed = ((z .1 .1 .1 .1 .1 .0) .fed) })) .output, (r₂₇, (z .1 .1 .1 .1 .1 .1) - (1))))))), ((w .0 ∙ sym (subst (λ (us : List Thread). length us ≡ length (z .0)) (e₁₃ .1 .0) (ls₁₂ .0))), ((w .1 .0 ∙ sym (subst (λ (us : List (List ℕ)). length us ≡ length (z .1 .0)) (e₁₃ .1 .1 .0) (ls₁₂ .1 .0))), ((w .1 .1 .0 ∙ sym (subst (λ (us : List (List ℕ)). length us ≡ length (z .1 .1 .0)) (e₁₃ .1 .1 .1 .0) (ls₁₂ .1 .1 .0))), (((w .1 .1 .1 .0 ∙ sym (ls₈ .0)) ∙ sym (ls₂₆ .0)), ((w .1 .1 .1 .1 .0 ∙ sym (subst (λ (us : List ℕ). length us ≡ length (z .1 .1 .1 .1 .0)) (e₁₃ .1 .1 .1 .1) (ls₁₂ .1 .1 .1 .1 .0))), (is₂₉, ((refl, lt-of-le-of-lt (sub-le (z .1 .1 .1 .1 .1 .1) (1)) (w .1 .1 .1 .1 .1 .1 .0 .1)), (tt))))))))) (omega (arith, ltb→lt 0 (z .1 .1 .1 .1 .1 .1) h₁)))))))))))
           (λ h₁. exec ! C Λ En mir.t-4 (atRet En Post) $
           assigns ! (of-opd ! (false-lit !)) (from ! (stop !)) (init ! 78 refl (tt, tt)) $
           move ! (8 ∷ 9 ∷ []) $

@@ -3,15 +3,11 @@ use Rattle.request.specs.Request.{all-ones-of, width}
 use Rattle.rules.specs.Requests.{all-ones}
 use Rattle.request.proofs.all_ones.Statement.{statement}
 use Rattle.request.proofs.all_ones.Tie as tie
-use Rattle.request.proofs.all_ones.Reads as reads
-use Rattle.request.proofs.all_ones.Lts as lts
 
--- src/lib.rt:128:9
 returns : tie.Need-returns
 unfolding all-ones-of all-ones width
 returns c = search needs
 
--- src/lib.rt:124:1
 returns-2 : tie.Need-returns-2
 unfolding all-ones-of all-ones width
 returns-2 c = search needs

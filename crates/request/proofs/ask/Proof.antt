@@ -5,137 +5,92 @@ use Rattle.rules.specs.Requests.{nth, operands, request, widths}
 use borrow.Author.Needs.{needs}
 use Rattle.request.proofs.ask.Statement.{statement}
 use Rattle.request.proofs.ask.Tie as tie
-use Rattle.request.proofs.ask.Reads as reads
-use Rattle.request.proofs.ask.Lts as lts
-use Rattle.request.proofs.add_node.Reads as add-node-reads
-use Rattle.request.proofs.declare_cpu.Reads as declare-cpu-reads
-use Rattle.request.proofs.declare_thread.Reads as declare-thread-reads
-use Rattle.request.proofs.donate.Reads as donate-reads
-use Rattle.request.proofs.hardtick.Reads as hardtick-reads
-use Rattle.request.proofs.maybe_preempt.Reads as maybe-preempt-reads
-use Rattle.request.proofs.place_cpu.Reads as place-cpu-reads
-use Rattle.request.proofs.remove_donation.Reads as remove-donation-reads
-use Rattle.request.proofs.resched.Reads as resched-reads
-use Rattle.request.proofs.schedule.Reads as schedule-reads
-use Rattle.request.proofs.schedule_thread.Reads as schedule-thread-reads
-use Rattle.request.proofs.set_critical.Reads as set-critical-reads
-use Rattle.request.proofs.set_tick.Reads as set-tick-reads
-use Rattle.request.proofs.stattick.Reads as stattick-reads
 
--- src/lib.rt:325:17
 declare-cpu-requires : tie.Need-declare-cpu-requires
 declare-cpu-requires c κs = search needs
 
--- src/lib.rt:326:17
 add-node-requires : tie.Need-add-node-requires
 add-node-requires c κs = search needs
 
--- src/lib.rt:327:17
 place-cpu-requires : tie.Need-place-cpu-requires
 place-cpu-requires c κs = search needs
 
--- src/lib.rt:329:17
 declare-thread-requires : tie.Need-declare-thread-requires
 declare-thread-requires c κs = search needs
 
--- src/lib.rt:330:17
 set-tick-requires : tie.Need-set-tick-requires
 set-tick-requires c κs = search needs
 
--- src/lib.rt:331:17
 schedule-thread-requires : tie.Need-schedule-thread-requires
 schedule-thread-requires c κs = search needs
 
--- src/lib.rt:332:17
 schedule-requires : tie.Need-schedule-requires
 schedule-requires c κs = search needs
 
--- src/lib.rt:333:17
 hardtick-requires : tie.Need-hardtick-requires
 hardtick-requires c κs = search needs
 
--- src/lib.rt:334:17
 stattick-requires : tie.Need-stattick-requires
 stattick-requires c κs = search needs
 
--- src/lib.rt:335:17
 resched-requires : tie.Need-resched-requires
 resched-requires c κs = search needs
 
--- src/lib.rt:336:17
 maybe-preempt-requires : tie.Need-maybe-preempt-requires
 maybe-preempt-requires c κs = search needs
 
--- src/lib.rt:337:17
 donate-requires : tie.Need-donate-requires
 donate-requires c κs = search needs
 
--- src/lib.rt:338:17
 remove-donation-requires : tie.Need-remove-donation-requires
 remove-donation-requires c κs = search needs
 
--- src/lib.rt:339:14
 set-critical-requires : tie.Need-set-critical-requires
 set-critical-requires c κs = search needs
 
--- src/lib.rt:321:1
 returns : tie.Need-returns
 returns c = rw (c .before .match .keys1) (c .declare-cpu .ensures)
 
--- src/lib.rt:321:1
 returns-2 : tie.Need-returns-2
 returns-2 c = rw (c .before .match .keys2) (c .add-node .ensures)
 
--- src/lib.rt:321:1
 returns-3 : tie.Need-returns-3
 returns-3 c = rw (c .before .match .keys3) (c .place-cpu .ensures)
 
--- src/lib.rt:321:1
 returns-4 : tie.Need-returns-4
 unfolding asked request widths widths-or limits-of operands nth request-of
 returns-4 c = rw (c .match .keys4)
 
--- src/lib.rt:321:1
 returns-5 : tie.Need-returns-5
 returns-5 c = rw (c .before .match .keys5) (c .declare-thread .ensures)
 
--- src/lib.rt:321:1
 returns-6 : tie.Need-returns-6
 returns-6 c = rw (c .before .match .keys6) (c .set-tick .ensures)
 
--- src/lib.rt:321:1
 returns-7 : tie.Need-returns-7
 returns-7 c = rw (c .before .match .keys7) (c .schedule-thread .ensures)
 
--- src/lib.rt:321:1
 returns-8 : tie.Need-returns-8
 returns-8 c = rw (c .before .match .keys8) (c .schedule .ensures)
 
--- src/lib.rt:321:1
 returns-9 : tie.Need-returns-9
 returns-9 c = rw (c .before .match .keys9) (c .hardtick .ensures)
 
--- src/lib.rt:321:1
 returns-10 : tie.Need-returns-10
 returns-10 c = rw (c .before .match .keys10) (c .stattick .ensures)
 
--- src/lib.rt:321:1
 returns-11 : tie.Need-returns-11
 returns-11 c = rw (c .before .match .keys11) (c .resched .ensures)
 
--- src/lib.rt:321:1
 returns-12 : tie.Need-returns-12
 returns-12 c = rw (c .before .match .keys12) (c .maybe-preempt .ensures)
 
--- src/lib.rt:321:1
 returns-13 : tie.Need-returns-13
 returns-13 c = rw (c .before .match .keys13) (c .donate .ensures)
 
--- src/lib.rt:321:1
 returns-14 : tie.Need-returns-14
 returns-14 c = rw (c .before .match .keys14) (c .remove-donation .ensures)
 
--- src/lib.rt:321:1
 returns-15 : tie.Need-returns-15
 unfolding asked request widths widths-or limits-of
 returns-15 c = rw (ne-eqb _ _ (c .before .match .rest .0 .0 .0 .0 .0 .0 .0 .0 .0 .0 .0 .0 .0 .1), ne-eqb _ _ (c .before .match .rest .0 .0 .0 .0 .0 .0 .0 .0 .0 .0 .0 .0 .1), ne-eqb _ _ (c .before .match .rest .0 .0 .0 .0 .0 .0 .0 .0 .0 .0 .0 .1), ne-eqb _ _ (c .before .match .rest .0 .0 .0 .0 .0 .0 .0 .0 .0 .0 .1), ne-eqb _ _ (c .before .match .rest .0 .0 .0 .0 .0 .0 .0 .0 .0 .1), ne-eqb _ _ (c .before .match .rest .0 .0 .0 .0 .0 .0 .0 .0 .1), ne-eqb _ _ (c .before .match .rest .0 .0 .0 .0 .0 .0 .0 .1), ne-eqb _ _ (c .before .match .rest .0 .0 .0 .0 .0 .0 .1), ne-eqb _ _ (c .before .match .rest .0 .0 .0 .0 .0 .1), ne-eqb _ _ (c .before .match .rest .0 .0 .0 .0 .1), ne-eqb _ _ (c .before .match .rest .0 .0 .0 .1), ne-eqb _ _ (c .before .match .rest .0 .0 .1), ne-eqb _ _ (c .before .match .rest .0 .1), ne-eqb _ _ (c .before .match .rest .1), last-widths) (c .set-critical .ensures)

@@ -3,47 +3,31 @@ use Rattle.rules.specs.Requests.{nth, operands, request, widths}
 use borrow.Author.Needs.{needs}
 use Rattle.request.proofs.declare_thread.Statement.{statement}
 use Rattle.request.proofs.declare_thread.Tie as tie
-use Rattle.request.proofs.declare_thread.Reads as reads
-use Rattle.request.proofs.declare_thread.Lts as lts
-use Rattle.request.proofs.name.Reads as name-reads
-use Rattle.request.proofs.one.Reads as one-reads
-use Rattle.request.proofs.pinned.Reads as pinned-reads
-use Rattle.request.proofs.skip.Reads as skip-reads
-use Rattle.request.proofs.two.Reads as two-reads
 
--- src/lib.rt:211:9
 skip-requires : tie.Need-skip-requires
 skip-requires c κs = search needs
 
--- src/lib.rt:212:9
 skip-requires-2 : tie.Need-skip-requires-2
 skip-requires-2 c κs = search needs
 
--- src/lib.rt:213:9
 skip-requires-3 : tie.Need-skip-requires-3
 skip-requires-3 c κs = search needs
 
--- src/lib.rt:215:17
 two-requires : tie.Need-two-requires
 two-requires c κs = search needs
 
--- src/lib.rt:216:16
 one-requires : tie.Need-one-requires
 one-requires c κs = search needs
 
--- src/lib.rt:217:16
 one-requires-2 : tie.Need-one-requires-2
 one-requires-2 c κs = search needs
 
--- src/lib.rt:218:21
 name-requires : tie.Need-name-requires
 name-requires c κs = search needs
 
--- src/lib.rt:218:14
 pinned-requires : tie.Need-pinned-requires
 pinned-requires c κs = search needs
 
--- src/lib.rt:208:1
 returns : tie.Need-returns
 unfolding asked request widths widths-or limits-of operands nth request-of
 returns c = cc

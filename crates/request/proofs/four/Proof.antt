@@ -6,32 +6,22 @@ use native.Mathlib.Omega.{arith}
 use borrow.Author.Needs.{needs}
 use Rattle.request.proofs.four.Statement.{statement}
 use Rattle.request.proofs.four.Tie as tie
-use Rattle.request.proofs.four.Reads as reads
-use Rattle.request.proofs.four.Lts as lts
-use Rattle.request.proofs.skip.Reads as skip-reads
-use Rattle.request.proofs.two.Reads as two-reads
 
--- src/lib.rt:93:9
 skip-requires : tie.Need-skip-requires
 skip-requires c κs = search needs
 
--- src/lib.rt:94:5
 two-requires : tie.Need-two-requires
 two-requires c κs = search needs
 
--- src/lib.rt:94:30
 two-requires-2 : tie.Need-two-requires-2
 two-requires-2 c κs = search needs
 
--- src/lib.rt:94:22
 mul-result : tie.Need-mul-result
 mul-result c = omega (arith, operand-drop-lt 2 (c .before .before .skip .result) (now (c .before .before .before .before .args .bytes)) (λ i. c .before .before .before .shared-slice-known .given i .fits))
 
--- src/lib.rt:94:5
 add-result : tie.Need-add-result
 add-result c = omega (arith, operand-drop-lt 2 (c .before .before .skip .result) (now (c .before .before .before .before .args .bytes)) (λ i. c .before .before .before .shared-slice-known .given i .fits), operand-drop-lt 2 (c .before .before .before .before .args .at) (now (c .before .before .before .before .args .bytes)) (λ i. c .before .before .before .shared-slice-known .given i .fits))
 
--- src/lib.rt:90:1
 returns : tie.Need-returns
 returns c = cc (operand-add 2 2 (drop (c .before .before .before .before .args .at) (now (c .before .before .before .before .args .bytes))))
 

@@ -2,162 +2,123 @@ use Rattle.request.specs.Request.{in-range, request-of}
 use borrow.Author.Needs.{needs}
 use Rattle.request.proofs.in_range.Statement.{statement}
 use Rattle.request.proofs.in_range.Tie as tie
-use Rattle.request.proofs.in_range.Reads as reads
-use Rattle.request.proofs.in_range.Lts as lts
-use Rattle.request.proofs.at_most.Reads as at-most-reads
-use Rattle.request.proofs.priority_in_range.Reads as priority-in-range-reads
 
--- src/lib.rt:393:39
 enum-told : tie.Need-enum-told
 enum-told c = search needs
 
--- src/lib.rt:394:39
 enum-known-request : tie.Need-enum-known-request
 enum-known-request c = search needs
 
--- src/lib.rt:394:49
 at-most-requires : tie.Need-at-most-requires
 at-most-requires c κs = search needs
 
--- src/lib.rt:395:37
 enum-told-2 : tie.Need-enum-told-2
 enum-told-2 c = search needs
 
--- src/lib.rt:396:26
 enum-told-3 : tie.Need-enum-told-3
 enum-told-3 c = search needs
 
--- src/lib.rt:397:45
 enum-known-request-2 : tie.Need-enum-known-request-2
 enum-known-request-2 c = search needs
 
--- src/lib.rt:397:71
 priority-in-range-requires : tie.Need-priority-in-range-requires
 priority-in-range-requires c κs = search needs
 
--- src/lib.rt:398:36
 enum-told-4 : tie.Need-enum-told-4
 enum-told-4 c = search needs
 
--- src/lib.rt:399:43
 enum-told-5 : tie.Need-enum-told-5
 enum-told-5 c = search needs
 
--- src/lib.rt:400:37
 enum-known-request-3 : tie.Need-enum-known-request-3
 enum-known-request-3 c = search needs
 
--- src/lib.rt:400:48
 at-most-requires-2 : tie.Need-at-most-requires-2
 at-most-requires-2 c κs = search needs
 
--- src/lib.rt:401:37
 enum-told-6 : tie.Need-enum-told-6
 enum-told-6 c = search needs
 
--- src/lib.rt:402:37
 enum-told-7 : tie.Need-enum-told-7
 enum-told-7 c = search needs
 
--- src/lib.rt:403:36
 enum-told-8 : tie.Need-enum-told-8
 enum-told-8 c = search needs
 
--- src/lib.rt:404:41
 enum-told-9 : tie.Need-enum-told-9
 enum-told-9 c = search needs
 
--- src/lib.rt:405:46
 enum-known-request-4 : tie.Need-enum-known-request-4
 enum-known-request-4 c = search needs
 
--- src/lib.rt:405:64
 priority-in-range-requires-2 : tie.Need-priority-in-range-requires-2
 priority-in-range-requires-2 c κs = search needs
 
--- src/lib.rt:406:43
 enum-told-10 : tie.Need-enum-told-10
 enum-told-10 c = search needs
 
--- src/lib.rt:407:43
 enum-known-request-5 : tie.Need-enum-known-request-5
 enum-known-request-5 c = search needs
 
--- src/lib.rt:407:53
 at-most-requires-3 : tie.Need-at-most-requires-3
 at-most-requires-3 c κs = search needs
 
--- src/lib.rt:389:1
 returns : tie.Need-returns
 unfolding in-range request-of
 returns c = search needs
 
--- src/lib.rt:389:1
 returns-2 : tie.Need-returns-2
 unfolding in-range request-of
 returns-2 c = rw (c .before .before .request .given .1) (c .at-most .ensures)
 
--- src/lib.rt:389:1
 returns-3 : tie.Need-returns-3
 unfolding in-range request-of
 returns-3 c = search needs
 
--- src/lib.rt:389:1
 returns-4 : tie.Need-returns-4
 unfolding in-range request-of
 returns-4 c = search needs
 
--- src/lib.rt:389:1
 returns-5 : tie.Need-returns-5
 unfolding in-range request-of
 returns-5 c = rw (c .before .before .request2 .given .1) (c .priority-in-range .ensures)
 
--- src/lib.rt:389:1
 returns-6 : tie.Need-returns-6
 unfolding in-range request-of
 returns-6 c = search needs
 
--- src/lib.rt:389:1
 returns-7 : tie.Need-returns-7
 unfolding in-range request-of
 returns-7 c = search needs
 
--- src/lib.rt:389:1
 returns-8 : tie.Need-returns-8
 unfolding in-range request-of
 returns-8 c = rw (c .before .before .request3 .given .1) (c .at-most2 .ensures)
 
--- src/lib.rt:389:1
 returns-9 : tie.Need-returns-9
 unfolding in-range request-of
 returns-9 c = search needs
 
--- src/lib.rt:389:1
 returns-10 : tie.Need-returns-10
 unfolding in-range request-of
 returns-10 c = search needs
 
--- src/lib.rt:389:1
 returns-11 : tie.Need-returns-11
 unfolding in-range request-of
 returns-11 c = search needs
 
--- src/lib.rt:389:1
 returns-12 : tie.Need-returns-12
 unfolding in-range request-of
 returns-12 c = search needs
 
--- src/lib.rt:389:1
 returns-13 : tie.Need-returns-13
 unfolding in-range request-of
 returns-13 c = rw (c .before .before .request4 .given .1) (c .priority-in-range2 .ensures)
 
--- src/lib.rt:389:1
 returns-14 : tie.Need-returns-14
 unfolding in-range request-of
 returns-14 c = search needs
 
--- src/lib.rt:389:1
 returns-15 : tie.Need-returns-15
 unfolding in-range request-of
 returns-15 c = rw (c .before .before .request5 .given .1) (c .at-most3 .ensures)

@@ -5,23 +5,16 @@ use mathlib.Core.Path.{_∙_}
 use borrow.Author.Needs.{needs}
 use Rattle.request.proofs.one.Statement.{statement}
 use Rattle.request.proofs.one.Tie as tie
-use Rattle.request.proofs.one.Reads as reads
-use Rattle.request.proofs.one.Lts as lts
-use Rattle.request.proofs.number.Reads as number-reads
 
--- src/lib.rt:78:23
 shared-slice-read-number : tie.Need-shared-slice-read-number
 shared-slice-read-number c = search needs
 
--- src/lib.rt:78:9
 number-requires : tie.Need-number-requires
 number-requires c κs = search needs
 
--- src/lib.rt:78:9
 returns : tie.Need-returns
 returns c = c .number .ensures ∙ operand-there _ _ (c .before .before .if1 .taken)
 
--- src/lib.rt:74:1
 returns-2 : tie.Need-returns-2
 returns-2 c = operand-none _ _ _ (c .if1 .left)
 

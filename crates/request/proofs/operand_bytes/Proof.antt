@@ -10,35 +10,25 @@ use mathlib.Core.Path.{refl}
 use borrow.Author.Needs.{needs}
 use Rattle.request.proofs.operand_bytes.Statement.{statement}
 use Rattle.request.proofs.operand_bytes.Tie as tie
-use Rattle.request.proofs.operand_bytes.Reads as reads
-use Rattle.request.proofs.operand_bytes.Lts as lts
-use Rattle.request.proofs.length.Reads as length-reads
 
--- src/lib.rt:172:40
 length-requires : tie.Need-length-requires
 length-requires c κs = search needs
 
--- src/lib.rt:173:40
 length-requires-2 : tie.Need-length-requires-2
 length-requires-2 c κs = search needs
 
--- src/lib.rt:168:1
 returns : tie.Need-returns
 returns c = rw (c .length .ensures) (bytes-in-table _ _ (c .before .before .before .fits .byte .fits) (low-in-table _ (c .before .before .if1 .left) (c .before .if2 .taken)))
 
--- src/lib.rt:168:1
 returns-2 : tie.Need-returns-2
 returns-2 c = rw (c .length2 .ensures) (bytes-in-table _ _ (c .before .before .before .before .before .fits .byte .fits) (high-in-table _ (c .before .before .if3 .left) (c .before .if4 .taken)))
 
--- src/lib.rt:168:1
 returns-3 : tie.Need-returns-3
 returns-3 c = unknown-else _ _ (c .before .fits .byte .fits) (below-table _ (c .if1 .taken))
 
--- src/lib.rt:168:1
 returns-4 : tie.Need-returns-4
 returns-4 c = unknown-else _ _ (c .before .before .before .fits .byte .fits) (between-table _ (c .before .if2 .left) (c .if3 .taken))
 
--- src/lib.rt:168:1
 returns-5 : tie.Need-returns-5
 returns-5 c = unknown-else _ _ (c .before .before .before .before .fits .byte .fits) (above-table _ (c .if4 .left))
 

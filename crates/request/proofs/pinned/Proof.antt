@@ -7,20 +7,14 @@ use mathlib.Core.Path.{_∙_}
 use borrow.Author.Needs.{needs}
 use Rattle.request.proofs.pinned.Statement.{statement}
 use Rattle.request.proofs.pinned.Tie as tie
-use Rattle.request.proofs.pinned.Reads as reads
-use Rattle.request.proofs.pinned.Lts as lts
-use Rattle.request.proofs.all_ones.Reads as all-ones-reads
 
--- src/lib.rt:137:13
 all-ones-requires : tie.Need-all-ones-requires
 all-ones-requires c κs = search needs
 
--- src/lib.rt:138:9
 returns : tie.Need-returns
 unfolding pin-of all-ones-of limits-of pin-option
 returns c = simp (eq-eqb _ _ (c .if1 .taken ∙ c .before .all-ones .ensures))
 
--- src/lib.rt:134:1
 returns-2 : tie.Need-returns-2
 unfolding pin-of all-ones-of limits-of pin-option
 returns-2 c = simp (ne-eqb _ _ (λ e. c .if1 .left (e ∙ sym (c .before .all-ones .ensures))))

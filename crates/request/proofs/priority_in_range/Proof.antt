@@ -4,15 +4,11 @@ use borrow.Author.Tests.{le-leb}
 use borrow.Author.Needs.{needs}
 use Rattle.request.proofs.priority_in_range.Statement.{statement}
 use Rattle.request.proofs.priority_in_range.Tie as tie
-use Rattle.request.proofs.priority_in_range.Reads as reads
-use Rattle.request.proofs.priority_in_range.Lts as lts
 
--- src/lib.rt:377:9
 returns : tie.Need-returns
 unfolding priority-in-range question
 returns c = simp (le-leb _ _ (c .if1 .taken))
 
--- src/lib.rt:373:1
 returns-2 : tie.Need-returns-2
 unfolding priority-in-range question
 returns-2 c = simp (lt-leb _ _ (c .if1 .left))

@@ -8,46 +8,33 @@ use lib.ListN.{drop-of-length-le}
 use borrow.Author.Needs.{needs}
 use Rattle.request.proofs.read.Statement.{statement}
 use Rattle.request.proofs.read.Tie as tie
-use Rattle.request.proofs.read.Reads as reads
-use Rattle.request.proofs.read.Lts as lts
-use Rattle.request.proofs.operand_bytes.Reads as operand-bytes-reads
-use Rattle.request.proofs.take.Reads as take-reads
 
--- src/lib.rt:361:9
 returns : tie.Need-returns
 unfolding reading-of read
 returns c = rw (drop-of-length-le _ (c .if1 .taken))
 
--- src/lib.rt:363:16
 shared-slice-read-byte : tie.Need-shared-slice-read-byte
 shared-slice-read-byte c = search needs
 
--- src/lib.rt:364:11
 operand-bytes-requires : tie.Need-operand-bytes-requires
 operand-bytes-requires c κs = search needs
 
--- src/lib.rt:365:30
 enum-told : tie.Need-enum-told
 enum-told c = search needs
 
--- src/lib.rt:366:25
 enum-known-n : tie.Need-enum-known-n
 enum-known-n c = search needs
 
--- src/lib.rt:366:43
 add-take : tie.Need-add-take
 add-take c = search needs
 
--- src/lib.rt:366:31
 take-requires : tie.Need-take-requires
 take-requires c κs = search needs
 
--- src/lib.rt:357:1
 returns-2 : tie.Need-returns-2
 unfolding reading-of
 returns-2 c = read-unknown _ _ _ (c .before .before .before .before .if1 .left) (sym (c .before .before .operand-bytes .ensures) ∙ c .enum-told .given .1)
 
--- src/lib.rt:357:1
 returns-3 : tie.Need-returns-3
 returns-3 c = c .take .ensures ∙ read-bytes (c .before .before .before .before .before .before .before .before .args .wide) (c .before .before .before .before .before .before .before .before .args .at) (now (c .before .before .before .before .before .before .before .before .args .bytes)) (c .before .before .before .before .before .before .if1 .left) _ (sym (c .before .before .before .before .operand-bytes .ensures) ∙ c .before .before .n .given .1)
 

@@ -3,15 +3,10 @@ use Rattle.rules.specs.Requests.{nth, operands, request, widths}
 use borrow.Author.Needs.{needs}
 use Rattle.request.proofs.remove_donation.Statement.{statement}
 use Rattle.request.proofs.remove_donation.Tie as tie
-use Rattle.request.proofs.remove_donation.Reads as reads
-use Rattle.request.proofs.remove_donation.Lts as lts
-use Rattle.request.proofs.two.Reads as two-reads
 
--- src/lib.rt:306:17
 two-requires : tie.Need-two-requires
 two-requires c κs = search needs
 
--- src/lib.rt:302:1
 returns : tie.Need-returns
 unfolding request-of asked request nth operands widths-or widths
 returns c = search needs

@@ -3,25 +3,16 @@ use Rattle.rules.specs.Requests.{nth, operands, request, widths}
 use borrow.Author.Needs.{needs}
 use Rattle.request.proofs.set_critical.Statement.{statement}
 use Rattle.request.proofs.set_critical.Tie as tie
-use Rattle.request.proofs.set_critical.Reads as reads
-use Rattle.request.proofs.set_critical.Lts as lts
-use Rattle.request.proofs.one.Reads as one-reads
-use Rattle.request.proofs.skip.Reads as skip-reads
-use Rattle.request.proofs.two.Reads as two-reads
 
--- src/lib.rt:313:9
 skip-requires : tie.Need-skip-requires
 skip-requires c κs = search needs
 
--- src/lib.rt:315:17
 two-requires : tie.Need-two-requires
 two-requires c κs = search needs
 
--- src/lib.rt:316:15
 one-requires : tie.Need-one-requires
 one-requires c κs = search needs
 
--- src/lib.rt:310:1
 returns : tie.Need-returns
 unfolding asked request widths widths-or limits-of operands nth request-of
 returns c = cc

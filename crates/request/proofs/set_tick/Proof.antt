@@ -3,15 +3,10 @@ use Rattle.rules.specs.Requests.{nth, operands, request, widths}
 use borrow.Author.Needs.{needs}
 use Rattle.request.proofs.set_tick.Statement.{statement}
 use Rattle.request.proofs.set_tick.Tie as tie
-use Rattle.request.proofs.set_tick.Reads as reads
-use Rattle.request.proofs.set_tick.Lts as lts
-use Rattle.request.proofs.eight.Reads as eight-reads
 
--- src/lib.rt:226:15
 eight-requires : tie.Need-eight-requires
 eight-requires c κs = search needs
 
--- src/lib.rt:222:1
 returns : tie.Need-returns
 unfolding request-of asked request nth operands widths-or widths
 returns c = search needs

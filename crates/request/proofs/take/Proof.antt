@@ -7,29 +7,20 @@ use native.Mathlib.Omega.{arith}
 use borrow.Author.Needs.{needs}
 use Rattle.request.proofs.take.Statement.{statement}
 use Rattle.request.proofs.take.Tie as tie
-use Rattle.request.proofs.take.Reads as reads
-use Rattle.request.proofs.take.Lts as lts
-use Rattle.request.proofs.ask.Reads as ask-reads
-use Rattle.request.proofs.left.Reads as left-reads
 
--- src/lib.rt:347:13
 left-requires : tie.Need-left-requires
 left-requires c κs = search needs
 
--- src/lib.rt:349:22
 ask-requires : tie.Need-ask-requires
 ask-requires c κs = search needs
 
--- src/lib.rt:350:19
 add-t9 : tie.Need-add-t9
 add-t9 c = omega (arith, simp length-drop at (c .before .before .left .ensures))
 
--- src/lib.rt:348:9
 returns : tie.Need-returns
 unfolding reading-of taken
 returns c = rw (enough _ _ (rw (c .before .before .left .ensures) at (c .before .if1 .taken)), c .ask .ensures)
 
--- src/lib.rt:344:1
 returns-2 : tie.Need-returns-2
 unfolding reading-of taken
 returns-2 c = rw (too-few _ _ (rw (c .before .left .ensures) at (c .if1 .left)))

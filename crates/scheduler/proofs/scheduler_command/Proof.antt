@@ -1,5 +1,5 @@
 -- `scheduler::scheduler_command` meets its contract: a walk of its MIR, written by tools/entrygen.py.
-use mathlib.Core.Path.{_≡_, refl, sym, subst, _∙_}
+use mathlib.Core.Path.{_≡_, refl, sym, ap, subst, _∙_}
 use Prim.Native.Nat.{ℕ}
 use mathlib.Core.List.{[], _∷_, List}
 use lib.ListN.{length}
@@ -32,13 +32,15 @@ use denote.Triple.Clauses.{Clauses}
 use denote.Triple.Walked.{says, Stays, stay-none, stay-slice, stay-none-slice, walkOf, goes-none, goes-slice, goes-none-slice, ends-at}
 use denote.Exit.{yes as kept-yes}
 use Rattle.lent.proofs.Walk.{Datum, struct, Dens, AreD, listed, spell, lent-as, slice-of, kept, opened, closed, full, told, proved}
-use Rattle.lent.proofs.Lent.{mutable, passed, call-slices, all-freed, begins4, leaves4}
+use Rattle.lent.proofs.Lent.{mutable, passed, call-slices, call-left, all-freed, so, begins4, leaves4}
 use Rattle.command.specs.Command.{commandDef}
-use Rattle.scheduler.specs.Numbers.{step-of}
+use Rattle.command.specs.Lent.{Lent}
+use Rattle.lent.specs.Left.{Left}
+use Rattle.scheduler.specs.Numbers.{commandRow, step-of}
 use denote.Struct.Laws as LL
-use Rattle.command.specs.declared.answer.Answered.{Answered}
-use Rattle.command.proofs.answer.Answered as Answered·
-use Rattle.command.proofs.answer.Answered.Laws as Answered·laws
+use Rattle.outcome.specs.declared.answer.Answered.{Answered}
+use Rattle.outcome.proofs.answer.Answered as Answered·
+use Rattle.outcome.proofs.answer.Answered.Laws as Answered·laws
 use Rattle.questions.specs.declared.state.State.{State}
 use Rattle.questions.proofs.state.State as State·
 use Rattle.questions.proofs.state.State.Laws as State·laws
@@ -125,17 +127,8 @@ module _ {M : Type 1} (𝓤 : URA M) (H : Heap 𝓤) (𝓜 : Model 𝓤 H) (𝓖
     abbrev Post : Val → SProp 𝓤
     Post = walkOf 𝓤 H A scheduler-command.ended stayed c .post y
 
-    abbrev V₁ : Answered
-    V₁ = commandDef ys ys′ ys″ ys‴ (length ys‴) 0 (a .0) .outcome
-
-    abbrev V₂ : List Thread
-    V₂ = commandDef ys ys′ ys″ ys‴ (length ys‴) 0 (a .0) .threads
-
-    abbrev V₃ : List (List ℕ)
-    V₃ = commandDef ys ys′ ys″ ys‴ (length ys‴) 0 (a .0) .cpus
-
-    abbrev V₄ : List (List ℕ)
-    V₄ = commandDef ys ys′ ys″ ys‴ (length ys‴) 0 (a .0) .nodes
+    abbrev V₁ : Left Answered Lent
+    V₁ = commandDef (length ys‴) 0 (a .0) ys‴ (record { threads = ys; cpus = ys′; nodes = ys″ })
 
     walk : ent 𝓤 (onEntry 𝓤 H A scheduler-command.signature (κ, (κ′, (κ″, (κ‴, tt)))) (q, (q′, (q″, (q‴, tt)))) ((lent-as b o γ ys, (lent-as b′ o′ γ′ ys′, (lent-as b″ o″ γ″ ys″, (lent-as b‴ o‴ γ‴ ys‴, a))))) ((s ∷ [], (s′ ∷ [], (s″ ∷ [], (s‴ ∷ [], spell Ds a)))))) (WpFn 𝓤 H C Λ code.function (s ∷ s′ ∷ s″ ∷ s‴ ∷ listed Ds a) Post)
     walk =
@@ -165,7 +158,7 @@ module _ {M : Type 1} (𝓤 : URA M) (H : Heap 𝓤) (𝓜 : Model 𝓤 H) (𝓖
         join ! $
         move ! (1 ∷ 0 ∷ []) $
         join ! $
-        call-slices Answered° (State° ∷ []) ((a .0, tt)) (emp 𝓤) ((mutable Thread·.the-row ys b o n refl room) ∷ (mutable (Array u64 96) ys′ b′ o′ n′ refl room′) ∷ (mutable (Array u64 32) ys″ b″ o″ n″ refl room″) ∷ (passed u8 ys‴ b‴ o‴ κ‴ q‴ γ‴) ∷ []) ! fm (λ r ws. (r ≡ V₁) × ((ws .0 ≡ V₂) × ((ws .1 .0 ≡ V₃) × (ws .1 .1 .0 ≡ V₄)))) ((are .0, tt)) (id⊢ 𝓤 (emp 𝓤))
+        call-left Answered° (State° ∷ []) ((a .0, tt)) (emp 𝓤) ((mutable Thread·.the-row ys b o n refl room) ∷ (mutable (Array u64 96) ys′ b′ o′ n′ refl room′) ∷ (mutable (Array u64 32) ys″ b″ o″ n″ refl room″) ∷ (passed u8 ys‴ b‴ o‴ κ‴ q‴ γ‴) ∷ []) ! fm (λ r ws. (r ≡ (V₁ .answer)) × ((ws .0 ≡ (V₁ .memory .threads)) × ((ws .1 .0 ≡ (V₁ .memory .cpus)) × (ws .1 .1 .0 ≡ (V₁ .memory .nodes))))) (λ r ws. _≡_ {A = Left Answered Lent} (record { answer = r; memory = record { threads = ws .0; cpus = ws .1 .0; nodes = ws .1 .1 .0 } }) V₁) (λ r ws e. (ap (λ (z : Left Answered Lent). z .answer) e, (ap (λ (z : Left Answered Lent). z .memory .threads) e, (ap (λ (z : Left Answered Lent). z .memory .cpus) e, ap (λ (z : Left Answered Lent). z .memory .nodes) e)))) ((are .0, tt)) (id⊢ 𝓤 (emp 𝓤))
         (λ νs. cited 𝓤 H (tripleOf 𝓤 H A fn-command-obey-command.signature (fn-command-obey-command.spec 𝓤 H A (𝓜 .mem) (𝓡 .run))) 𝓜 𝓡 code.env fn-command-obey-command-def.name fn-command-obey-command-def.routine code.calls-command·obey·command (fn-command-obey-command-thm.met 𝓤 H 𝓜 𝓖 𝓡) (((νs .0 .0 ∷ [], (νs .1 .0 .0 ∷ [], (νs .1 .1 .0 .0 ∷ [], (κ‴, tt)))), (fullShare, (fullShare, (fullShare, (q‴, tt)))), tt, (lent-as b o (νs .0 .1) ys, (lent-as b′ o′ (νs .1 .0 .1) ys′, (lent-as b″ o″ (νs .1 .1 .0 .1) ys″, (lent-as b‴ o‴ γ‴ ys‴, (a .0, tt))))), (slice-of b o ys ∷ [], (slice-of b′ o′ ys′ ∷ [], (slice-of b″ o″ ys″ ∷ [], (slice-of b‴ o‴ ys‴ ∷ [], spell (State° ∷ []) ((a .0, tt))))))), tt))
         (λ k. and-then ! (load ! (from ! (stop !)) (look ! 12 refl)) (and-then ! (load ! (from ! (stop !)) (look ! 8 refl)) (and-then ! (load ! (from ! (stop !)) (look ! 4 refl)) (and-then ! (load ! (from ! (stop !)) (look ! 20 refl)) (and-then ! (load ! (from ! (stop !)) (look ! 18 refl)) (no-more !)))))) (λ r₁ ws₂ is₃ ls₄ e₅.
         split ! $
@@ -182,25 +175,25 @@ module _ {M : Type 1} (𝓤 : URA M) (H : Heap 𝓤) (𝓜 : Model 𝓤 H) (𝓖
         rewrite ! 3 (λ (us : List (List ℕ)). ‵ (row (Array u64 96) fullShare us b′ o′)) (e₅ .1 .1 .0) refl $
         rewrite ! 2 (λ (us : List (List ℕ)). ‵ (row (Array u64 32) fullShare us b″ o″)) (e₅ .1 .1 .1) refl $
         told ! Answered° (e₅ .0) is₃ (λ is₆.
-        land ! (from ! (stop !)) (init ! 20 refl (Answered° .typed 𝓤 H A W (V₁) (is₆) .0)) $
+        land ! (from ! (stop !)) (init ! 20 refl (Answered° .typed 𝓤 H A W (V₁ .answer) (is₆) .0)) $
         nothing ! $
-        call-slices Step° (Answered° ∷ []) ((V₁, tt)) (emp 𝓤) ([]) ! fm (λ r ws. r ≡ (step-of V₁)) ((is₆, tt)) (id⊢ 𝓤 (emp 𝓤))
-        (λ νs. cited 𝓤 H (tripleOf 𝓤 H A fn-scheduler-numbers-step-of.signature (fn-scheduler-numbers-step-of.spec 𝓤 H A (𝓜 .mem) (𝓡 .run))) 𝓜 𝓡 code.env fn-scheduler-numbers-step-of-def.name fn-scheduler-numbers-step-of-def.routine code.calls-scheduler·numbers·step-of (fn-scheduler-numbers-step-of-thm.met 𝓤 H 𝓜 𝓖 𝓡) ((tt, tt, tt, (V₁, tt), spell (Answered° ∷ []) ((V₁, tt))), tt))
+        call-slices Step° (Answered° ∷ []) ((V₁ .answer, tt)) (emp 𝓤) ([]) ! fm (λ r ws. r ≡ (step-of (V₁ .answer))) ((is₆, tt)) (id⊢ 𝓤 (emp 𝓤))
+        (λ νs. cited 𝓤 H (tripleOf 𝓤 H A fn-scheduler-numbers-step-of.signature (fn-scheduler-numbers-step-of.spec 𝓤 H A (𝓜 .mem) (𝓡 .run))) 𝓜 𝓡 code.env fn-scheduler-numbers-step-of-def.name fn-scheduler-numbers-step-of-def.routine code.calls-scheduler·numbers·step-of (fn-scheduler-numbers-step-of-thm.met 𝓤 H 𝓜 𝓖 𝓡) ((tt, tt, tt, (V₁ .answer, tt), spell (Answered° ∷ []) ((V₁ .answer, tt))), tt))
         (λ k. and-then ! (load ! (from ! (stop !)) (look ! 21 refl)) (no-more !)) (λ r₇ ws₈ is₉ ls₁₀ e₁₁.
         drop ! $
         told ! Step° (e₁₁) is₉ (λ is₁₂.
-        land ! (from ! (stop !)) (init ! 32 refl (Step° .typed 𝓤 H A W (step-of V₁) (is₁₂) .0)) $
+        land ! (from ! (stop !)) (init ! 32 refl (Step° .typed 𝓤 H A W (step-of (V₁ .answer)) (is₁₂) .0)) $
         move ! (2 ∷ 7 ∷ []) $
-        closed ! tt (Array u64 32) ys″ (V₄) b″ o″ room″ (sym ((refl ∙ sym (subst (λ (us : List (List ℕ)). length us ≡ length ys″) (e₅ .1 .1 .1) (ls₄ .1 .1 .0))))) $
+        closed ! tt (Array u64 32) ys″ (V₁ .memory .nodes) b″ o″ room″ (sym ((refl ∙ sym (subst (λ (us : List (List ℕ)). length us ≡ length ys″) (e₅ .1 .1 .1) (ls₄ .1 .1 .0))))) $
         move ! (4 ∷ 7 ∷ []) $
-        closed ! tt (Array u64 96) ys′ (V₃) b′ o′ room′ (sym ((refl ∙ sym (subst (λ (us : List (List ℕ)). length us ≡ length ys′) (e₅ .1 .1 .0) (ls₄ .1 .0))))) $
+        closed ! tt (Array u64 96) ys′ (V₁ .memory .cpus) b′ o′ room′ (sym ((refl ∙ sym (subst (λ (us : List (List ℕ)). length us ≡ length ys′) (e₅ .1 .1 .0) (ls₄ .1 .0))))) $
         move ! (6 ∷ 7 ∷ []) $
-        closed ! tt Thread·.the-row ys (V₂) b o room (sym ((refl ∙ sym (subst (λ (us : List Thread). length us ≡ length ys) (e₅ .1 .0) (ls₄ .0))))) $
+        closed ! tt Thread·.the-row ys (V₁ .memory .threads) b o room (sym ((refl ∙ sym (subst (λ (us : List Thread). length us ≡ length ys) (e₅ .1 .0) (ls₄ .0))))) $
         returns ! (look ! 32 refl) $
         move ! (32 ∷ 33 ∷ 30 ∷ 31 ∷ 28 ∷ 29 ∷ 26 ∷ 27 ∷ 24 ∷ 25 ∷ 22 ∷ 23 ∷ 20 ∷ 21 ∷ 18 ∷ 19 ∷ 16 ∷ 17 ∷ 14 ∷ 15 ∷ 12 ∷ 13 ∷ 10 ∷ 11 ∷ 8 ∷ 9 ∷ []) $
         all-freed ! mir.locals (l₀ ∷ l₁ ∷ l₂ ∷ l₃ ∷ l₄ ∷ l₅ ∷ l₆ ∷ l₇ ∷ l₈ ∷ l₉ ∷ l₁₀ ∷ l₁₁ ∷ l₁₂ ∷ []) (full _ ∷ full _ ∷ full _ ∷ full _ ∷ full _ ∷ full _ ∷ full _ ∷ full _ ∷ full _ ∷ full _ ∷ full _ ∷ full _ ∷ full _ ∷ []) tt $
-        suffices ! _ (ends-at 𝓤 H A scheduler-command.ended stayed c W y _ (step-of V₁) (V₂, (V₃, (V₄, (tt, (tt, tt))))) (sym ((refl ∙ sym (subst (λ (us : List Thread). length us ≡ length ys) (e₅ .1 .0) (ls₄ .0)))), (sym ((refl ∙ sym (subst (λ (us : List (List ℕ)). length us ≡ length ys′) (e₅ .1 .1 .0) (ls₄ .1 .0)))), (sym ((refl ∙ sym (subst (λ (us : List (List ℕ)). length us ≡ length ys″) (e₅ .1 .1 .1) (ls₄ .1 .1 .0)))), (tt, (tt, tt)))))) $ says ! (refl, (refl, (refl, refl))) $
-        leaves4 ! Step° Ds a (step-of V₁) are (is₁₂))))))))))))))))))
+        suffices ! _ (ends-at 𝓤 H A scheduler-command.ended stayed c W y _ (step-of (V₁ .answer)) (V₁ .memory .threads, (V₁ .memory .cpus, (V₁ .memory .nodes, (tt, (tt, tt))))) (sym ((refl ∙ sym (subst (λ (us : List Thread). length us ≡ length ys) (e₅ .1 .0) (ls₄ .0)))), (sym ((refl ∙ sym (subst (λ (us : List (List ℕ)). length us ≡ length ys′) (e₅ .1 .1 .0) (ls₄ .1 .0)))), (sym ((refl ∙ sym (subst (λ (us : List (List ℕ)). length us ≡ length ys″) (e₅ .1 .1 .1) (ls₄ .1 .1 .0)))), (tt, (tt, tt)))))) $ says ! (so {X = Left Step Lent} (record { answer = (step-of (V₁ .answer)); memory = record { threads = (V₁ .memory .threads); cpus = (V₁ .memory .cpus); nodes = (V₁ .memory .nodes) } }) (commandRow (a .0) ys‴ (record { threads = ys; cpus = ys′; nodes = ys″ })) (refl)) $
+        leaves4 ! Step° Ds a (step-of (V₁ .answer)) are (is₁₂))))))))))))))))))
 
 pub scheduler-command-spec : {M : Type 1} → stated.statement M
 unfolding code.routine

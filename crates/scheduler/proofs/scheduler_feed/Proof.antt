@@ -1,5 +1,5 @@
 -- `scheduler::scheduler_feed` meets its contract: a walk of its MIR, written by tools/entrygen.py.
-use mathlib.Core.Path.{_≡_, refl, sym, subst, _∙_}
+use mathlib.Core.Path.{_≡_, refl, sym, ap, subst, _∙_}
 use Prim.Native.Nat.{ℕ}
 use mathlib.Core.List.{[], _∷_, List}
 use lib.ListN.{length}
@@ -32,8 +32,8 @@ use denote.Triple.Clauses.{Clauses}
 use denote.Triple.Walked.{says, Stays, stay-none, stay-slice, stay-none-slice, walkOf, goes-none, goes-slice, goes-none-slice, ends-at}
 use denote.Exit.{yes as kept-yes}
 use Rattle.lent.proofs.Walk.{Datum, number, truth, struct, Dens, AreD, listed, spell, lent-as, slice-of, kept, opened, closed, full, told, proved}
-use Rattle.lent.proofs.Lent.{mutable, passed, call-slices, all-freed, begins5, leaves5}
-use Rattle.feed.specs.Feed.{worldOf, feedDef}
+use Rattle.lent.proofs.Lent.{mutable, passed, call-left, all-freed, so, begins5, leaves5}
+use Rattle.feed.specs.Feed.{feedDef, World}
 use denote.Struct.Laws as LL
 use Rattle.feed.specs.declared.fed.Fed.{Fed}
 use Rattle.feed.proofs.fed.Fed as Fed·
@@ -115,20 +115,8 @@ module _ {M : Type 1} (𝓤 : URA M) (H : Heap 𝓤) (𝓜 : Model 𝓤 H) (𝓖
     abbrev Post : Val → SProp 𝓤
     Post = walkOf 𝓤 H A scheduler-feed.ended stayed c .post y
 
-    abbrev V₁ : Fed
-    V₁ = feedDef ys‴ (a .0) (a .1 .0) (worldOf ys ys′ ys″ ys⁗ (a .1 .1 .0)) .fed
-
-    abbrev V₂ : List Thread
-    V₂ = feedDef ys‴ (a .0) (a .1 .0) (worldOf ys ys′ ys″ ys⁗ (a .1 .1 .0)) .threads
-
-    abbrev V₃ : List (List ℕ)
-    V₃ = feedDef ys‴ (a .0) (a .1 .0) (worldOf ys ys′ ys″ ys⁗ (a .1 .1 .0)) .cpus
-
-    abbrev V₄ : List (List ℕ)
-    V₄ = feedDef ys‴ (a .0) (a .1 .0) (worldOf ys ys′ ys″ ys⁗ (a .1 .1 .0)) .nodes
-
-    abbrev V₅ : List ℕ
-    V₅ = feedDef ys‴ (a .0) (a .1 .0) (worldOf ys ys′ ys″ ys⁗ (a .1 .1 .0)) .output
+    abbrev V₁ : World
+    V₁ = feedDef ys‴ (a .0) (a .1 .0) (record { threads = ys; cpus = ys′; nodes = ys″; output = ys⁗; fed = (a .1 .1 .0) })
 
     walk : ent 𝓤 (onEntry 𝓤 H A scheduler-feed.signature (κ, (κ′, (κ″, (κ‴, (κ⁗, tt))))) (q, (q′, (q″, (q‴, (q⁗, tt))))) ((lent-as b o γ ys, (lent-as b′ o′ γ′ ys′, (lent-as b″ o″ γ″ ys″, (lent-as b‴ o‴ γ‴ ys‴, (lent-as b⁗ o⁗ γ⁗ ys⁗, a)))))) ((s ∷ [], (s′ ∷ [], (s″ ∷ [], (s‴ ∷ [], (s⁗ ∷ [], spell Ds a))))))) (WpFn 𝓤 H C Λ code.function (s ∷ s′ ∷ s″ ∷ s‴ ∷ s⁗ ∷ listed Ds a) Post)
     walk =
@@ -164,7 +152,7 @@ module _ {M : Type 1} (𝓤 : URA M) (H : Heap 𝓤) (𝓜 : Model 𝓤 H) (𝓖
         join ! $
         move ! (1 ∷ 0 ∷ []) $
         join ! $
-        call-slices Fed° (number w64 ∷ truth ∷ Fed° ∷ []) ((a .0, (a .1 .0, (a .1 .1 .0, tt)))) (emp 𝓤) ((mutable Thread·.the-row ys b o n refl room) ∷ (mutable (Array u64 96) ys′ b′ o′ n′ refl room′) ∷ (mutable (Array u64 32) ys″ b″ o″ n″ refl room″) ∷ (passed u8 ys‴ b‴ o‴ κ‴ q‴ γ‴) ∷ (mutable u8 ys⁗ b⁗ o⁗ n⁗ refl room⁗) ∷ []) ! fm (λ r ws. (r ≡ V₁) × ((ws .0 ≡ V₂) × ((ws .1 .0 ≡ V₃) × ((ws .1 .1 .0 ≡ V₄) × (ws .1 .1 .1 .1 .0 ≡ V₅))))) ((are .0, (are .1 .0, (are .1 .1 .0, tt)))) (id⊢ 𝓤 (emp 𝓤))
+        call-left Fed° (number w64 ∷ truth ∷ Fed° ∷ []) ((a .0, (a .1 .0, (a .1 .1 .0, tt)))) (emp 𝓤) ((mutable Thread·.the-row ys b o n refl room) ∷ (mutable (Array u64 96) ys′ b′ o′ n′ refl room′) ∷ (mutable (Array u64 32) ys″ b″ o″ n″ refl room″) ∷ (passed u8 ys‴ b‴ o‴ κ‴ q‴ γ‴) ∷ (mutable u8 ys⁗ b⁗ o⁗ n⁗ refl room⁗) ∷ []) ! fm (λ r ws. (r ≡ (V₁ .fed)) × ((ws .0 ≡ (V₁ .threads)) × ((ws .1 .0 ≡ (V₁ .cpus)) × ((ws .1 .1 .0 ≡ (V₁ .nodes)) × (ws .1 .1 .1 .1 .0 ≡ (V₁ .output)))))) (λ r ws. _≡_ {A = World} (record { threads = ws .0; cpus = ws .1 .0; nodes = ws .1 .1 .0; output = ws .1 .1 .1 .1 .0; fed = r }) V₁) (λ r ws e. (ap (λ (z : World). z .fed) e, (ap (λ (z : World). z .threads) e, (ap (λ (z : World). z .cpus) e, (ap (λ (z : World). z .nodes) e, ap (λ (z : World). z .output) e))))) ((are .0, (are .1 .0, (are .1 .1 .0, tt)))) (id⊢ 𝓤 (emp 𝓤))
         (λ νs. cited 𝓤 H (tripleOf 𝓤 H A fn-feed-feed-feed.signature (fn-feed-feed-feed.spec 𝓤 H A (𝓜 .mem) (𝓡 .run))) 𝓜 𝓡 code.env fn-feed-feed-feed-def.name fn-feed-feed-feed-def.routine code.calls-feed·feed·feed (fn-feed-feed-feed-thm.met 𝓤 H 𝓜 𝓖 𝓡) (((νs .0 .0 ∷ [], (νs .1 .0 .0 ∷ [], (νs .1 .1 .0 .0 ∷ [], (κ‴, (νs .1 .1 .1 .1 .0 .0 ∷ [], tt))))), (fullShare, (fullShare, (fullShare, (q‴, (fullShare, tt))))), tt, (lent-as b o (νs .0 .1) ys, (lent-as b′ o′ (νs .1 .0 .1) ys′, (lent-as b″ o″ (νs .1 .1 .0 .1) ys″, (lent-as b‴ o‴ γ‴ ys‴, (lent-as b⁗ o⁗ (νs .1 .1 .1 .1 .0 .1) ys⁗, (a .0, (a .1 .0, (a .1 .1 .0, tt)))))))), (slice-of b o ys ∷ [], (slice-of b′ o′ ys′ ∷ [], (slice-of b″ o″ ys″ ∷ [], (slice-of b‴ o‴ ys‴ ∷ [], (slice-of b⁗ o⁗ ys⁗ ∷ [], spell (number w64 ∷ truth ∷ Fed° ∷ []) ((a .0, (a .1 .0, (a .1 .1 .0, tt)))))))))), tt))
         (λ k. and-then ! (load ! (from ! (stop !)) (look ! 17 refl)) (and-then ! (load ! (from ! (stop !)) (look ! 13 refl)) (and-then ! (load ! (from ! (stop !)) (look ! 9 refl)) (and-then ! (load ! (from ! (stop !)) (look ! 29 refl)) (and-then ! (load ! (from ! (stop !)) (look ! 5 refl)) (and-then ! (load ! (from ! (stop !)) (look ! 25 refl)) (and-then ! (load ! (from ! (stop !)) (look ! 23 refl)) (and-then ! (load ! (from ! (stop !)) (look ! 21 refl)) (no-more !))))))))) (λ r₁ ws₂ is₃ ls₄ e₅.
         split ! $
@@ -184,21 +172,21 @@ module _ {M : Type 1} (𝓤 : URA M) (H : Heap 𝓤) (𝓜 : Model 𝓤 H) (𝓖
         rewrite ! 3 (λ (us : List (List ℕ)). ‵ (row (Array u64 32) fullShare us b″ o″)) (e₅ .1 .1 .1 .0) refl $
         rewrite ! 0 (λ (us : List ℕ). ‵ (row u8 fullShare us b⁗ o⁗)) (e₅ .1 .1 .1 .1) refl $
         told ! Fed° (e₅ .0) is₃ (λ is₆.
-        land ! (from ! (stop !)) (init ! 42 refl (Fed° .typed 𝓤 H A W (V₁) (is₆) .0)) $
+        land ! (from ! (stop !)) (init ! 42 refl (Fed° .typed 𝓤 H A W (V₁ .fed) (is₆) .0)) $
         move ! (0 ∷ 9 ∷ []) $
-        closed ! tt u8 ys⁗ (V₅) b⁗ o⁗ room⁗ (sym ((refl ∙ sym (subst (λ (us : List ℕ). length us ≡ length ys⁗) (e₅ .1 .1 .1 .1) (ls₄ .1 .1 .1 .1 .0))))) $
+        closed ! tt u8 ys⁗ (V₁ .output) b⁗ o⁗ room⁗ (sym ((refl ∙ sym (subst (λ (us : List ℕ). length us ≡ length ys⁗) (e₅ .1 .1 .1 .1) (ls₄ .1 .1 .1 .1 .0))))) $
         move ! (2 ∷ 3 ∷ []) $
         move ! (4 ∷ 9 ∷ []) $
-        closed ! tt (Array u64 32) ys″ (V₄) b″ o″ room″ (sym ((refl ∙ sym (subst (λ (us : List (List ℕ)). length us ≡ length ys″) (e₅ .1 .1 .1 .0) (ls₄ .1 .1 .0))))) $
+        closed ! tt (Array u64 32) ys″ (V₁ .nodes) b″ o″ room″ (sym ((refl ∙ sym (subst (λ (us : List (List ℕ)). length us ≡ length ys″) (e₅ .1 .1 .1 .0) (ls₄ .1 .1 .0))))) $
         move ! (6 ∷ 9 ∷ []) $
-        closed ! tt (Array u64 96) ys′ (V₃) b′ o′ room′ (sym ((refl ∙ sym (subst (λ (us : List (List ℕ)). length us ≡ length ys′) (e₅ .1 .1 .0) (ls₄ .1 .0))))) $
+        closed ! tt (Array u64 96) ys′ (V₁ .cpus) b′ o′ room′ (sym ((refl ∙ sym (subst (λ (us : List (List ℕ)). length us ≡ length ys′) (e₅ .1 .1 .0) (ls₄ .1 .0))))) $
         move ! (8 ∷ 9 ∷ []) $
-        closed ! tt Thread·.the-row ys (V₂) b o room (sym ((refl ∙ sym (subst (λ (us : List Thread). length us ≡ length ys) (e₅ .1 .0) (ls₄ .0))))) $
+        closed ! tt Thread·.the-row ys (V₁ .threads) b o room (sym ((refl ∙ sym (subst (λ (us : List Thread). length us ≡ length ys) (e₅ .1 .0) (ls₄ .0))))) $
         returns ! (look ! 42 refl) $
         move ! (42 ∷ 43 ∷ 40 ∷ 41 ∷ 38 ∷ 39 ∷ 36 ∷ 37 ∷ 34 ∷ 35 ∷ 32 ∷ 33 ∷ 30 ∷ 31 ∷ 28 ∷ 29 ∷ 26 ∷ 27 ∷ 24 ∷ 25 ∷ 22 ∷ 23 ∷ 20 ∷ 21 ∷ 18 ∷ 19 ∷ 16 ∷ 17 ∷ 14 ∷ 15 ∷ 12 ∷ 13 ∷ 10 ∷ 11 ∷ []) $
         all-freed ! mir.locals (l₀ ∷ l₁ ∷ l₂ ∷ l₃ ∷ l₄ ∷ l₅ ∷ l₆ ∷ l₇ ∷ l₈ ∷ l₉ ∷ l₁₀ ∷ l₁₁ ∷ l₁₂ ∷ l₁₃ ∷ l₁₄ ∷ l₁₅ ∷ l₁₆ ∷ []) (full _ ∷ full _ ∷ full _ ∷ full _ ∷ full _ ∷ full _ ∷ full _ ∷ full _ ∷ full _ ∷ full _ ∷ full _ ∷ full _ ∷ full _ ∷ full _ ∷ full _ ∷ full _ ∷ full _ ∷ []) tt $
-        suffices ! _ (ends-at 𝓤 H A scheduler-feed.ended stayed c W y _ (V₁) (V₂, (V₃, (V₄, (tt, (V₅, (tt, (tt, (tt, tt)))))))) (sym ((refl ∙ sym (subst (λ (us : List Thread). length us ≡ length ys) (e₅ .1 .0) (ls₄ .0)))), (sym ((refl ∙ sym (subst (λ (us : List (List ℕ)). length us ≡ length ys′) (e₅ .1 .1 .0) (ls₄ .1 .0)))), (sym ((refl ∙ sym (subst (λ (us : List (List ℕ)). length us ≡ length ys″) (e₅ .1 .1 .1 .0) (ls₄ .1 .1 .0)))), (tt, (sym ((refl ∙ sym (subst (λ (us : List ℕ). length us ≡ length ys⁗) (e₅ .1 .1 .1 .1) (ls₄ .1 .1 .1 .1 .0)))), (tt, (tt, (tt, tt))))))))) $ says ! (refl, (refl, (refl, (refl, refl)))) $
-        leaves5 ! Fed° Ds a (V₁) are (is₆))))))))))))))))))))
+        suffices ! _ (ends-at 𝓤 H A scheduler-feed.ended stayed c W y _ (V₁ .fed) (V₁ .threads, (V₁ .cpus, (V₁ .nodes, (tt, (V₁ .output, (tt, (tt, (tt, tt)))))))) (sym ((refl ∙ sym (subst (λ (us : List Thread). length us ≡ length ys) (e₅ .1 .0) (ls₄ .0)))), (sym ((refl ∙ sym (subst (λ (us : List (List ℕ)). length us ≡ length ys′) (e₅ .1 .1 .0) (ls₄ .1 .0)))), (sym ((refl ∙ sym (subst (λ (us : List (List ℕ)). length us ≡ length ys″) (e₅ .1 .1 .1 .0) (ls₄ .1 .1 .0)))), (tt, (sym ((refl ∙ sym (subst (λ (us : List ℕ). length us ≡ length ys⁗) (e₅ .1 .1 .1 .1) (ls₄ .1 .1 .1 .1 .0)))), (tt, (tt, (tt, tt))))))))) $ says ! (so {X = World} (record { threads = (V₁ .threads); cpus = (V₁ .cpus); nodes = (V₁ .nodes); output = (V₁ .output); fed = (V₁ .fed) }) (feedDef ys‴ (a .0) (a .1 .0) (record { threads = ys; cpus = ys′; nodes = ys″; output = ys⁗; fed = (a .1 .1 .0) })) (refl)) $
+        leaves5 ! Fed° Ds a (V₁ .fed) are (is₆))))))))))))))))))))
 
 pub scheduler-feed-spec : {M : Type 1} → stated.statement M
 unfolding code.routine

@@ -1,5 +1,5 @@
 -- `scheduler::scheduler_start` meets its contract: a walk of its MIR, written by tools/entrygen.py.
-use mathlib.Core.Path.{_≡_, refl, sym, subst, _∙_}
+use mathlib.Core.Path.{_≡_, refl, sym, ap, subst, _∙_}
 use Prim.Native.Nat.{ℕ}
 use mathlib.Core.List.{[], _∷_, List}
 use lib.ListN.{length}
@@ -31,9 +31,11 @@ use denote.Triple.Table.{cited}
 use denote.Triple.Clauses.{Clauses}
 use denote.Triple.Walked.{says, Stays, stay-slice, walkOf, goes-slice, ends-at}
 use Rattle.lent.proofs.Walk.{Datum, struct, Dens, AreD, listed, spell, lent-as, slice-of, kept, opened, closed, full, told, proved}
-use Rattle.lent.proofs.Lent.{mutable, choice, call-slices, all-freed, begins3, leaves3}
+use Rattle.lent.proofs.Lent.{mutable, choice, call-slices, call-left, all-freed, so, begins3, leaves3}
+use Rattle.command.specs.Lent.{Lent}
 use Rattle.feed.specs.Start.{startDef}
-use Rattle.scheduler.specs.Numbers.{begun-of}
+use Rattle.lent.specs.Left.{Left}
+use Rattle.scheduler.specs.Numbers.{startRow, begun-of}
 use denote.Struct.Laws as LL
 use Rattle.scheduler.specs.declared.numbers.Begun.{Begun}
 use Rattle.scheduler.proofs.numbers.Begun as Begun·
@@ -112,17 +114,8 @@ module _ {M : Type 1} (𝓤 : URA M) (H : Heap 𝓤) (𝓜 : Model 𝓤 H) (𝓖
     abbrev Post : Val → SProp 𝓤
     Post = walkOf 𝓤 H A scheduler-start.ended stayed c .post y
 
-    abbrev V₁ : Started
-    V₁ = startDef ys ys′ ys″ .answer
-
-    abbrev V₂ : List Thread
-    V₂ = startDef ys ys′ ys″ .threads
-
-    abbrev V₃ : List (List ℕ)
-    V₃ = startDef ys ys′ ys″ .cpus
-
-    abbrev V₄ : List (List ℕ)
-    V₄ = startDef ys ys′ ys″ .nodes
+    abbrev V₁ : Left Started Lent
+    V₁ = startDef (record { threads = ys; cpus = ys′; nodes = ys″ })
 
     walk : ent 𝓤 (onEntry 𝓤 H A scheduler-start.signature (κ, (κ′, (κ″, tt))) (q, (q′, (q″, tt))) ((lent-as b o γ ys, (lent-as b′ o′ γ′ ys′, (lent-as b″ o″ γ″ ys″, a)))) ((s ∷ [], (s′ ∷ [], (s″ ∷ [], spell Ds a))))) (WpFn 𝓤 H C Λ code.function (s ∷ s′ ∷ s″ ∷ listed Ds a) Post)
     walk =
@@ -148,7 +141,7 @@ module _ {M : Type 1} (𝓤 : URA M) (H : Heap 𝓤) (𝓜 : Model 𝓤 H) (𝓖
         join ! $
         move ! (1 ∷ 0 ∷ []) $
         join ! $
-        call-slices Started° ([]) tt (emp 𝓤) ((mutable Thread·.the-row ys b o n refl room) ∷ (mutable (Array u64 96) ys′ b′ o′ n′ refl room′) ∷ (mutable (Array u64 32) ys″ b″ o″ n″ refl room″) ∷ []) ! fm (λ r ws. (r ≡ V₁) × ((ws .0 ≡ V₂) × ((ws .1 .0 ≡ V₃) × (ws .1 .1 .0 ≡ V₄)))) tt (id⊢ 𝓤 (emp 𝓤))
+        call-left Started° ([]) tt (emp 𝓤) ((mutable Thread·.the-row ys b o n refl room) ∷ (mutable (Array u64 96) ys′ b′ o′ n′ refl room′) ∷ (mutable (Array u64 32) ys″ b″ o″ n″ refl room″) ∷ []) ! fm (λ r ws. (r ≡ (V₁ .answer)) × ((ws .0 ≡ (V₁ .memory .threads)) × ((ws .1 .0 ≡ (V₁ .memory .cpus)) × (ws .1 .1 .0 ≡ (V₁ .memory .nodes))))) (λ r ws. _≡_ {A = Left Started Lent} (record { answer = r; memory = record { threads = ws .0; cpus = ws .1 .0; nodes = ws .1 .1 .0 } }) V₁) (λ r ws e. (ap (λ (z : Left Started Lent). z .answer) e, (ap (λ (z : Left Started Lent). z .memory .threads) e, (ap (λ (z : Left Started Lent). z .memory .cpus) e, ap (λ (z : Left Started Lent). z .memory .nodes) e)))) tt (id⊢ 𝓤 (emp 𝓤))
         (λ νs. cited 𝓤 H (tripleOf 𝓤 H A fn-feed-start-start.signature (fn-feed-start-start.spec 𝓤 H A (𝓜 .mem) (𝓡 .run))) 𝓜 𝓡 code.env fn-feed-start-start-def.name fn-feed-start-start-def.routine code.calls-feed·start·start (fn-feed-start-start-thm.met 𝓤 H 𝓜 𝓖 𝓡) (((νs .0 .0 ∷ [], (νs .1 .0 .0 ∷ [], (νs .1 .1 .0 .0 ∷ [], tt))), (fullShare, (fullShare, (fullShare, tt))), tt, (lent-as b o (νs .0 .1) ys, (lent-as b′ o′ (νs .1 .0 .1) ys′, (lent-as b″ o″ (νs .1 .1 .0 .1) ys″, tt))), (slice-of b o ys ∷ [], (slice-of b′ o′ ys′ ∷ [], (slice-of b″ o″ ys″ ∷ [], spell ([]) tt)))), tt))
         (λ k. and-then ! (load ! (from ! (stop !)) (look ! 12 refl)) (and-then ! (load ! (from ! (stop !)) (look ! 8 refl)) (and-then ! (load ! (from ! (stop !)) (look ! 4 refl)) (no-more !)))) (λ r₁ ws₂ is₃ ls₄ e₅.
         split ! $
@@ -162,25 +155,25 @@ module _ {M : Type 1} (𝓤 : URA M) (H : Heap 𝓤) (𝓜 : Model 𝓤 H) (𝓖
         rewrite ! 1 (λ (us : List (List ℕ)). ‵ (row (Array u64 96) fullShare us b′ o′)) (e₅ .1 .1 .0) refl $
         rewrite ! 0 (λ (us : List (List ℕ)). ‵ (row (Array u64 32) fullShare us b″ o″)) (e₅ .1 .1 .1) refl $
         told ! Started° (e₅ .0) is₃ (λ is₆.
-        land ! (from ! (stop !)) (init ! 18 refl (Started° .typed 𝓤 H A W (V₁) (is₆) .0)) $
+        land ! (from ! (stop !)) (init ! 18 refl (Started° .typed 𝓤 H A W (V₁ .answer) (is₆) .0)) $
         nothing ! $
-        call-slices Begun° (Started° ∷ []) ((V₁, tt)) (emp 𝓤) ([]) ! fm (λ r ws. r ≡ (begun-of V₁)) ((is₆, tt)) (id⊢ 𝓤 (emp 𝓤))
-        (λ νs. cited 𝓤 H (tripleOf 𝓤 H A fn-scheduler-numbers-begun-of.signature (fn-scheduler-numbers-begun-of.spec 𝓤 H A (𝓜 .mem) (𝓡 .run))) 𝓜 𝓡 code.env fn-scheduler-numbers-begun-of-def.name fn-scheduler-numbers-begun-of-def.routine code.calls-scheduler·numbers·begun-of (fn-scheduler-numbers-begun-of-thm.met 𝓤 H 𝓜 𝓖 𝓡) ((tt, tt, tt, (V₁, tt), spell (Started° ∷ []) ((V₁, tt))), tt))
+        call-slices Begun° (Started° ∷ []) ((V₁ .answer, tt)) (emp 𝓤) ([]) ! fm (λ r ws. r ≡ (begun-of (V₁ .answer))) ((is₆, tt)) (id⊢ 𝓤 (emp 𝓤))
+        (λ νs. cited 𝓤 H (tripleOf 𝓤 H A fn-scheduler-numbers-begun-of.signature (fn-scheduler-numbers-begun-of.spec 𝓤 H A (𝓜 .mem) (𝓡 .run))) 𝓜 𝓡 code.env fn-scheduler-numbers-begun-of-def.name fn-scheduler-numbers-begun-of-def.routine code.calls-scheduler·numbers·begun-of (fn-scheduler-numbers-begun-of-thm.met 𝓤 H 𝓜 𝓖 𝓡) ((tt, tt, tt, (V₁ .answer, tt), spell (Started° ∷ []) ((V₁ .answer, tt))), tt))
         (λ k. and-then ! (load ! (from ! (stop !)) (look ! 19 refl)) (no-more !)) (λ r₇ ws₈ is₉ ls₁₀ e₁₁.
         drop ! $
         told ! Begun° (e₁₁) is₉ (λ is₁₂.
-        land ! (from ! (stop !)) (init ! 26 refl (Begun° .typed 𝓤 H A W (begun-of V₁) (is₁₂) .0)) $
+        land ! (from ! (stop !)) (init ! 26 refl (Begun° .typed 𝓤 H A W (begun-of (V₁ .answer)) (is₁₂) .0)) $
         move ! (0 ∷ 5 ∷ []) $
-        closed ! tt (Array u64 32) ys″ (V₄) b″ o″ room″ (sym ((refl ∙ sym (subst (λ (us : List (List ℕ)). length us ≡ length ys″) (e₅ .1 .1 .1) (ls₄ .1 .1 .0))))) $
+        closed ! tt (Array u64 32) ys″ (V₁ .memory .nodes) b″ o″ room″ (sym ((refl ∙ sym (subst (λ (us : List (List ℕ)). length us ≡ length ys″) (e₅ .1 .1 .1) (ls₄ .1 .1 .0))))) $
         move ! (2 ∷ 5 ∷ []) $
-        closed ! tt (Array u64 96) ys′ (V₃) b′ o′ room′ (sym ((refl ∙ sym (subst (λ (us : List (List ℕ)). length us ≡ length ys′) (e₅ .1 .1 .0) (ls₄ .1 .0))))) $
+        closed ! tt (Array u64 96) ys′ (V₁ .memory .cpus) b′ o′ room′ (sym ((refl ∙ sym (subst (λ (us : List (List ℕ)). length us ≡ length ys′) (e₅ .1 .1 .0) (ls₄ .1 .0))))) $
         move ! (4 ∷ 5 ∷ []) $
-        closed ! tt Thread·.the-row ys (V₂) b o room (sym ((refl ∙ sym (subst (λ (us : List Thread). length us ≡ length ys) (e₅ .1 .0) (ls₄ .0))))) $
+        closed ! tt Thread·.the-row ys (V₁ .memory .threads) b o room (sym ((refl ∙ sym (subst (λ (us : List Thread). length us ≡ length ys) (e₅ .1 .0) (ls₄ .0))))) $
         returns ! (look ! 26 refl) $
         move ! (26 ∷ 27 ∷ 24 ∷ 25 ∷ 22 ∷ 23 ∷ 20 ∷ 21 ∷ 18 ∷ 19 ∷ 16 ∷ 17 ∷ 14 ∷ 15 ∷ 12 ∷ 13 ∷ 10 ∷ 11 ∷ 8 ∷ 9 ∷ 6 ∷ 7 ∷ []) $
         all-freed ! mir.locals (l₀ ∷ l₁ ∷ l₂ ∷ l₃ ∷ l₄ ∷ l₅ ∷ l₆ ∷ l₇ ∷ l₈ ∷ l₉ ∷ l₁₀ ∷ []) (full _ ∷ full _ ∷ full _ ∷ full _ ∷ full _ ∷ full _ ∷ full _ ∷ full _ ∷ full _ ∷ full _ ∷ full _ ∷ []) tt $
-        suffices ! _ (ends-at 𝓤 H A scheduler-start.ended stayed c W y _ (begun-of V₁) (V₂, (V₃, (V₄, tt))) (sym ((refl ∙ sym (subst (λ (us : List Thread). length us ≡ length ys) (e₅ .1 .0) (ls₄ .0)))), (sym ((refl ∙ sym (subst (λ (us : List (List ℕ)). length us ≡ length ys′) (e₅ .1 .1 .0) (ls₄ .1 .0)))), (sym ((refl ∙ sym (subst (λ (us : List (List ℕ)). length us ≡ length ys″) (e₅ .1 .1 .1) (ls₄ .1 .1 .0)))), tt)))) $ says ! (refl, (refl, (refl, refl))) $
-        leaves3 ! Begun° Ds a (begun-of V₁) are (is₁₂))))))))))))))))
+        suffices ! _ (ends-at 𝓤 H A scheduler-start.ended stayed c W y _ (begun-of (V₁ .answer)) (V₁ .memory .threads, (V₁ .memory .cpus, (V₁ .memory .nodes, tt))) (sym ((refl ∙ sym (subst (λ (us : List Thread). length us ≡ length ys) (e₅ .1 .0) (ls₄ .0)))), (sym ((refl ∙ sym (subst (λ (us : List (List ℕ)). length us ≡ length ys′) (e₅ .1 .1 .0) (ls₄ .1 .0)))), (sym ((refl ∙ sym (subst (λ (us : List (List ℕ)). length us ≡ length ys″) (e₅ .1 .1 .1) (ls₄ .1 .1 .0)))), tt)))) $ says ! (so {X = Left Begun Lent} (record { answer = (begun-of (V₁ .answer)); memory = record { threads = (V₁ .memory .threads); cpus = (V₁ .memory .cpus); nodes = (V₁ .memory .nodes) } }) (startRow (record { threads = ys; cpus = ys′; nodes = ys″ })) (refl)) $
+        leaves3 ! Begun° Ds a (begun-of (V₁ .answer)) are (is₁₂))))))))))))))))
 
 pub scheduler-start-spec : {M : Type 1} → stated.statement M
 unfolding code.routine

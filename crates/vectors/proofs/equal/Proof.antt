@@ -3,35 +3,25 @@ use mathlib.Core.Path.{sym}
 use borrow.Author.Needs.{needs}
 use Rattle.vectors.proofs.equal.Statement.{statement}
 use Rattle.vectors.proofs.equal.Tie as tie
-use Rattle.vectors.proofs.equal.Reads as reads
-use Rattle.vectors.proofs.equal.Lts as lts
-use Rattle.check.proofs.same.Reads as same-reads
 
--- src/main.rt:94:29
 slice-aggregate-same : tie.Need-slice-aggregate-same
 slice-aggregate-same c = sym (length-take-le _ _ (c .before .before .if2 .taken))
 
--- src/main.rt:94:46
 slice-aggregate-same-2 : tie.Need-slice-aggregate-same-2
 slice-aggregate-same-2 c = sym (length-take-le _ _ (c .before .before .if3 .taken))
 
--- src/main.rt:94:17
 same-requires : tie.Need-same-requires
 same-requires c κs = search needs
 
--- src/main.rt:94:17
 returns : tie.Need-returns
 returns c = search needs
 
--- src/main.rt:90:1
 returns-2 : tie.Need-returns-2
 returns-2 c = search needs
 
--- src/main.rt:90:1
 returns-3 : tie.Need-returns-3
 returns-3 c = search needs
 
--- src/main.rt:90:1
 returns-4 : tie.Need-returns-4
 returns-4 c = search needs
 

@@ -4,27 +4,19 @@ use mathlib.Core.Path.{sym}
 use borrow.Author.Needs.{needs}
 use Rattle.vectors.proofs.headed.Statement.{statement}
 use Rattle.vectors.proofs.headed.Tie as tie
-use Rattle.vectors.proofs.headed.Reads as reads
-use Rattle.vectors.proofs.headed.Lts as lts
-use Rattle.check.proofs.same.Reads as same-reads
 
--- src/main.rt:104:21
 slice-aggregate-same : tie.Need-slice-aggregate-same
 slice-aggregate-same c = sym (length-take-le 8 (now (c .before .before .before .args .output)) (c .before .if1 .taken))
 
--- src/main.rt:104:35
 slice-aggregate-same-2 : tie.Need-slice-aggregate-same-2
 slice-aggregate-same-2 c = search needs
 
--- src/main.rt:104:9
 same-requires : tie.Need-same-requires
 same-requires c κs = search needs
 
--- src/main.rt:104:9
 returns : tie.Need-returns
 returns c = search needs
 
--- src/main.rt:102:1
 returns-2 : tie.Need-returns-2
 returns-2 c = search needs
 

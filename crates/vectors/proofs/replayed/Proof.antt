@@ -1,5 +1,5 @@
 -- `vectors::replayed` meets its contract: a walk of its MIR, written by tools/entrygen.py.
-use mathlib.Core.Path.{_≡_, refl, sym, subst, _∙_}
+use mathlib.Core.Path.{_≡_, refl, sym, ap, subst, _∙_}
 use Prim.Native.Nat.{ℕ, _<_, _-_}
 use native.Mathlib.Omega.{arith}
 use native.Mathlib.Nat.{lt-of-le-of-lt, sub-le}
@@ -37,9 +37,11 @@ use denote.Triple.Table.{cited}
 use denote.Triple.Clauses.{Clauses}
 use denote.Triple.Walked.{Stays, stay-slice, walkOf, goes-slice, ends-at}
 use Rattle.lent.proofs.Walk.{Datum, number, truth, struct, Dens, AreD, listed, spell, lent-as, slice-of, kept, opened, closed, guards, whiles, env-of, standing, bare, full, told, proved}
-use Rattle.lent.proofs.Lent.{mutable, shared, choice, call-slices, call-slices-none, all-freed, says-none, begins6, leaves6}
-use Rattle.feed.specs.Feed.{worldOf, feedDef}
+use Rattle.lent.proofs.Lent.{mutable, shared, choice, call-left, call-slices-none, all-freed, says-none, begins6, leaves6}
+use Rattle.command.specs.Lent.{Lent}
+use Rattle.feed.specs.Feed.{feedDef, World}
 use Rattle.feed.specs.Start.{startDef}
+use Rattle.lent.specs.Left.{Left}
 use denote.Struct.Laws as LL
 use Rattle.feed.specs.declared.fed.Fed.{Fed}
 use Rattle.feed.proofs.fed.Fed as Fed·
@@ -175,17 +177,8 @@ module _ {M : Type 1} (𝓤 : URA M) (H : Heap 𝓤) (𝓜 : Model 𝓤 H) (𝓖
     abbrev Z : Type 0
     Z = (List Thread) × ((List (List ℕ)) × ((List (List ℕ)) × ((List ℕ) × ((List ℕ) × ((List ℕ) × ((Tally) × (ℕ)))))))
 
-    abbrev V₁ : Z → Started
-    V₁ z = startDef (z .0) (z .1 .0) (z .1 .1 .0) .answer
-
-    abbrev V₂ : Z → List Thread
-    V₂ z = startDef (z .0) (z .1 .0) (z .1 .1 .0) .threads
-
-    abbrev V₃ : Z → List (List ℕ)
-    V₃ z = startDef (z .0) (z .1 .0) (z .1 .1 .0) .cpus
-
-    abbrev V₄ : Z → List (List ℕ)
-    V₄ z = startDef (z .0) (z .1 .0) (z .1 .1 .0) .nodes
+    abbrev V₁ : Z → Left Started Lent
+    V₁ z = startDef (record { threads = z .0; cpus = z .1 .0; nodes = z .1 .1 .0 })
 
     abbrev μ : Z → ℕ
     μ z = (z .1 .1 .1 .1 .1 .1 .1)
@@ -206,10 +199,10 @@ module _ {M : Type 1} (𝓤 : URA M) (H : Heap 𝓤) (𝓜 : Model 𝓤 H) (𝓖
       abbrev I : X → List (Item 𝓤)
       I t = ‵ (row Thread·.the-row fullShare (t .0 .0) b o) ∷ ‵ (kept Thread·.the-row κ q γ b o ys) ∷ ‵ (row (Array u64 96) fullShare (t .0 .1 .0) b′ o′) ∷ ‵ (kept (Array u64 96) κ′ q′ γ′ b′ o′ ys′) ∷ ‵ (row (Array u64 32) fullShare (t .0 .1 .1 .0) b″ o″) ∷ ‵ (kept (Array u64 32) κ″ q″ γ″ b″ o″ ys″) ∷ ‵ (row u8 fullShare (t .0 .1 .1 .1 .0) b‴ o‴) ∷ ‵ (kept u8 κ‴ q‴ γ‴ b‴ o‴ ys‴) ∷ ‵ (row u8 fullShare (t .0 .1 .1 .1 .1 .0) b⁗ o⁗) ∷ ‵ (kept u8 κ⁗ q⁗ γ⁗ b⁗ o⁗ ys⁗) ∷ ‵ (row u8 fullShare (t .0 .1 .1 .1 .1 .1 .0) b₅ o₅) ∷ ‵ (kept u8 κ₅ q₅ γ₅ b₅ o₅ ys₅) ∷ standing 𝓤 mir.locals (l₀ ∷ l₁ ∷ l₂ ∷ l₃ ∷ l₄ ∷ l₅ ∷ l₆ ∷ l₇ ∷ l₈ ∷ l₉ ∷ l₁₀ ∷ l₁₁ ∷ l₁₂ ∷ l₁₃ ∷ l₁₄ ∷ l₁₅ ∷ l₁₆ ∷ l₁₇ ∷ l₁₈ ∷ l₁₉ ∷ l₂₀ ∷ l₂₁ ∷ l₂₂ ∷ l₂₃ ∷ l₂₄ ∷ l₂₅ ∷ l₂₆ ∷ l₂₇ ∷ l₂₈ ∷ l₂₉ ∷ l₃₀ ∷ l₃₁ ∷ l₃₂ ∷ l₃₃ ∷ l₃₄ ∷ l₃₅ ∷ l₃₆ ∷ l₃₇ ∷ l₃₈ ∷ l₃₉ ∷ l₄₀ ∷ l₄₁ ∷ l₄₂ ∷ l₄₃ ∷ l₄₄ ∷ l₄₅ ∷ l₄₆ ∷ l₄₇ ∷ l₄₈ ∷ l₄₉ ∷ []) (bare ∷ full s ∷ full s′ ∷ full s″ ∷ full s‴ ∷ full s⁗ ∷ full s₅ ∷ full (Tally° .val (t .0 .1 .1 .1 .1 .1 .1 .0)) ∷ full ((number w64) .val (t .0 .1 .1 .1 .1 .1 .1 .1)) ∷ bare ∷ bare ∷ bare ∷ bare ∷ bare ∷ bare ∷ bare ∷ bare ∷ bare ∷ bare ∷ bare ∷ bare ∷ bare ∷ bare ∷ bare ∷ bare ∷ bare ∷ bare ∷ bare ∷ bare ∷ bare ∷ bare ∷ bare ∷ bare ∷ bare ∷ bare ∷ bare ∷ bare ∷ bare ∷ bare ∷ bare ∷ bare ∷ bare ∷ bare ∷ bare ∷ bare ∷ bare ∷ bare ∷ bare ∷ bare ∷ bare ∷ []) []
 
-      abbrev Left : Outcome → SProp 𝓤
-      Left = afterBlock 𝓤 H (afterSeq 𝓤 H (Wp 𝓤 H C Λ En mir.t-4 (atReturn 𝓤 H En Post)) (atReturn 𝓤 H En Post))
+      abbrev Rest : Outcome → SProp 𝓤
+      Rest = afterBlock 𝓤 H (afterSeq 𝓤 H (Wp 𝓤 H C Λ En mir.t-4 (atReturn 𝓤 H En Post)) (atReturn 𝓤 H En Post))
 
-      turn : (z : Z) (w : Facts z) → Sq W (I (z, w)) (runs C Λ En mir.turn-1 (anyQ (afterTurn 𝓤 H (Below 𝓤 H A nearer I (z, w)) Left)))
+      turn : (z : Z) (w : Facts z) → Sq W (I (z, w)) (runs C Λ En mir.turn-1 (anyQ (afterTurn 𝓤 H (Below 𝓤 H A nearer I (z, w)) Rest)))
       unfolding afterTurn
       turn z w =
           assigns ! (bin ! (lit ! tt) (load ! (from ! (stop !)) (look ! 94 refl)) tt) (from ! (stop !)) (init ! 70 refl (tt, tt)) $
@@ -293,7 +286,7 @@ module _ {M : Type 1} (𝓤 : URA M) (H : Heap 𝓤) (𝓜 : Model 𝓤 H) (𝓖
           join ! $
           move ! (3 ∷ 0 ∷ []) $
           join ! $
-          call-slices Started° ([]) tt (emp 𝓤) ((mutable Thread·.the-row (z .0) b o n (w .0) room) ∷ (mutable (Array u64 96) (z .1 .0) b′ o′ n′ (w .1 .0) room′) ∷ (mutable (Array u64 32) (z .1 .1 .0) b″ o″ n″ (w .1 .1 .0) room″) ∷ []) ! fm (λ r ws. (r ≡ (V₁ z)) × ((ws .0 ≡ (V₂ z)) × ((ws .1 .0 ≡ (V₃ z)) × (ws .1 .1 .0 ≡ (V₄ z))))) tt (id⊢ 𝓤 (emp 𝓤))
+          call-left Started° ([]) tt (emp 𝓤) ((mutable Thread·.the-row (z .0) b o n (w .0) room) ∷ (mutable (Array u64 96) (z .1 .0) b′ o′ n′ (w .1 .0) room′) ∷ (mutable (Array u64 32) (z .1 .1 .0) b″ o″ n″ (w .1 .1 .0) room″) ∷ []) ! fm (λ r ws. (r ≡ ((V₁ z) .answer)) × ((ws .0 ≡ ((V₁ z) .memory .threads)) × ((ws .1 .0 ≡ ((V₁ z) .memory .cpus)) × (ws .1 .1 .0 ≡ ((V₁ z) .memory .nodes))))) (λ r ws. _≡_ {A = Left Started Lent} (record { answer = r; memory = record { threads = ws .0; cpus = ws .1 .0; nodes = ws .1 .1 .0 } }) (V₁ z)) (λ r ws e. (ap (λ (z : Left Started Lent). z .answer) e, (ap (λ (z : Left Started Lent). z .memory .threads) e, (ap (λ (z : Left Started Lent). z .memory .cpus) e, ap (λ (z : Left Started Lent). z .memory .nodes) e)))) tt (id⊢ 𝓤 (emp 𝓤))
           (λ νs. cited 𝓤 H (tripleOf 𝓤 H A fn-feed-start-start.signature (fn-feed-start-start.spec 𝓤 H A (𝓜 .mem) (𝓡 .run))) 𝓜 𝓡 code.env fn-feed-start-start-def.name fn-feed-start-start-def.routine code.calls-feed·start·start (fn-feed-start-start-thm.met 𝓤 H 𝓜 𝓖 𝓡) (((νs .0 .0 ∷ [], (νs .1 .0 .0 ∷ [], (νs .1 .1 .0 .0 ∷ [], tt))), (fullShare, (fullShare, (fullShare, tt))), tt, (lent-as b o (νs .0 .1) (z .0), (lent-as b′ o′ (νs .1 .0 .1) (z .1 .0), (lent-as b″ o″ (νs .1 .1 .0 .1) (z .1 .1 .0), tt))), (slice-of b o (z .0) ∷ [], (slice-of b′ o′ (z .1 .0) ∷ [], (slice-of b″ o″ (z .1 .1 .0) ∷ [], spell ([]) tt)))), tt))
           (λ k. and-then ! (load ! (from ! (stop !)) (look ! 50 refl)) (and-then ! (load ! (from ! (stop !)) (look ! 46 refl)) (and-then ! (load ! (from ! (stop !)) (look ! 42 refl)) (no-more !)))) (λ r₂₁ ws₂₂ is₂₃ ls₂₄ e₂₅.
           split ! $
@@ -307,10 +300,10 @@ module _ {M : Type 1} (𝓤 : URA M) (H : Heap 𝓤) (𝓜 : Model 𝓤 H) (𝓖
           rewrite ! 1 (λ (us : List (List ℕ)). ‵ (row (Array u64 96) fullShare us b′ o′)) (e₂₅ .1 .1 .0) refl $
           rewrite ! 0 (λ (us : List (List ℕ)). ‵ (row (Array u64 32) fullShare us b″ o″)) (e₂₅ .1 .1 .1) refl $
           told ! Started° (e₂₅ .0) is₂₃ (λ is₂₆.
-          land ! (from ! (stop !)) (init ! 82 refl (Started° .typed 𝓤 H A W (V₁ z) (is₂₆) .0)) $
+          land ! (from ! (stop !)) (init ! 82 refl (Started° .typed 𝓤 H A W ((V₁ z) .answer) (is₂₆) .0)) $
           nothing ! $
-          call-slices-none Fed° (Started° ∷ []) ((V₁ z, tt)) (emp 𝓤) ([]) ! fm ((is₂₆, tt)) (id⊢ 𝓤 (emp 𝓤))
-          (λ νs. cited 𝓤 H (tripleOf 𝓤 H A fn-vectors-begun.signature (fn-vectors-begun.spec 𝓤 H A (𝓜 .mem) (𝓡 .run))) 𝓜 𝓡 code.env fn-vectors-begun-def.name fn-vectors-begun-def.routine code.calls-vectors·begun (fn-vectors-begun-thm.met 𝓤 H 𝓜 𝓖 𝓡) ((tt, tt, tt, (V₁ z, tt), spell (Started° ∷ []) ((V₁ z, tt))), tt))
+          call-slices-none Fed° (Started° ∷ []) (((V₁ z) .answer, tt)) (emp 𝓤) ([]) ! fm ((is₂₆, tt)) (id⊢ 𝓤 (emp 𝓤))
+          (λ νs. cited 𝓤 H (tripleOf 𝓤 H A fn-vectors-begun.signature (fn-vectors-begun.spec 𝓤 H A (𝓜 .mem) (𝓡 .run))) 𝓜 𝓡 code.env fn-vectors-begun-def.name fn-vectors-begun-def.routine code.calls-vectors·begun (fn-vectors-begun-thm.met 𝓤 H 𝓜 𝓖 𝓡) ((tt, tt, tt, ((V₁ z) .answer, tt), spell (Started° ∷ []) (((V₁ z) .answer, tt))), tt))
           (λ k. and-then ! (load ! (from ! (stop !)) (look ! 83 refl)) (no-more !)) (λ r₂₇ ws₂₈ is₂₉ ls₃₀.
           drop ! $
           land ! (from ! (stop !)) (init ! 80 refl (Fed° .typed 𝓤 H A W (r₂₇) (is₂₉) .0)) $
@@ -335,8 +328,8 @@ module _ {M : Type 1} (𝓤 : URA M) (H : Heap 𝓤) (𝓜 : Model 𝓤 H) (𝓖
           join ! $
           move ! (1 ∷ 0 ∷ []) $
           join ! $
-          call-slices Fed° (number w64 ∷ truth ∷ Fed° ∷ []) (((r₅) .stream, (r₁₃, (r₂₇, tt)))) (emp 𝓤) ((mutable Thread·.the-row (V₂ z) b o n ((w .0 ∙ sym (subst (λ (us : List Thread). length us ≡ length (z .0)) (e₂₅ .1 .0) (ls₂₄ .0)))) room) ∷ (mutable (Array u64 96) (V₃ z) b′ o′ n′ ((w .1 .0 ∙ sym (subst (λ (us : List (List ℕ)). length us ≡ length (z .1 .0)) (e₂₅ .1 .1 .0) (ls₂₄ .1 .0)))) room′) ∷ (mutable (Array u64 32) (V₄ z) b″ o″ n″ ((w .1 .1 .0 ∙ sym (subst (λ (us : List (List ℕ)). length us ≡ length (z .1 .1 .0)) (e₂₅ .1 .1 .1) (ls₂₄ .1 .1 .0)))) room″) ∷ (shared u8 (ws₁₄ .0) b‴ o‴ n‴ (((w .1 .1 .1 .0 ∙ sym (ls₈ .0)) ∙ sym (ls₁₆ .0))) room‴) ∷ (mutable u8 (z .1 .1 .1 .1 .0) b⁗ o⁗ n⁗ (w .1 .1 .1 .1 .0) room⁗) ∷ []) ! fm (λ r ws. (r ≡ (feedDef (ws₁₄ .0) ((r₅) .stream) r₁₃ (worldOf (V₂ z) (V₃ z) (V₄ z) (z .1 .1 .1 .1 .0) r₂₇) .fed)) × ((ws .0 ≡ (feedDef (ws₁₄ .0) ((r₅) .stream) r₁₃ (worldOf (V₂ z) (V₃ z) (V₄ z) (z .1 .1 .1 .1 .0) r₂₇) .threads)) × ((ws .1 .0 ≡ (feedDef (ws₁₄ .0) ((r₅) .stream) r₁₃ (worldOf (V₂ z) (V₃ z) (V₄ z) (z .1 .1 .1 .1 .0) r₂₇) .cpus)) × ((ws .1 .1 .0 ≡ (feedDef (ws₁₄ .0) ((r₅) .stream) r₁₃ (worldOf (V₂ z) (V₃ z) (V₄ z) (z .1 .1 .1 .1 .0) r₂₇) .nodes)) × (ws .1 .1 .1 .1 .0 ≡ (feedDef (ws₁₄ .0) ((r₅) .stream) r₁₃ (worldOf (V₂ z) (V₃ z) (V₄ z) (z .1 .1 .1 .1 .0) r₂₇) .output)))))) ((LL.owed Sizes·.the-type Sizes·laws.the-laws (r₅) _ (is₇) .0, (is₁₅, (is₂₉, tt)))) (id⊢ 𝓤 (emp 𝓤))
-          (λ νs. cited 𝓤 H (tripleOf 𝓤 H A fn-feed-feed-feed.signature (fn-feed-feed-feed.spec 𝓤 H A (𝓜 .mem) (𝓡 .run))) 𝓜 𝓡 code.env fn-feed-feed-feed-def.name fn-feed-feed-feed-def.routine code.calls-feed·feed·feed (fn-feed-feed-feed-thm.met 𝓤 H 𝓜 𝓖 𝓡) (((νs .0 .0 ∷ [], (νs .1 .0 .0 ∷ [], (νs .1 .1 .0 .0 ∷ [], (νs .1 .1 .1 .0 .0 ∷ [], (νs .1 .1 .1 .1 .0 .0 ∷ [], tt))))), (fullShare, (fullShare, (fullShare, (fullShare, (fullShare, tt))))), tt, (lent-as b o (νs .0 .1) (V₂ z), (lent-as b′ o′ (νs .1 .0 .1) (V₃ z), (lent-as b″ o″ (νs .1 .1 .0 .1) (V₄ z), (lent-as b‴ o‴ (νs .1 .1 .1 .0 .1) (ws₁₄ .0), (lent-as b⁗ o⁗ (νs .1 .1 .1 .1 .0 .1) (z .1 .1 .1 .1 .0), ((r₅) .stream, (r₁₃, (r₂₇, tt)))))))), (slice-of b o (V₂ z) ∷ [], (slice-of b′ o′ (V₃ z) ∷ [], (slice-of b″ o″ (V₄ z) ∷ [], (slice-of b‴ o‴ (ws₁₄ .0) ∷ [], (slice-of b⁗ o⁗ (z .1 .1 .1 .1 .0) ∷ [], spell (number w64 ∷ truth ∷ Fed° ∷ []) (((r₅) .stream, (r₁₃, (r₂₇, tt)))))))))), tt))
+          call-left Fed° (number w64 ∷ truth ∷ Fed° ∷ []) (((r₅) .stream, (r₁₃, (r₂₇, tt)))) (emp 𝓤) ((mutable Thread·.the-row ((V₁ z) .memory .threads) b o n ((w .0 ∙ sym (subst (λ (us : List Thread). length us ≡ length (z .0)) (e₂₅ .1 .0) (ls₂₄ .0)))) room) ∷ (mutable (Array u64 96) ((V₁ z) .memory .cpus) b′ o′ n′ ((w .1 .0 ∙ sym (subst (λ (us : List (List ℕ)). length us ≡ length (z .1 .0)) (e₂₅ .1 .1 .0) (ls₂₄ .1 .0)))) room′) ∷ (mutable (Array u64 32) ((V₁ z) .memory .nodes) b″ o″ n″ ((w .1 .1 .0 ∙ sym (subst (λ (us : List (List ℕ)). length us ≡ length (z .1 .1 .0)) (e₂₅ .1 .1 .1) (ls₂₄ .1 .1 .0)))) room″) ∷ (shared u8 (ws₁₄ .0) b‴ o‴ n‴ (((w .1 .1 .1 .0 ∙ sym (ls₈ .0)) ∙ sym (ls₁₆ .0))) room‴) ∷ (mutable u8 (z .1 .1 .1 .1 .0) b⁗ o⁗ n⁗ (w .1 .1 .1 .1 .0) room⁗) ∷ []) ! fm (λ r ws. (r ≡ ((feedDef (ws₁₄ .0) ((r₅) .stream) r₁₃ (record { threads = (V₁ z) .memory .threads; cpus = (V₁ z) .memory .cpus; nodes = (V₁ z) .memory .nodes; output = z .1 .1 .1 .1 .0; fed = r₂₇ })) .fed)) × ((ws .0 ≡ ((feedDef (ws₁₄ .0) ((r₅) .stream) r₁₃ (record { threads = (V₁ z) .memory .threads; cpus = (V₁ z) .memory .cpus; nodes = (V₁ z) .memory .nodes; output = z .1 .1 .1 .1 .0; fed = r₂₇ })) .threads)) × ((ws .1 .0 ≡ ((feedDef (ws₁₄ .0) ((r₅) .stream) r₁₃ (record { threads = (V₁ z) .memory .threads; cpus = (V₁ z) .memory .cpus; nodes = (V₁ z) .memory .nodes; output = z .1 .1 .1 .1 .0; fed = r₂₇ })) .cpus)) × ((ws .1 .1 .0 ≡ ((feedDef (ws₁₄ .0) ((r₅) .stream) r₁₃ (record { threads = (V₁ z) .memory .threads; cpus = (V₁ z) .memory .cpus; nodes = (V₁ z) .memory .nodes; output = z .1 .1 .1 .1 .0; fed = r₂₇ })) .nodes)) × (ws .1 .1 .1 .1 .0 ≡ ((feedDef (ws₁₄ .0) ((r₅) .stream) r₁₃ (record { threads = (V₁ z) .memory .threads; cpus = (V₁ z) .memory .cpus; nodes = (V₁ z) .memory .nodes; output = z .1 .1 .1 .1 .0; fed = r₂₇ })) .output)))))) (λ r ws. _≡_ {A = World} (record { threads = ws .0; cpus = ws .1 .0; nodes = ws .1 .1 .0; output = ws .1 .1 .1 .1 .0; fed = r }) (feedDef (ws₁₄ .0) ((r₅) .stream) r₁₃ (record { threads = (V₁ z) .memory .threads; cpus = (V₁ z) .memory .cpus; nodes = (V₁ z) .memory .nodes; output = z .1 .1 .1 .1 .0; fed = r₂₇ }))) (λ r ws e. (ap (λ (z : World). z .fed) e, (ap (λ (z : World). z .threads) e, (ap (λ (z : World). z .cpus) e, (ap (λ (z : World). z .nodes) e, ap (λ (z : World). z .output) e))))) ((LL.owed Sizes·.the-type Sizes·laws.the-laws (r₅) _ (is₇) .0, (is₁₅, (is₂₉, tt)))) (id⊢ 𝓤 (emp 𝓤))
+          (λ νs. cited 𝓤 H (tripleOf 𝓤 H A fn-feed-feed-feed.signature (fn-feed-feed-feed.spec 𝓤 H A (𝓜 .mem) (𝓡 .run))) 𝓜 𝓡 code.env fn-feed-feed-feed-def.name fn-feed-feed-feed-def.routine code.calls-feed·feed·feed (fn-feed-feed-feed-thm.met 𝓤 H 𝓜 𝓖 𝓡) (((νs .0 .0 ∷ [], (νs .1 .0 .0 ∷ [], (νs .1 .1 .0 .0 ∷ [], (νs .1 .1 .1 .0 .0 ∷ [], (νs .1 .1 .1 .1 .0 .0 ∷ [], tt))))), (fullShare, (fullShare, (fullShare, (fullShare, (fullShare, tt))))), tt, (lent-as b o (νs .0 .1) ((V₁ z) .memory .threads), (lent-as b′ o′ (νs .1 .0 .1) ((V₁ z) .memory .cpus), (lent-as b″ o″ (νs .1 .1 .0 .1) ((V₁ z) .memory .nodes), (lent-as b‴ o‴ (νs .1 .1 .1 .0 .1) (ws₁₄ .0), (lent-as b⁗ o⁗ (νs .1 .1 .1 .1 .0 .1) (z .1 .1 .1 .1 .0), ((r₅) .stream, (r₁₃, (r₂₇, tt)))))))), (slice-of b o ((V₁ z) .memory .threads) ∷ [], (slice-of b′ o′ ((V₁ z) .memory .cpus) ∷ [], (slice-of b″ o″ ((V₁ z) .memory .nodes) ∷ [], (slice-of b‴ o‴ (ws₁₄ .0) ∷ [], (slice-of b⁗ o⁗ (z .1 .1 .1 .1 .0) ∷ [], spell (number w64 ∷ truth ∷ Fed° ∷ []) (((r₅) .stream, (r₁₃, (r₂₇, tt)))))))))), tt))
           (λ k. and-then ! (load ! (from ! (stop !)) (look ! 36 refl)) (and-then ! (load ! (from ! (stop !)) (look ! 32 refl)) (and-then ! (load ! (from ! (stop !)) (look ! 28 refl)) (and-then ! (load ! (from ! (stop !)) (look ! 24 refl)) (and-then ! (load ! (from ! (stop !)) (look ! 20 refl)) (and-then ! (load ! (from ! (stop !)) (look ! 86 refl)) (and-then ! (load ! (from ! (stop !)) (look ! 82 refl)) (and-then ! (load ! (from ! (stop !)) (look ! 76 refl)) (no-more !))))))))) (λ r₃₁ ws₃₂ is₃₃ ls₃₄ e₃₅.
           split ! $
           move ! (1 ∷ []) $
@@ -354,14 +347,14 @@ module _ {M : Type 1} (𝓤 : URA M) (H : Heap 𝓤) (𝓜 : Model 𝓤 H) (𝓖
           rewrite ! 2 (λ (us : List (List ℕ)). ‵ (row (Array u64 32) fullShare us b″ o″)) (e₃₅ .1 .1 .1 .0) refl $
           rewrite ! 0 (λ (us : List ℕ). ‵ (row u8 fullShare us b⁗ o⁗)) (e₃₅ .1 .1 .1 .1) refl $
           told ! Fed° (e₃₅ .0) is₃₃ (λ is₃₆.
-          land ! (from ! (stop !)) (init ! 78 refl (Fed° .typed 𝓤 H A W (feedDef (ws₁₄ .0) ((r₅) .stream) r₁₃ (worldOf (V₂ z) (V₃ z) (V₄ z) (z .1 .1 .1 .1 .0) r₂₇) .fed) (is₃₆) .0)) $
+          land ! (from ! (stop !)) (init ! 78 refl (Fed° .typed 𝓤 H A W ((feedDef (ws₁₄ .0) ((r₅) .stream) r₁₃ (record { threads = (V₁ z) .memory .threads; cpus = (V₁ z) .memory .cpus; nodes = (V₁ z) .memory .nodes; output = z .1 .1 .1 .1 .0; fed = r₂₇ })) .fed) (is₃₆) .0)) $
           assigns ! (addr ! (from ! (fld ! refl (hop ! (look-in ! 100 (sub ! 0 refl (whole !))) (stop !))))) (from ! (stop !)) (init ! 22 refl (tt, tt)) $
           assigns ! (agg ! (and-then ! (load ! (from ! (stop !)) (look ! 22 refl)) (and-then ! (load ! (from ! (fld ! refl (stop !))) (look-in ! 100 (sub ! 1 refl (whole !)))) (no-more !)))) (from ! (stop !)) (init ! 20 refl (tt, (tt, (record { fits = room⁗ .0 }, tt)))) $
           nothing ! $
           move ! (1 ∷ 0 ∷ []) $
           join ! $
-          call-slices-none truth ([]) tt (emp 𝓤) ((shared u8 (feedDef (ws₁₄ .0) ((r₅) .stream) r₁₃ (worldOf (V₂ z) (V₃ z) (V₄ z) (z .1 .1 .1 .1 .0) r₂₇) .output) b⁗ o⁗ n⁗ ((w .1 .1 .1 .1 .0 ∙ sym (subst (λ (us : List ℕ). length us ≡ length (z .1 .1 .1 .1 .0)) (e₃₅ .1 .1 .1 .1) (ls₃₄ .1 .1 .1 .1 .0)))) room⁗) ∷ []) ! fm tt (id⊢ 𝓤 (emp 𝓤))
-          (λ νs. cited 𝓤 H (tripleOf 𝓤 H A fn-vectors-headed.signature (fn-vectors-headed.spec 𝓤 H A (𝓜 .mem) (𝓡 .run))) 𝓜 𝓡 code.env fn-vectors-headed-def.name fn-vectors-headed-def.routine code.calls-vectors·headed (fn-vectors-headed-thm.met 𝓤 H 𝓜 𝓖 𝓡) (((νs .0 .0 ∷ [], tt), (fullShare, tt), tt, (lent-as b⁗ o⁗ (νs .0 .1) (feedDef (ws₁₄ .0) ((r₅) .stream) r₁₃ (worldOf (V₂ z) (V₃ z) (V₄ z) (z .1 .1 .1 .1 .0) r₂₇) .output), tt), (slice-of b⁗ o⁗ (feedDef (ws₁₄ .0) ((r₅) .stream) r₁₃ (worldOf (V₂ z) (V₃ z) (V₄ z) (z .1 .1 .1 .1 .0) r₂₇) .output) ∷ [], spell ([]) tt)), tt))
+          call-slices-none truth ([]) tt (emp 𝓤) ((shared u8 ((feedDef (ws₁₄ .0) ((r₅) .stream) r₁₃ (record { threads = (V₁ z) .memory .threads; cpus = (V₁ z) .memory .cpus; nodes = (V₁ z) .memory .nodes; output = z .1 .1 .1 .1 .0; fed = r₂₇ })) .output) b⁗ o⁗ n⁗ ((w .1 .1 .1 .1 .0 ∙ sym (subst (λ (us : List ℕ). length us ≡ length (z .1 .1 .1 .1 .0)) (e₃₅ .1 .1 .1 .1) (ls₃₄ .1 .1 .1 .1 .0)))) room⁗) ∷ []) ! fm tt (id⊢ 𝓤 (emp 𝓤))
+          (λ νs. cited 𝓤 H (tripleOf 𝓤 H A fn-vectors-headed.signature (fn-vectors-headed.spec 𝓤 H A (𝓜 .mem) (𝓡 .run))) 𝓜 𝓡 code.env fn-vectors-headed-def.name fn-vectors-headed-def.routine code.calls-vectors·headed (fn-vectors-headed-thm.met 𝓤 H 𝓜 𝓖 𝓡) (((νs .0 .0 ∷ [], tt), (fullShare, tt), tt, (lent-as b⁗ o⁗ (νs .0 .1) ((feedDef (ws₁₄ .0) ((r₅) .stream) r₁₃ (record { threads = (V₁ z) .memory .threads; cpus = (V₁ z) .memory .cpus; nodes = (V₁ z) .memory .nodes; output = z .1 .1 .1 .1 .0; fed = r₂₇ })) .output), tt), (slice-of b⁗ o⁗ ((feedDef (ws₁₄ .0) ((r₅) .stream) r₁₃ (record { threads = (V₁ z) .memory .threads; cpus = (V₁ z) .memory .cpus; nodes = (V₁ z) .memory .nodes; output = z .1 .1 .1 .1 .0; fed = r₂₇ })) .output) ∷ [], spell ([]) tt)), tt))
           (λ k. and-then ! (load ! (from ! (stop !)) (look ! 20 refl)) (no-more !)) (λ r₃₇ ws₃₈ is₃₉ ls₄₀.
           split ! $
           move ! (1 ∷ []) $
@@ -376,8 +369,8 @@ module _ {M : Type 1} (𝓤 : URA M) (H : Heap 𝓤) (𝓜 : Model 𝓤 H) (𝓖
           join ! $
           move ! (1 ∷ 0 ∷ []) $
           join ! $
-          call-slices-none truth (number w64 ∷ number w64 ∷ []) (((feedDef (ws₁₄ .0) ((r₅) .stream) r₁₃ (worldOf (V₂ z) (V₃ z) (V₄ z) (z .1 .1 .1 .1 .0) r₂₇) .fed) .done, ((r₅) .lines, tt))) (emp 𝓤) ((shared u8 (feedDef (ws₁₄ .0) ((r₅) .stream) r₁₃ (worldOf (V₂ z) (V₃ z) (V₄ z) (z .1 .1 .1 .1 .0) r₂₇) .output) b⁗ o⁗ n⁗ ((w .1 .1 .1 .1 .0 ∙ sym (subst (λ (us : List ℕ). length us ≡ length (z .1 .1 .1 .1 .0)) (e₃₅ .1 .1 .1 .1) (ls₃₄ .1 .1 .1 .1 .0)))) room⁗) ∷ (shared u8 (ws₁₈ .0) b₅ o₅ n₅ ((w .1 .1 .1 .1 .1 .0 ∙ sym (ls₂₀ .0))) room₅) ∷ []) ! fm ((LL.owed Fed·.the-type Fed·laws.the-laws (feedDef (ws₁₄ .0) ((r₅) .stream) r₁₃ (worldOf (V₂ z) (V₃ z) (V₄ z) (z .1 .1 .1 .1 .0) r₂₇) .fed) _ (is₃₆) .1 .0, (LL.owed Sizes·.the-type Sizes·laws.the-laws (r₅) _ (is₇) .1 .0, tt))) (id⊢ 𝓤 (emp 𝓤))
-          (λ νs. cited 𝓤 H (tripleOf 𝓤 H A fn-vectors-equal.signature (fn-vectors-equal.spec 𝓤 H A (𝓜 .mem) (𝓡 .run))) 𝓜 𝓡 code.env fn-vectors-equal-def.name fn-vectors-equal-def.routine code.calls-vectors·equal (fn-vectors-equal-thm.met 𝓤 H 𝓜 𝓖 𝓡) (((νs .0 .0 ∷ [], (νs .1 .0 .0 ∷ [], tt)), (fullShare, (fullShare, tt)), tt, (lent-as b⁗ o⁗ (νs .0 .1) (feedDef (ws₁₄ .0) ((r₅) .stream) r₁₃ (worldOf (V₂ z) (V₃ z) (V₄ z) (z .1 .1 .1 .1 .0) r₂₇) .output), (lent-as b₅ o₅ (νs .1 .0 .1) (ws₁₈ .0), ((feedDef (ws₁₄ .0) ((r₅) .stream) r₁₃ (worldOf (V₂ z) (V₃ z) (V₄ z) (z .1 .1 .1 .1 .0) r₂₇) .fed) .done, ((r₅) .lines, tt)))), (slice-of b⁗ o⁗ (feedDef (ws₁₄ .0) ((r₅) .stream) r₁₃ (worldOf (V₂ z) (V₃ z) (V₄ z) (z .1 .1 .1 .1 .0) r₂₇) .output) ∷ [], (slice-of b₅ o₅ (ws₁₈ .0) ∷ [], spell (number w64 ∷ number w64 ∷ []) (((feedDef (ws₁₄ .0) ((r₅) .stream) r₁₃ (worldOf (V₂ z) (V₃ z) (V₄ z) (z .1 .1 .1 .1 .0) r₂₇) .fed) .done, ((r₅) .lines, tt)))))), tt))
+          call-slices-none truth (number w64 ∷ number w64 ∷ []) ((((feedDef (ws₁₄ .0) ((r₅) .stream) r₁₃ (record { threads = (V₁ z) .memory .threads; cpus = (V₁ z) .memory .cpus; nodes = (V₁ z) .memory .nodes; output = z .1 .1 .1 .1 .0; fed = r₂₇ })) .fed) .done, ((r₅) .lines, tt))) (emp 𝓤) ((shared u8 ((feedDef (ws₁₄ .0) ((r₅) .stream) r₁₃ (record { threads = (V₁ z) .memory .threads; cpus = (V₁ z) .memory .cpus; nodes = (V₁ z) .memory .nodes; output = z .1 .1 .1 .1 .0; fed = r₂₇ })) .output) b⁗ o⁗ n⁗ ((w .1 .1 .1 .1 .0 ∙ sym (subst (λ (us : List ℕ). length us ≡ length (z .1 .1 .1 .1 .0)) (e₃₅ .1 .1 .1 .1) (ls₃₄ .1 .1 .1 .1 .0)))) room⁗) ∷ (shared u8 (ws₁₈ .0) b₅ o₅ n₅ ((w .1 .1 .1 .1 .1 .0 ∙ sym (ls₂₀ .0))) room₅) ∷ []) ! fm ((LL.owed Fed·.the-type Fed·laws.the-laws ((feedDef (ws₁₄ .0) ((r₅) .stream) r₁₃ (record { threads = (V₁ z) .memory .threads; cpus = (V₁ z) .memory .cpus; nodes = (V₁ z) .memory .nodes; output = z .1 .1 .1 .1 .0; fed = r₂₇ })) .fed) _ (is₃₆) .1 .0, (LL.owed Sizes·.the-type Sizes·laws.the-laws (r₅) _ (is₇) .1 .0, tt))) (id⊢ 𝓤 (emp 𝓤))
+          (λ νs. cited 𝓤 H (tripleOf 𝓤 H A fn-vectors-equal.signature (fn-vectors-equal.spec 𝓤 H A (𝓜 .mem) (𝓡 .run))) 𝓜 𝓡 code.env fn-vectors-equal-def.name fn-vectors-equal-def.routine code.calls-vectors·equal (fn-vectors-equal-thm.met 𝓤 H 𝓜 𝓖 𝓡) (((νs .0 .0 ∷ [], (νs .1 .0 .0 ∷ [], tt)), (fullShare, (fullShare, tt)), tt, (lent-as b⁗ o⁗ (νs .0 .1) ((feedDef (ws₁₄ .0) ((r₅) .stream) r₁₃ (record { threads = (V₁ z) .memory .threads; cpus = (V₁ z) .memory .cpus; nodes = (V₁ z) .memory .nodes; output = z .1 .1 .1 .1 .0; fed = r₂₇ })) .output), (lent-as b₅ o₅ (νs .1 .0 .1) (ws₁₈ .0), (((feedDef (ws₁₄ .0) ((r₅) .stream) r₁₃ (record { threads = (V₁ z) .memory .threads; cpus = (V₁ z) .memory .cpus; nodes = (V₁ z) .memory .nodes; output = z .1 .1 .1 .1 .0; fed = r₂₇ })) .fed) .done, ((r₅) .lines, tt)))), (slice-of b⁗ o⁗ ((feedDef (ws₁₄ .0) ((r₅) .stream) r₁₃ (record { threads = (V₁ z) .memory .threads; cpus = (V₁ z) .memory .cpus; nodes = (V₁ z) .memory .nodes; output = z .1 .1 .1 .1 .0; fed = r₂₇ })) .output) ∷ [], (slice-of b₅ o₅ (ws₁₈ .0) ∷ [], spell (number w64 ∷ number w64 ∷ []) ((((feedDef (ws₁₄ .0) ((r₅) .stream) r₁₃ (record { threads = (V₁ z) .memory .threads; cpus = (V₁ z) .memory .cpus; nodes = (V₁ z) .memory .nodes; output = z .1 .1 .1 .1 .0; fed = r₂₇ })) .fed) .done, ((r₅) .lines, tt)))))), tt))
           (λ k. and-then ! (load ! (from ! (stop !)) (look ! 15 refl)) (and-then ! (load ! (from ! (stop !)) (look ! 11 refl)) (and-then ! (load ! (from ! (fld ! refl (stop !))) (look-in ! 77 (sub ! 1 refl (whole !)))) (and-then ! (load ! (from ! (stop !)) (look ! 87 refl)) (no-more !))))) (λ r₄₁ ws₄₂ is₄₃ ls₄₄.
           split ! $
           move ! (1 ∷ []) $
@@ -435,7 +428,7 @@ module _ {M : Type 1} (𝓤 : URA M) (H : Heap 𝓤) (𝓜 : Model 𝓤 H) (𝓖
           forget ! 14 refl $
           forget ! 12 refl $
           move ! (5 ∷ 6 ∷ 4 ∷ 7 ∷ 3 ∷ 8 ∷ 2 ∷ 9 ∷ 1 ∷ 10 ∷ 0 ∷ 11 ∷ 12 ∷ 13 ∷ 14 ∷ 15 ∷ 16 ∷ 17 ∷ 18 ∷ 19 ∷ 20 ∷ 21 ∷ 22 ∷ 23 ∷ 24 ∷ 25 ∷ 26 ∷ 27 ∷ 28 ∷ 29 ∷ 30 ∷ 31 ∷ 32 ∷ 33 ∷ 34 ∷ 35 ∷ 36 ∷ 37 ∷ 38 ∷ 39 ∷ 40 ∷ 41 ∷ 42 ∷ 43 ∷ 44 ∷ 45 ∷ 46 ∷ 47 ∷ 48 ∷ 49 ∷ 50 ∷ 51 ∷ 52 ∷ 53 ∷ 54 ∷ 55 ∷ 56 ∷ 57 ∷ 58 ∷ 59 ∷ 60 ∷ 61 ∷ 62 ∷ 63 ∷ 64 ∷ 65 ∷ 66 ∷ 67 ∷ 68 ∷ 69 ∷ 70 ∷ 71 ∷ 72 ∷ 73 ∷ 74 ∷ 75 ∷ 76 ∷ 77 ∷ 78 ∷ 79 ∷ 80 ∷ 81 ∷ 82 ∷ 83 ∷ 84 ∷ 85 ∷ 86 ∷ 87 ∷ 88 ∷ 89 ∷ 90 ∷ 91 ∷ 92 ∷ 93 ∷ 94 ∷ 95 ∷ 96 ∷ 97 ∷ 98 ∷ 99 ∷ 100 ∷ 101 ∷ 102 ∷ 103 ∷ 104 ∷ 105 ∷ 106 ∷ 107 ∷ 108 ∷ 109 ∷ 110 ∷ 111 ∷ []) $
-          again ! nearer I (z, w) ((feedDef (ws₁₄ .0) ((r₅) .stream) r₁₃ (worldOf (V₂ z) (V₃ z) (V₄ z) (z .1 .1 .1 .1 .0) r₂₇) .threads, (feedDef (ws₁₄ .0) ((r₅) .stream) r₁₃ (worldOf (V₂ z) (V₃ z) (V₄ z) (z .1 .1 .1 .1 .0) r₂₇) .cpus, (feedDef (ws₁₄ .0) ((r₅) .stream) r₁₃ (worldOf (V₂ z) (V₃ z) (V₄ z) (z .1 .1 .1 .1 .0) r₂₇) .nodes, (ws₁₄ .0, (feedDef (ws₁₄ .0) ((r₅) .stream) r₁₃ (worldOf (V₂ z) (V₃ z) (V₄ z) (z .1 .1 .1 .1 .0) r₂₇) .output, (ws₁₈ .0, (r₄₅, (z .1 .1 .1 .1 .1 .1 .1) - (1)))))))), (((w .0 ∙ sym (subst (λ (us : List Thread). length us ≡ length (z .0)) (e₂₅ .1 .0) (ls₂₄ .0))) ∙ sym (subst (λ (us : List Thread). length us ≡ length (V₂ z)) (e₃₅ .1 .0) (ls₃₄ .0))), (((w .1 .0 ∙ sym (subst (λ (us : List (List ℕ)). length us ≡ length (z .1 .0)) (e₂₅ .1 .1 .0) (ls₂₄ .1 .0))) ∙ sym (subst (λ (us : List (List ℕ)). length us ≡ length (V₃ z)) (e₃₅ .1 .1 .0) (ls₃₄ .1 .0))), (((w .1 .1 .0 ∙ sym (subst (λ (us : List (List ℕ)). length us ≡ length (z .1 .1 .0)) (e₂₅ .1 .1 .1) (ls₂₄ .1 .1 .0))) ∙ sym (subst (λ (us : List (List ℕ)). length us ≡ length (V₄ z)) (e₃₅ .1 .1 .1 .0) (ls₃₄ .1 .1 .0))), (((w .1 .1 .1 .0 ∙ sym (ls₈ .0)) ∙ sym (ls₁₆ .0)), ((w .1 .1 .1 .1 .0 ∙ sym (subst (λ (us : List ℕ). length us ≡ length (z .1 .1 .1 .1 .0)) (e₃₅ .1 .1 .1 .1) (ls₃₄ .1 .1 .1 .1 .0))), ((w .1 .1 .1 .1 .1 .0 ∙ sym (ls₂₀ .0)), (is₄₇, ((refl, lt-of-le-of-lt (sub-le (z .1 .1 .1 .1 .1 .1 .1) (1)) (w .1 .1 .1 .1 .1 .1 .1 .0 .1)), (tt)))))))))) (omega (arith, ltb→lt 0 (z .1 .1 .1 .1 .1 .1 .1) h₁))))))))))))))))
+          again ! nearer I (z, w) (((feedDef (ws₁₄ .0) ((r₅) .stream) r₁₃ (record { threads = (V₁ z) .memory .threads; cpus = (V₁ z) .memory .cpus; nodes = (V₁ z) .memory .nodes; output = z .1 .1 .1 .1 .0; fed = r₂₇ })) .threads, ((feedDef (ws₁₄ .0) ((r₅) .stream) r₁₃ (record { threads = (V₁ z) .memory .threads; cpus = (V₁ z) .memory .cpus; nodes = (V₁ z) .memory .nodes; output = z .1 .1 .1 .1 .0; fed = r₂₇ })) .cpus, ((feedDef (ws₁₄ .0) ((r₅) .stream) r₁₃ (record { threads = (V₁ z) .memory .threads; cpus = (V₁ z) .memory .cpus; nodes = (V₁ z) .memory .nodes; output = z .1 .1 .1 .1 .0; fed = r₂₇ })) .nodes, (ws₁₄ .0, ((feedDef (ws₁₄ .0) ((r₅) .stream) r₁₃ (record { threads = (V₁ z) .memory .threads; cpus = (V₁ z) .memory .cpus; nodes = (V₁ z) .memory .nodes; output = z .1 .1 .1 .1 .0; fed = r₂₇ })) .output, (ws₁₈ .0, (r₄₅, (z .1 .1 .1 .1 .1 .1 .1) - (1)))))))), (((w .0 ∙ sym (subst (λ (us : List Thread). length us ≡ length (z .0)) (e₂₅ .1 .0) (ls₂₄ .0))) ∙ sym (subst (λ (us : List Thread). length us ≡ length ((V₁ z) .memory .threads)) (e₃₅ .1 .0) (ls₃₄ .0))), (((w .1 .0 ∙ sym (subst (λ (us : List (List ℕ)). length us ≡ length (z .1 .0)) (e₂₅ .1 .1 .0) (ls₂₄ .1 .0))) ∙ sym (subst (λ (us : List (List ℕ)). length us ≡ length ((V₁ z) .memory .cpus)) (e₃₅ .1 .1 .0) (ls₃₄ .1 .0))), (((w .1 .1 .0 ∙ sym (subst (λ (us : List (List ℕ)). length us ≡ length (z .1 .1 .0)) (e₂₅ .1 .1 .1) (ls₂₄ .1 .1 .0))) ∙ sym (subst (λ (us : List (List ℕ)). length us ≡ length ((V₁ z) .memory .nodes)) (e₃₅ .1 .1 .1 .0) (ls₃₄ .1 .1 .0))), (((w .1 .1 .1 .0 ∙ sym (ls₈ .0)) ∙ sym (ls₁₆ .0)), ((w .1 .1 .1 .1 .0 ∙ sym (subst (λ (us : List ℕ). length us ≡ length (z .1 .1 .1 .1 .0)) (e₃₅ .1 .1 .1 .1) (ls₃₄ .1 .1 .1 .1 .0))), ((w .1 .1 .1 .1 .1 .0 ∙ sym (ls₂₀ .0)), (is₄₇, ((refl, lt-of-le-of-lt (sub-le (z .1 .1 .1 .1 .1 .1 .1) (1)) (w .1 .1 .1 .1 .1 .1 .1 .0 .1)), (tt)))))))))) (omega (arith, ltb→lt 0 (z .1 .1 .1 .1 .1 .1 .1) h₁))))))))))))))))
           (λ h₁. exec ! C Λ En mir.t-4 (atRet En Post) $
           assigns ! (of-opd ! (load ! (from ! (stop !)) (look ! 96 refl))) (from ! (stop !)) (init ! 110 refl (Tally° .typed 𝓤 H A W (z .1 .1 .1 .1 .1 .1 .0) (w .1 .1 .1 .1 .1 .1 .0) .0)) $
           move ! (10 ∷ 11 ∷ []) $

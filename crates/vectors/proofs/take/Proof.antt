@@ -3,31 +3,22 @@ use mathlib.Core.Path.{sym}
 use borrow.Author.Needs.{needs}
 use Rattle.vectors.proofs.take.Statement.{statement}
 use Rattle.vectors.proofs.take.Tie as tie
-use Rattle.vectors.proofs.take.Reads as reads
-use Rattle.vectors.proofs.take.Lts as lts
-use Rattle.io.proofs.read_full.Reads as read-full-reads
 
--- src/main.rt:84:53
 slice-relend-prefix-read-full : tie.Need-slice-relend-prefix-read-full
 slice-relend-prefix-read-full c = search needs
 
--- src/main.rt:84:53
 slice-aggregate-read-full : tie.Need-slice-aggregate-read-full
 slice-aggregate-read-full c = sym (length-take-le _ _ (c .before .if1 .taken))
 
--- src/main.rt:84:13
 read-full-requires : tie.Need-read-full-requires
 read-full-requires c κs = search needs
 
--- src/main.rt:85:9
 same-length : tie.Need-same-length
 same-length c = search needs
 
--- src/main.rt:85:9
 returns : tie.Need-returns
 returns c = search needs
 
--- src/main.rt:82:1
 returns-2 : tie.Need-returns-2
 returns-2 c = search needs
 

@@ -3,22 +3,16 @@ use native.Mathlib.Omega.{arith}
 use borrow.Author.Needs.{needs}
 use Rattle.vectors.proofs.times.Statement.{statement}
 use Rattle.vectors.proofs.times.Tie as tie
-use Rattle.vectors.proofs.times.Reads as reads
-use Rattle.vectors.proofs.times.Lts as lts
 
--- src/main.rt:39:20
 mul-result : tie.Need-mul-result
 mul-result c = omega (arith, mul-le-mul {n₂ = 256} {m₂ = 16777216} (le-of-lt (c .before .if1 .taken)) (c .if2 .taken))
 
--- src/main.rt:39:13
 returns : tie.Need-returns
 returns c = search needs
 
--- src/main.rt:36:1
 returns-2 : tie.Need-returns-2
 returns-2 c = search needs
 
--- src/main.rt:36:1
 returns-3 : tie.Need-returns-3
 returns-3 c = search needs
 

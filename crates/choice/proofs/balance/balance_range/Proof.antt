@@ -21,27 +21,21 @@ Inv-loop cpus nodes us allowed n from to e₀ c₀ e c = extremes us (contains a
 abbrev μ-loop : tie.MeasureT-loop
 μ-loop cpus nodes us allowed n from to e₀ c₀ e c = to - c
 
--- src/balance.rt:130:5
 loop-holds : tie.Need-loop-holds Inv-loop μ-loop
 loop-holds c = refl
 
--- src/balance.rt:131:9
 compare-requires : tie.Need-compare-requires Inv-loop μ-loop
 compare-requires c κs = search needs
 
--- src/balance.rt:132:9
 add-c : tie.Need-add-c Inv-loop μ-loop
 add-c c = search needs
 
--- src/balance.rt:130:5
 loop-less : tie.Need-loop-less Inv-loop μ-loop
 loop-less c = search needs
 
--- src/balance.rt:130:5
 loop-again : tie.Need-loop-again Inv-loop μ-loop
 loop-again c = rw (c .compare .ensures) (c .before .before .loop .inv ∙ extremes-turn _ _ _ _ _ _ _ (c .before .loop-test .taken))
 
--- src/balance.rt:110:1
 returns : tie.Need-returns Inv-loop μ-loop
 returns c = sym (c .before .loop .inv ∙ extremes-end _ _ _ _ _ _ _ (c .loop-test .left))
 

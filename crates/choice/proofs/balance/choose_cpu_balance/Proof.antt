@@ -6,27 +6,21 @@ use borrow.Author.Needs.{needs}
 use Rattle.choice.proofs.balance.choose_cpu_balance.Statement.{statement}
 use Rattle.choice.proofs.balance.choose_cpu_balance.Tie as tie
 
--- src/balance.rt:175:9
 first-requires : tie.Need-first-requires
 first-requires c κs = search needs
 
--- src/balance.rt:176:9
 end-requires : tie.Need-end-requires
 end-requires c κs = search needs
 
--- src/balance.rt:177:9
 start-requires : tie.Need-start-requires
 start-requires c κs = search needs
 
--- src/balance.rt:178:9
 balance-range-requires : tie.Need-balance-range-requires
 balance-range-requires c κs = search needs
 
--- src/balance.rt:180:9
 pair-of-requires : tie.Need-pair-of-requires
 pair-of-requires c κs = search needs
 
--- src/balance.rt:159:1
 returns : tie.Need-returns
 unfolding chosen-in choose-cpu-balance cpus-at unraised extremes-in finished
 returns c = rw (c .pair-of .ensures) (ap finished (rw (c .before .before .start .ensures, c .before .before .before .end .ensures, c .before .before .before .before .first .ensures) at (c .before .balance-range .ensures)))

@@ -6,12 +6,10 @@ use borrow.Author.Needs.{needs}
 use Rattle.choice.proofs.balance.pair_unless.Statement.{statement}
 use Rattle.choice.proofs.balance.pair_unless.Tie as tie
 
--- src/balance.rt:141:9
 returns : tie.Need-returns
 unfolding pair-in pair-of
 returns c = rw (eq-eqb _ _ (c .if1 .taken))
 
--- src/balance.rt:137:1
 returns-2 : tie.Need-returns-2
 unfolding pair-in pair-of
 returns-2 c = rw (ne-eqb _ _ (c .if1 .left))

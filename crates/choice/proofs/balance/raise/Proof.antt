@@ -4,23 +4,18 @@ use borrow.Author.Needs.{needs}
 use Rattle.choice.proofs.balance.raise.Statement.{statement}
 use Rattle.choice.proofs.balance.raise.Tie as tie
 
--- src/balance.rt:78:9
 next-state-requires : tie.Need-next-state-requires
 next-state-requires c κs = search needs
 
--- src/balance.rt:79:19
 current-load-requires : tie.Need-current-load-requires
 current-load-requires c κs = search needs
 
--- src/balance.rt:79:9
 score-requires : tie.Need-score-requires
 score-requires c κs = search needs
 
--- src/balance.rt:80:5
 weigh-requires : tie.Need-weigh-requires
 weigh-requires c κs = search needs
 
--- src/balance.rt:75:1
 returns : tie.Need-returns
 unfolding raised weight-at extremes-in
 returns c = rw (c .weigh .ensures, c .before .score .ensures, c .before .before .current-load .ensures, c .before .before .before .next-state .ensures)

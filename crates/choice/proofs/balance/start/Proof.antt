@@ -4,7 +4,6 @@ use Rattle.choice.specs.Found.{best-in}
 use Rattle.choice.proofs.balance.start.Statement.{statement}
 use Rattle.choice.proofs.balance.start.Tie as tie
 
--- src/balance.rt:42:1
 returns : tie.Need-returns
 unfolding extremes-in unraised best-in
 returns c = search needs

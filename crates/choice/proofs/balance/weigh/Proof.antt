@@ -6,16 +6,13 @@ use borrow.Author.Needs.{needs}
 use Rattle.choice.proofs.balance.weigh.Statement.{statement}
 use Rattle.choice.proofs.balance.weigh.Tie as tie
 
--- src/balance.rt:59:9
 returns : tie.Need-returns
 unfolding extremes-in weigh
 returns c = rw (lt-ltb _ _ (c .if1 .taken))
 
--- src/balance.rt:66:9
 lower-requires : tie.Need-lower-requires
 lower-requires c κs = search needs
 
--- src/balance.rt:54:1
 returns-2 : tie.Need-returns-2
 unfolding extremes-in weigh
 returns-2 c = rw (le-ltb _ _ (c .before .if1 .left), c .lower .ensures)

@@ -3,7 +3,6 @@ use Rattle.choice.specs.Found.{begun, best-in, searched-in}
 use Rattle.choice.proofs.find.begin.Statement.{statement}
 use Rattle.choice.proofs.find.begin.Tie as tie
 
--- src/find.rt:34:1
 returns : tie.Need-returns
 unfolding searched-in begun best-in
 returns c = search needs

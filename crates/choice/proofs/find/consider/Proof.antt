@@ -3,29 +3,23 @@ use borrow.Author.Needs.{needs}
 use Rattle.choice.proofs.find.consider.Statement.{statement}
 use Rattle.choice.proofs.find.consider.Tie as tie
 
--- src/find.rt:94:8
 contains-requires : tie.Need-contains-requires
 contains-requires c κs = search needs
 
--- src/find.rt:95:12
 skips-requires : tie.Need-skips-requires
 skips-requires c κs = search needs
 
--- src/find.rt:96:13
 returns : tie.Need-returns
 unfolding considered
 returns c = rw (← c .before .before .before .contains .ensures, c .before .before .if1 .taken, ← c .before .skips .ensures, c .if2 .taken)
 
--- src/find.rt:98:9
 weigh-requires : tie.Need-weigh-requires
 weigh-requires c κs = search needs
 
--- src/find.rt:98:9
 returns-2 : tie.Need-returns-2
 unfolding considered
 returns-2 c = rw (← c .before .before .before .before .contains .ensures, c .before .before .before .if1 .taken, ← c .before .before .skips .ensures, c .before .if2 .left) (c .weigh .ensures)
 
--- src/find.rt:77:1
 returns-3 : tie.Need-returns-3
 unfolding considered
 returns-3 c = rw (← c .before .contains .ensures, c .if1 .left)

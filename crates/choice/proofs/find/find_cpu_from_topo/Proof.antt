@@ -20,44 +20,34 @@ Inv-loop cpus nodes us limit pri draws f₀ n₀ fuel₀ f n fuel = find-cpu us 
 abbrev μ-loop : tie.MeasureT-loop
 μ-loop cpus nodes us limit pri draws f₀ n₀ fuel₀ f n fuel = fuel
 
--- src/find.rt:175:9
 begin-requires : tie.Need-begin-requires Inv-loop μ-loop
 begin-requires c κs = search needs
 
--- src/find.rt:176:9
 word-requires : tie.Need-word-requires Inv-loop μ-loop
 word-requires c κs = search needs
 
--- src/find.rt:178:5
 loop-holds : tie.Need-loop-holds Inv-loop μ-loop
 unfolding visited-at
 loop-holds c = rw (c .word .ensures, c .before .begin .ensures)
 
--- src/find.rt:179:9
 search-leaf-requires : tie.Need-search-leaf-requires Inv-loop μ-loop
 search-leaf-requires c κs = search needs
 
--- src/find.rt:181:13
 returns : tie.Need-returns Inv-loop μ-loop
 returns c = c .before .search-leaf .ensures ∙ sym (c .before .before .before .loop .inv ∙ find-node _ _ _ _ _ _ _ _ _ (c .before .before .loop-test .taken) ∙ rw (eq-eqb _ _ (c .if1 .taken)))
 
--- src/find.rt:183:9
 word-requires-2 : tie.Need-word-requires-2 Inv-loop μ-loop
 word-requires-2 c κs = search needs
 
--- src/find.rt:184:9
 sub-fuel : tie.Need-sub-fuel Inv-loop μ-loop
 sub-fuel c = search needs
 
--- src/find.rt:178:5
 loop-less : tie.Need-loop-less Inv-loop μ-loop
 loop-less c = search needs
 
--- src/find.rt:178:5
 loop-again : tie.Need-loop-again Inv-loop μ-loop
 loop-again c = c .before .before .before .before .loop .inv ∙ find-node _ _ _ _ _ _ _ _ _ (c .before .before .before .loop-test .taken) ∙ rw (ne-eqb _ _ (c .before .if1 .left), c .word2 .ensures, c .before .before .search-leaf .ensures)
 
--- src/find.rt:159:1
 returns-2 : tie.Need-returns-2 Inv-loop μ-loop
 unfolding to-root join-all find-cpu
 returns-2 c = let e : c .before .loop .fuel ≡ 0 = omega arith in sym (c .before .loop .inv ∙ rw e)

@@ -4,24 +4,19 @@ use borrow.Author.Needs.{needs}
 use Rattle.choice.proofs.find.lower.Statement.{statement}
 use Rattle.choice.proofs.find.lower.Tie as tie
 
--- src/find.rt:60:26
 enum-told : tie.Need-enum-told
 enum-told c = search needs
 
--- src/find.rt:61:28
 enum-known-found : tie.Need-enum-known-found
 enum-known-found c = search needs
 
--- src/find.rt:61:43
 lower-of-requires : tie.Need-lower-of-requires
 lower-of-requires c κs = search needs
 
--- src/find.rt:56:1
 returns : tie.Need-returns
 unfolding best-in lower
 returns c = rw (c .enum-told .given .1)
 
--- src/find.rt:56:1
 returns-2 : tie.Need-returns-2
 unfolding best-in lower
 returns-2 c = rw (c .before .before .found .given .1) (c .lower-of .ensures)

@@ -6,12 +6,10 @@ use borrow.Author.Needs.{needs}
 use Rattle.choice.proofs.find.lower_of.Statement.{statement}
 use Rattle.choice.proofs.find.lower_of.Tie as tie
 
--- src/find.rt:48:9
 returns : tie.Need-returns
 unfolding best-in lower
 returns c = rw (lt-ltb _ _ (c .if1 .taken))
 
--- src/find.rt:44:1
 returns-2 : tie.Need-returns-2
 unfolding best-in lower
 returns-2 c = rw (le-ltb _ _ (c .if1 .left))

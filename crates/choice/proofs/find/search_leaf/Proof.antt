@@ -5,28 +5,22 @@ use borrow.Author.Needs.{needs}
 use Rattle.choice.proofs.find.search_leaf.Statement.{statement}
 use Rattle.choice.proofs.find.search_leaf.Tie as tie
 
--- src/find.rt:150:8
 has-children-requires : tie.Need-has-children-requires
 has-children-requires c κs = search needs
 
--- src/find.rt:151:9
 returns : tie.Need-returns
 unfolding leaf-cpus find-cpu
 returns c = rw (← c .before .has-children .ensures, c .if1 .taken)
 
--- src/find.rt:153:9
 first-requires : tie.Need-first-requires
 first-requires c κs = search needs
 
--- src/find.rt:154:9
 end-requires : tie.Need-end-requires
 end-requires c κs = search needs
 
--- src/find.rt:155:5
 search-range-requires : tie.Need-search-range-requires
 search-range-requires c κs = search needs
 
--- src/find.rt:133:1
 returns-2 : tie.Need-returns-2
 unfolding leaf-cpus cpus-at
 returns-2 c = rw (← c .before .before .before .before .has-children .ensures, c .before .before .before .if1 .left, c .search-range .ensures, c .before .end .ensures, c .before .before .first .ensures)

@@ -21,27 +21,21 @@ Inv-loop cpus nodes us pri n from to f₀ c₀ f c = find-cpu us (skips-at cpus 
 abbrev μ-loop : tie.MeasureT-loop
 μ-loop cpus nodes us pri n from to f₀ c₀ f c = to - c
 
--- src/find.rt:125:5
 loop-holds : tie.Need-loop-holds Inv-loop μ-loop
 loop-holds c = refl
 
--- src/find.rt:126:9
 consider-requires : tie.Need-consider-requires Inv-loop μ-loop
 consider-requires c κs = search needs
 
--- src/find.rt:127:9
 add-c : tie.Need-add-c Inv-loop μ-loop
 add-c c = search needs
 
--- src/find.rt:125:5
 loop-less : tie.Need-loop-less Inv-loop μ-loop
 loop-less c = search needs
 
--- src/find.rt:125:5
 loop-again : tie.Need-loop-again Inv-loop μ-loop
 loop-again c = rw (c .consider .ensures) (c .before .before .loop .inv ∙ find-turn _ _ _ _ _ _ _ (c .before .loop-test .taken))
 
--- src/find.rt:104:1
 returns : tie.Need-returns Inv-loop μ-loop
 returns c = sym (c .before .loop .inv ∙ find-end _ _ _ _ _ _ _ (c .loop-test .left))
 

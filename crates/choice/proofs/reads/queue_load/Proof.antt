@@ -3,11 +3,9 @@ use borrow.Author.Needs.{needs}
 use Rattle.choice.proofs.reads.queue_load.Statement.{statement}
 use Rattle.choice.proofs.reads.queue_load.Tie as tie
 
--- src/reads.rt:49:5
 word-requires : tie.Need-word-requires
 word-requires c κs = search needs
 
--- src/reads.rt:46:1
 returns : tie.Need-returns
 unfolding queue-load-at
 returns c = search needs

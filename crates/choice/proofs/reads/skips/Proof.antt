@@ -4,28 +4,22 @@ use borrow.Author.Needs.{needs}
 use Rattle.choice.proofs.reads.skips.Statement.{statement}
 use Rattle.choice.proofs.reads.skips.Tie as tie
 
--- src/reads.rt:40:30
 enum-known-pri : tie.Need-enum-known-pri
 enum-known-pri c = search needs
 
--- src/reads.rt:40:44
 current-priority-requires : tie.Need-current-priority-requires
 current-priority-requires c κs = search needs
 
--- src/reads.rt:40:36
 less-requires : tie.Need-less-requires
 less-requires c κs = search needs
 
--- src/reads.rt:41:33
 enum-told : tie.Need-enum-told
 enum-told c = search needs
 
--- src/reads.rt:36:1
 returns : tie.Need-returns
 unfolding skips-at held
 returns c = rw (c .before .before .before .pri .given .1, c .less .ensures, c .before .current-priority .ensures)
 
--- src/reads.rt:36:1
 returns-2 : tie.Need-returns-2
 unfolding skips-at held
 returns-2 c = search needs

@@ -4,24 +4,19 @@ use borrow.Author.Needs.{needs}
 use Rattle.choice.proofs.select.accepted.Statement.{statement}
 use Rattle.choice.proofs.select.accepted.Tie as tie
 
--- src/select.rt:76:26
 enum-told : tie.Need-enum-told
 enum-told c = search needs
 
--- src/select.rt:77:31
 enum-known-found : tie.Need-enum-known-found
 enum-known-found c = search needs
 
--- src/select.rt:77:40
 accepted-unless-requires : tie.Need-accepted-unless-requires
 accepted-unless-requires c κs = search needs
 
--- src/select.rt:72:1
 returns : tie.Need-returns
 unfolding accepted best-in
 returns c = search needs
 
--- src/select.rt:72:1
 returns-2 : tie.Need-returns-2
 unfolding accepted best-in
 returns-2 c = rw (c .before .before .found .given .1) (c .accepted-unless .ensures)

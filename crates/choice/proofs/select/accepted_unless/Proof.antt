@@ -4,16 +4,13 @@ use borrow.Author.Needs.{needs}
 use Rattle.choice.proofs.select.accepted_unless.Statement.{statement}
 use Rattle.choice.proofs.select.accepted_unless.Tie as tie
 
--- src/select.rt:65:8
 same-cpu-requires : tie.Need-same-cpu-requires
 same-cpu-requires c κs = search needs
 
--- src/select.rt:66:9
 returns : tie.Need-returns
 unfolding accepted best-in
 returns c = rw (← c .before .same-cpu .ensures, c .if1 .taken)
 
--- src/select.rt:62:1
 returns-2 : tie.Need-returns-2
 unfolding accepted best-in
 returns-2 c = rw (← c .before .same-cpu .ensures, c .if1 .left)

@@ -4,24 +4,19 @@ use borrow.Author.Needs.{needs}
 use Rattle.choice.proofs.select.at_once.Statement.{statement}
 use Rattle.choice.proofs.select.at_once.Tie as tie
 
--- src/select.rt:48:25
 enum-known-preferred : tie.Need-enum-known-preferred
 enum-known-preferred c = search needs
 
--- src/select.rt:48:31
 runs-at-once-requires : tie.Need-runs-at-once-requires
 runs-at-once-requires c κs = search needs
 
--- src/select.rt:49:28
 enum-told : tie.Need-enum-told
 enum-told c = search needs
 
--- src/select.rt:44:1
 returns : tie.Need-returns
 unfolding at-once named
 returns c = rw (c .before .before .preferred .given .1) (c .runs-at-once .ensures)
 
--- src/select.rt:44:1
 returns-2 : tie.Need-returns-2
 unfolding at-once named
 returns-2 c = search needs

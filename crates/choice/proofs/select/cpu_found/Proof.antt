@@ -5,20 +5,16 @@ use borrow.Author.Needs.{needs}
 use Rattle.choice.proofs.select.cpu_found.Statement.{statement}
 use Rattle.choice.proofs.select.cpu_found.Tie as tie
 
--- src/select.rt:57:26
 enum-told : tie.Need-enum-told
 enum-told c = search needs
 
--- src/select.rt:58:31
 enum-known-found : tie.Need-enum-known-found
 enum-known-found c = search needs
 
--- src/select.rt:53:1
 returns : tie.Need-returns
 unfolding as-cpu cpu-found best-in
 returns c = search needs
 
--- src/select.rt:53:1
 returns-2 : tie.Need-returns-2
 unfolding cpu-found best-in as-cpu
 returns-2 c = rw (c .before .found .given .1)

@@ -5,33 +5,26 @@ use borrow.Author.Needs.{needs}
 use Rattle.choice.proofs.select.runs_at_once.Statement.{statement}
 use Rattle.choice.proofs.select.runs_at_once.Tie as tie
 
--- src/select.rt:35:8
 same-cpu-requires : tie.Need-same-cpu-requires
 same-cpu-requires c κs = search needs
 
--- src/select.rt:36:9
 returns : tie.Need-returns
 unfolding runs-at-once
 returns c = rw (← c .before .same-cpu .ensures, c .if1 .taken)
 
--- src/select.rt:38:8
 queue-load-requires : tie.Need-queue-load-requires
 queue-load-requires c κs = search needs
 
--- src/select.rt:39:9
 returns-2 : tie.Need-returns-2
 unfolding runs-at-once
 returns-2 c = rw (← c .before .before .before .same-cpu .ensures, c .before .before .if1 .left, ← c .before .queue-load .ensures, eq-eqb _ _ (c .if2 .taken))
 
--- src/select.rt:41:10
 current-priority-requires : tie.Need-current-priority-requires
 current-priority-requires c κs = search needs
 
--- src/select.rt:41:5
 less-requires : tie.Need-less-requires
 less-requires c κs = search needs
 
--- src/select.rt:32:1
 returns-3 : tie.Need-returns-3
 unfolding runs-at-once
 returns-3 c = rw (← c .before .before .before .before .before .same-cpu .ensures, c .before .before .before .before .if1 .left, ← c .before .before .before .queue-load .ensures, ne-eqb _ _ (c .before .before .if2 .left), c .less .ensures, c .before .current-priority .ensures)

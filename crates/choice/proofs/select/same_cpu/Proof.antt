@@ -4,20 +4,16 @@ use borrow.Author.Needs.{needs}
 use Rattle.choice.proofs.select.same_cpu.Statement.{statement}
 use Rattle.choice.proofs.select.same_cpu.Tie as tie
 
--- src/select.rt:26:25
 enum-known-avoid : tie.Need-enum-known-avoid
 enum-known-avoid c = search needs
 
--- src/select.rt:27:28
 enum-told : tie.Need-enum-told
 enum-told c = search needs
 
--- src/select.rt:22:1
 returns : tie.Need-returns
 unfolding same-cpu named
 returns c = rw (c .before .avoid .given .1)
 
--- src/select.rt:22:1
 returns-2 : tie.Need-returns-2
 unfolding same-cpu named
 returns-2 c = search needs

@@ -5,24 +5,19 @@ use borrow.Author.Needs.{needs}
 use Rattle.choice.proofs.select.search_twice.Statement.{statement}
 use Rattle.choice.proofs.select.search_twice.Tie as tie
 
--- src/select.rt:93:9
 find-cpu-from-topo-requires : tie.Need-find-cpu-from-topo-requires
 find-cpu-from-topo-requires c κs = search needs
 
--- src/select.rt:95:8
 accepted-requires : tie.Need-accepted-requires
 accepted-requires c κs = search needs
 
--- src/select.rt:96:9
 returns : tie.Need-returns
 unfolding search-twice search-again search-from held searched-in
 returns c = rw (← c .before .before .find-cpu-from-topo .ensures, ← c .before .accepted .ensures, c .if1 .taken)
 
--- src/select.rt:98:5
 find-cpu-from-topo-requires-2 : tie.Need-find-cpu-from-topo-requires-2
 find-cpu-from-topo-requires-2 c κs = search needs
 
--- src/select.rt:82:1
 returns-2 : tie.Need-returns-2
 unfolding search-twice search-again search-from held searched-in
 returns-2 c = rw (← c .before .before .before .find-cpu-from-topo .ensures, ← c .before .before .accepted .ensures, c .before .if1 .left) (c .find-cpu-from-topo2 .ensures)

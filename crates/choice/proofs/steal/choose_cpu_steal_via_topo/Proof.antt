@@ -21,45 +21,35 @@ Inv-loop cpus nodes us limit node n₀ fuel₀ n fuel = first-that (may-steal-fr
 abbrev μ-loop : tie.MeasureT-loop
 μ-loop cpus nodes us limit node n₀ fuel₀ n fuel = fuel
 
--- src/steal.rt:109:5
 loop-holds : tie.Need-loop-holds Inv-loop μ-loop
 unfolding nearest-at
 loop-holds c = refl
 
--- src/steal.rt:110:13
 steal-node-requires : tie.Need-steal-node-requires Inv-loop μ-loop
 steal-node-requires c κs = search needs
 
--- src/steal.rt:111:12
 is-some-requires : tie.Need-is-some-requires Inv-loop μ-loop
 is-some-requires c κs = search needs
 
--- src/steal.rt:112:13
 returns : tie.Need-returns Inv-loop μ-loop
 returns c = c .before .before .steal-node .ensures ∙ ap as-cpu (sym (c .before .before .before .before .loop .inv ∙ first-here _ _ _ _ _ _ (c .before .before .before .loop-test .taken) (found-so _ _ _ _ (c .before .before .steal-node .ensures) (c .before .is-some .ensures) (c .if1 .taken))))
 
--- src/steal.rt:115:13
 returns-2 : tie.Need-returns-2 Inv-loop μ-loop
 unfolding as-cpu
 returns-2 c = rw (c .before .before .before .before .before .loop .inv, first-on _ _ _ _ _ _ (c .before .before .before .before .loop-test .taken) (found-so _ _ _ _ (c .before .before .before .steal-node .ensures) (c .before .before .is-some .ensures) (c .before .if1 .left)), eq-eqb _ _ (c .if2 .taken))
 
--- src/steal.rt:117:9
 word-requires : tie.Need-word-requires Inv-loop μ-loop
 word-requires c κs = search needs
 
--- src/steal.rt:118:9
 sub-fuel : tie.Need-sub-fuel Inv-loop μ-loop
 sub-fuel c = search needs
 
--- src/steal.rt:109:5
 loop-less : tie.Need-loop-less Inv-loop μ-loop
 loop-less c = search needs
 
--- src/steal.rt:109:5
 loop-again : tie.Need-loop-again Inv-loop μ-loop
 loop-again c = c .before .before .before .before .before .before .loop .inv ∙ first-on _ _ _ _ _ _ (c .before .before .before .before .before .loop-test .taken) (found-so _ _ _ _ (c .before .before .before .before .steal-node .ensures) (c .before .before .before .is-some .ensures) (c .before .before .if1 .left)) ∙ rw (ne-eqb _ _ (c .before .if2 .left), c .word .ensures)
 
--- src/steal.rt:92:1
 returns-3 : tie.Need-returns-3 Inv-loop μ-loop
 unfolding as-cpu to-root join-all first-that
 returns-3 c = let e : c .before .loop .fuel ≡ 0 = omega arith in rw (c .before .loop .inv, e)

@@ -2,19 +2,15 @@ use borrow.Author.Needs.{needs}
 use Rattle.choice.proofs.steal.is_donor.Statement.{statement}
 use Rattle.choice.proofs.steal.is_donor.Tie as tie
 
--- src/steal.rt:39:8
 contains-requires : tie.Need-contains-requires
 contains-requires c κs = search needs
 
--- src/steal.rt:40:9
 may-steal-from-requires : tie.Need-may-steal-from-requires
 may-steal-from-requires c κs = search needs
 
--- src/steal.rt:40:9
 returns : tie.Need-returns
 returns c = rw (← c .before .before .contains .ensures, c .before .if1 .taken) (c .may-steal-from .ensures)
 
--- src/steal.rt:36:1
 returns-2 : tie.Need-returns-2
 returns-2 c = rw (← c .before .contains .ensures, c .if1 .left)
 

@@ -4,20 +4,16 @@ use borrow.Author.Needs.{needs}
 use Rattle.choice.proofs.steal.is_some.Statement.{statement}
 use Rattle.choice.proofs.steal.is_some.Tie as tie
 
--- src/steal.rt:86:31
 enum-told : tie.Need-enum-told
 enum-told c = search needs
 
--- src/steal.rt:87:28
 enum-told-2 : tie.Need-enum-told-2
 enum-told-2 c = search needs
 
--- src/steal.rt:82:1
 returns : tie.Need-returns
 unfolding is-some named
 returns c = search needs
 
--- src/steal.rt:82:1
 returns-2 : tie.Need-returns-2
 unfolding is-some named
 returns-2 c = search needs

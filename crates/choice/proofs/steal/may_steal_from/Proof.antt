@@ -6,25 +6,20 @@ use borrow.Author.Needs.{needs}
 use Rattle.choice.proofs.steal.may_steal_from.Statement.{statement}
 use Rattle.choice.proofs.steal.may_steal_from.Tie as tie
 
--- src/steal.rt:27:9
 returns : tie.Need-returns
 unfolding may-steal-from
 returns c = rw (eq-eqb _ _ (c .if1 .taken))
 
--- src/steal.rt:29:29
 current-load-requires : tie.Need-current-load-requires
 current-load-requires c κs = search needs
 
--- src/steal.rt:30:20
 movable-requires : tie.Need-movable-requires
 movable-requires c κs = search needs
 
--- src/steal.rt:30:9
 returns-2 : tie.Need-returns-2
 unfolding may-steal-from
 returns-2 c = rw (ne-eqb _ _ (c .before .before .before .if1 .left), ← c .before .before .current-load .ensures, le-leb _ _ (c .before .if2 .taken), c .movable .ensures)
 
--- src/steal.rt:23:1
 returns-3 : tie.Need-returns-3
 unfolding may-steal-from
 returns-3 c = rw (ne-eqb _ _ (c .before .before .if1 .left), ← c .before .current-load .ensures, lt-leb _ _ (c .if2 .left))

@@ -19,32 +19,25 @@ Inv-loop cpus nodes us n from to c₀ c = first-that (may-steal-from us (load-at
 abbrev μ-loop : tie.MeasureT-loop
 μ-loop cpus nodes us n from to c₀ c = to - c
 
--- src/steal.rt:62:5
 loop-holds : tie.Need-loop-holds Inv-loop μ-loop
 loop-holds c = refl
 
--- src/steal.rt:63:12
 is-donor-requires : tie.Need-is-donor-requires Inv-loop μ-loop
 is-donor-requires c κs = search needs
 
--- src/steal.rt:64:13
 returns : tie.Need-returns Inv-loop μ-loop
 unfolding as-cpu
 returns c = rw (c .before .before .before .loop .inv, first-turn _ _ _ _ (c .before .before .loop-test .taken), ← c .before .is-donor .ensures, c .if1 .taken)
 
--- src/steal.rt:66:9
 add-c : tie.Need-add-c Inv-loop μ-loop
 add-c c = search needs
 
--- src/steal.rt:62:5
 loop-less : tie.Need-loop-less Inv-loop μ-loop
 loop-less c = search needs
 
--- src/steal.rt:62:5
 loop-again : tie.Need-loop-again Inv-loop μ-loop
 loop-again c = c .before .before .before .loop .inv ∙ first-turn _ _ _ _ (c .before .before .loop-test .taken) ∙ rw (← c .before .is-donor .ensures, c .if1 .left)
 
--- src/steal.rt:45:1
 returns-2 : tie.Need-returns-2 Inv-loop μ-loop
 unfolding as-cpu
 returns-2 c = rw (c .before .loop .inv, first-end _ _ _ _ (c .loop-test .left))

@@ -1,5 +1,5 @@
 -- `command::obey::command` meets its contract: a walk of its MIR, written by tools/entrygen.py.
-use mathlib.Core.Path.{_≡_, refl, sym, subst, _∙_}
+use mathlib.Core.Path.{_≡_, refl, sym, ap, subst, _∙_}
 use Prim.Native.Nat.{ℕ}
 use mathlib.Core.List.{[], _∷_, List}
 use lib.ListN.{length}
@@ -33,12 +33,14 @@ use denote.Triple.Clauses.{Clauses}
 use denote.Triple.Walked.{says, Stays, stay-none, stay-slice, stay-none-slice, walkOf, goes-none, goes-slice, goes-none-slice, ends-at}
 use denote.Exit.{yes as kept-yes}
 use Rattle.lent.proofs.Walk.{Datum, number, struct, Dens, AreD, listed, spell, lent-as, slice-of, kept, opened, closed, full, told, proved}
-use Rattle.lent.proofs.Lent.{mutable, passed, call-slices, all-freed, begins4, leaves4}
+use Rattle.lent.proofs.Lent.{mutable, passed, call-left, all-freed, so, begins4, leaves4}
 use Rattle.command.specs.Command.{commandDef}
+use Rattle.command.specs.Lent.{Lent}
+use Rattle.lent.specs.Left.{Left}
 use denote.Struct.Laws as LL
-use Rattle.command.specs.declared.answer.Answered.{Answered}
-use Rattle.command.proofs.answer.Answered as Answered·
-use Rattle.command.proofs.answer.Answered.Laws as Answered·laws
+use Rattle.outcome.specs.declared.answer.Answered.{Answered}
+use Rattle.outcome.proofs.answer.Answered as Answered·
+use Rattle.outcome.proofs.answer.Answered.Laws as Answered·laws
 use Rattle.questions.specs.declared.state.State.{State}
 use Rattle.questions.proofs.state.State as State·
 use Rattle.questions.proofs.state.State.Laws as State·laws
@@ -116,17 +118,8 @@ module _ {M : Type 1} (𝓤 : URA M) (H : Heap 𝓤) (𝓜 : Model 𝓤 H) (𝓖
     abbrev Post : Val → SProp 𝓤
     Post = walkOf 𝓤 H A command.ended stayed c .post y
 
-    abbrev V₁ : Answered
-    V₁ = commandDef ys ys′ ys″ ys‴ n‴ 0 (a .0) .outcome
-
-    abbrev V₂ : List Thread
-    V₂ = commandDef ys ys′ ys″ ys‴ n‴ 0 (a .0) .threads
-
-    abbrev V₃ : List (List ℕ)
-    V₃ = commandDef ys ys′ ys″ ys‴ n‴ 0 (a .0) .cpus
-
-    abbrev V₄ : List (List ℕ)
-    V₄ = commandDef ys ys′ ys″ ys‴ n‴ 0 (a .0) .nodes
+    abbrev V₁ : Left Answered Lent
+    V₁ = commandDef n‴ 0 (a .0) ys‴ (record { threads = ys; cpus = ys′; nodes = ys″ })
 
     walk : ent 𝓤 (onEntry 𝓤 H A command.signature (κ, (κ′, (κ″, (κ‴, tt)))) (q, (q′, (q″, (q‴, tt)))) ((lent-as b o γ ys, (lent-as b′ o′ γ′ ys′, (lent-as b″ o″ γ″ ys″, (lent-as b‴ o‴ γ‴ ys‴, a))))) ((s ∷ [], (s′ ∷ [], (s″ ∷ [], (s‴ ∷ [], spell Ds a)))))) (WpFn 𝓤 H C Λ code.function (s ∷ s′ ∷ s″ ∷ s‴ ∷ listed Ds a) Post)
     walk =
@@ -157,7 +150,7 @@ module _ {M : Type 1} (𝓤 : URA M) (H : Heap 𝓤) (𝓜 : Model 𝓤 H) (𝓖
         join ! $
         move ! (1 ∷ 0 ∷ []) $
         join ! $
-        call-slices Answered° (number w64 ∷ number w64 ∷ State° ∷ []) ((n‴, (0, (a .0, tt)))) (emp 𝓤) ((mutable Thread·.the-row ys b o n refl room) ∷ (mutable (Array u64 96) ys′ b′ o′ n′ refl room′) ∷ (mutable (Array u64 32) ys″ b″ o″ n″ refl room″) ∷ (passed u8 ys‴ b‴ o‴ κ‴ q‴ γ‴) ∷ []) ! fm (λ r ws. (r ≡ V₁) × ((ws .0 ≡ V₂) × ((ws .1 .0 ≡ V₃) × (ws .1 .1 .0 ≡ V₄)))) (((refl, room‴ .0), ((refl, lit< tt), (are .0, tt)))) (id⊢ 𝓤 (emp 𝓤))
+        call-left Answered° (number w64 ∷ number w64 ∷ State° ∷ []) ((n‴, (0, (a .0, tt)))) (emp 𝓤) ((mutable Thread·.the-row ys b o n refl room) ∷ (mutable (Array u64 96) ys′ b′ o′ n′ refl room′) ∷ (mutable (Array u64 32) ys″ b″ o″ n″ refl room″) ∷ (passed u8 ys‴ b‴ o‴ κ‴ q‴ γ‴) ∷ []) ! fm (λ r ws. (r ≡ (V₁ .answer)) × ((ws .0 ≡ (V₁ .memory .threads)) × ((ws .1 .0 ≡ (V₁ .memory .cpus)) × (ws .1 .1 .0 ≡ (V₁ .memory .nodes))))) (λ r ws. _≡_ {A = Left Answered Lent} (record { answer = r; memory = record { threads = ws .0; cpus = ws .1 .0; nodes = ws .1 .1 .0 } }) V₁) (λ r ws e. (ap (λ (z : Left Answered Lent). z .answer) e, (ap (λ (z : Left Answered Lent). z .memory .threads) e, (ap (λ (z : Left Answered Lent). z .memory .cpus) e, ap (λ (z : Left Answered Lent). z .memory .nodes) e)))) (((refl, room‴ .0), ((refl, lit< tt), (are .0, tt)))) (id⊢ 𝓤 (emp 𝓤))
         (λ νs. cited 𝓤 H (tripleOf 𝓤 H A fn-command-obey-command-at.signature (fn-command-obey-command-at.spec 𝓤 H A (𝓜 .mem) (𝓡 .run))) 𝓜 𝓡 code.env fn-command-obey-command-at-def.name fn-command-obey-command-at-def.routine code.calls-command·obey·command-at (fn-command-obey-command-at-thm.met 𝓤 H 𝓜 𝓖 𝓡) (((νs .0 .0 ∷ [], (νs .1 .0 .0 ∷ [], (νs .1 .1 .0 .0 ∷ [], (κ‴, tt)))), (fullShare, (fullShare, (fullShare, (q‴, tt)))), tt, (lent-as b o (νs .0 .1) ys, (lent-as b′ o′ (νs .1 .0 .1) ys′, (lent-as b″ o″ (νs .1 .1 .0 .1) ys″, (lent-as b‴ o‴ γ‴ ys‴, (n‴, (0, (a .0, tt))))))), (slice-of b o ys ∷ [], (slice-of b′ o′ ys′ ∷ [], (slice-of b″ o″ ys″ ∷ [], (slice-of b‴ o‴ ys‴ ∷ [], spell (number w64 ∷ number w64 ∷ State° ∷ []) ((n‴, (0, (a .0, tt))))))))), tt))
         (λ k. and-then ! (load ! (from ! (stop !)) (look ! 12 refl)) (and-then ! (load ! (from ! (stop !)) (look ! 8 refl)) (and-then ! (load ! (from ! (stop !)) (look ! 4 refl)) (and-then ! (load ! (from ! (stop !)) (look ! 20 refl)) (and-then ! (load ! (from ! (stop !)) (look ! 16 refl)) (and-then ! (lit ! tt) (and-then ! (load ! (from ! (stop !)) (look ! 18 refl)) (no-more !)))))))) (λ r₁ ws₂ is₃ ls₄ e₅.
         split ! $
@@ -174,18 +167,18 @@ module _ {M : Type 1} (𝓤 : URA M) (H : Heap 𝓤) (𝓜 : Model 𝓤 H) (𝓖
         rewrite ! 3 (λ (us : List (List ℕ)). ‵ (row (Array u64 96) fullShare us b′ o′)) (e₅ .1 .1 .0) refl $
         rewrite ! 2 (λ (us : List (List ℕ)). ‵ (row (Array u64 32) fullShare us b″ o″)) (e₅ .1 .1 .1) refl $
         told ! Answered° (e₅ .0) is₃ (λ is₆.
-        land ! (from ! (stop !)) (init ! 32 refl (Answered° .typed 𝓤 H A W (V₁) (is₆) .0)) $
+        land ! (from ! (stop !)) (init ! 32 refl (Answered° .typed 𝓤 H A W (V₁ .answer) (is₆) .0)) $
         move ! (2 ∷ 7 ∷ []) $
-        closed ! tt (Array u64 32) ys″ (V₄) b″ o″ room″ (sym ((refl ∙ sym (subst (λ (us : List (List ℕ)). length us ≡ length ys″) (e₅ .1 .1 .1) (ls₄ .1 .1 .0))))) $
+        closed ! tt (Array u64 32) ys″ (V₁ .memory .nodes) b″ o″ room″ (sym ((refl ∙ sym (subst (λ (us : List (List ℕ)). length us ≡ length ys″) (e₅ .1 .1 .1) (ls₄ .1 .1 .0))))) $
         move ! (4 ∷ 7 ∷ []) $
-        closed ! tt (Array u64 96) ys′ (V₃) b′ o′ room′ (sym ((refl ∙ sym (subst (λ (us : List (List ℕ)). length us ≡ length ys′) (e₅ .1 .1 .0) (ls₄ .1 .0))))) $
+        closed ! tt (Array u64 96) ys′ (V₁ .memory .cpus) b′ o′ room′ (sym ((refl ∙ sym (subst (λ (us : List (List ℕ)). length us ≡ length ys′) (e₅ .1 .1 .0) (ls₄ .1 .0))))) $
         move ! (6 ∷ 7 ∷ []) $
-        closed ! tt Thread·.the-row ys (V₂) b o room (sym ((refl ∙ sym (subst (λ (us : List Thread). length us ≡ length ys) (e₅ .1 .0) (ls₄ .0))))) $
+        closed ! tt Thread·.the-row ys (V₁ .memory .threads) b o room (sym ((refl ∙ sym (subst (λ (us : List Thread). length us ≡ length ys) (e₅ .1 .0) (ls₄ .0))))) $
         returns ! (look ! 32 refl) $
         move ! (32 ∷ 33 ∷ 30 ∷ 31 ∷ 28 ∷ 29 ∷ 26 ∷ 27 ∷ 24 ∷ 25 ∷ 22 ∷ 23 ∷ 20 ∷ 21 ∷ 18 ∷ 19 ∷ 16 ∷ 17 ∷ 14 ∷ 15 ∷ 12 ∷ 13 ∷ 10 ∷ 11 ∷ 8 ∷ 9 ∷ []) $
         all-freed ! mir.locals (l₀ ∷ l₁ ∷ l₂ ∷ l₃ ∷ l₄ ∷ l₅ ∷ l₆ ∷ l₇ ∷ l₈ ∷ l₉ ∷ l₁₀ ∷ l₁₁ ∷ l₁₂ ∷ []) (full _ ∷ full _ ∷ full _ ∷ full _ ∷ full _ ∷ full _ ∷ full _ ∷ full _ ∷ full _ ∷ full _ ∷ full _ ∷ full _ ∷ full _ ∷ []) tt $
-        suffices ! _ (ends-at 𝓤 H A command.ended stayed c W y _ (V₁) (V₂, (V₃, (V₄, (tt, (tt, tt))))) (sym ((refl ∙ sym (subst (λ (us : List Thread). length us ≡ length ys) (e₅ .1 .0) (ls₄ .0)))), (sym ((refl ∙ sym (subst (λ (us : List (List ℕ)). length us ≡ length ys′) (e₅ .1 .1 .0) (ls₄ .1 .0)))), (sym ((refl ∙ sym (subst (λ (us : List (List ℕ)). length us ≡ length ys″) (e₅ .1 .1 .1) (ls₄ .1 .1 .0)))), (tt, (tt, tt)))))) $ says ! (refl, (refl, (refl, refl))) $
-        leaves4 ! Answered° Ds a (V₁) are (is₆))))))))))))))))
+        suffices ! _ (ends-at 𝓤 H A command.ended stayed c W y _ (V₁ .answer) (V₁ .memory .threads, (V₁ .memory .cpus, (V₁ .memory .nodes, (tt, (tt, tt))))) (sym ((refl ∙ sym (subst (λ (us : List Thread). length us ≡ length ys) (e₅ .1 .0) (ls₄ .0)))), (sym ((refl ∙ sym (subst (λ (us : List (List ℕ)). length us ≡ length ys′) (e₅ .1 .1 .0) (ls₄ .1 .0)))), (sym ((refl ∙ sym (subst (λ (us : List (List ℕ)). length us ≡ length ys″) (e₅ .1 .1 .1) (ls₄ .1 .1 .0)))), (tt, (tt, tt)))))) $ says ! (so {X = Left Answered Lent} (record { answer = (V₁ .answer); memory = record { threads = (V₁ .memory .threads); cpus = (V₁ .memory .cpus); nodes = (V₁ .memory .nodes) } }) (commandDef (length ys‴) 0 (a .0) ys‴ (record { threads = ys; cpus = ys′; nodes = ys″ })) (refl)) $
+        leaves4 ! Answered° Ds a (V₁ .answer) are (is₆))))))))))))))))
 
 pub command-spec : {M : Type 1} → stated.statement M
 unfolding code.routine

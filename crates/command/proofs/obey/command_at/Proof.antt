@@ -1,5 +1,5 @@
 -- `command::obey::command_at` meets its contract: a walk of its MIR, written by tools/entrygen.py.
-use mathlib.Core.Path.{_≡_, refl, sym, subst, _∙_}
+use mathlib.Core.Path.{_≡_, refl, sym, ap, subst, _∙_}
 use Prim.Native.Nat.{ℕ}
 use mathlib.Core.Bool.{Bool, not}
 use mathlib.Core.List.{[], _∷_, List}
@@ -35,22 +35,23 @@ use denote.Triple.Clauses.{Clauses}
 use denote.Triple.Walked.{says, Stays, stay-none, stay-slice, stay-none-slice, walkOf, goes-none, goes-slice, goes-none-slice, ends-at}
 use denote.Exit.{yes as kept-yes}
 use Rattle.lent.proofs.Walk.{Datum, number, truth, struct, Dens, AreD, listed, spell, lent-as, slice-of, shared-as, kept, opened, closed, guards, env-of, standing, bare, full, told, proved}
-use Rattle.lent.proofs.Lent.{mutable, shared, passed, choice, call-slices, all-freed, no, yes, begins4, leaves4}
-use Rattle.request.specs.Request.{reading-of}
+use Rattle.lent.proofs.Lent.{mutable, shared, passed, choice, call-slices, call-left, all-freed, no, yes, so, begins4, leaves4}
+use Rattle.command.specs.Command.{commandDef, obeyDef}
+use Rattle.command.specs.Lent.{Lent}
+use Rattle.lent.specs.Left.{Left}
 use Rattle.lines.specs.Lines.{refusal-number}
+use Rattle.outcome.specs.Answer.{refuses}
+use Rattle.outcome.specs.Call.{askedDef, call-read, refusal-back}
 use Rattle.questions.specs.Questions.{refusal-in}
-use Rattle.command.specs.Answer.{refuses}
-use Rattle.command.specs.Call.{askedDef, refusal-back, call-read}
-use Rattle.command.specs.Command.{obeyDef, commandDef}
-use Rattle.command.proofs.Exits.{by-after}
+use Rattle.request.specs.Request.{reading-of}
 use Rattle.thread.specs.Thread.{blank}
 use denote.Struct.Laws as LL
-use Rattle.command.specs.declared.answer.Answered.{Answered}
-use Rattle.command.proofs.answer.Answered as Answered·
-use Rattle.command.proofs.answer.Answered.Laws as Answered·laws
-use Rattle.command.specs.declared.call.Call.{Call}
-use Rattle.command.proofs.call.Call as Call·
-use Rattle.command.proofs.call.Call.Laws as Call·laws
+use Rattle.outcome.specs.declared.answer.Answered.{Answered}
+use Rattle.outcome.proofs.answer.Answered as Answered·
+use Rattle.outcome.proofs.answer.Answered.Laws as Answered·laws
+use Rattle.outcome.specs.declared.call.Call.{Call}
+use Rattle.outcome.proofs.call.Call as Call·
+use Rattle.outcome.proofs.call.Call.Laws as Call·laws
 use Rattle.request.specs.declared.Reading.{Reading}
 use Rattle.request.proofs.Reading as Reading·
 use Rattle.request.proofs.Reading.Laws as Reading·laws
@@ -63,24 +64,24 @@ use Rattle.questions.proofs.state.State.Laws as State·laws
 use Rattle.thread.specs.declared.Thread.{Thread}
 use Rattle.thread.proofs.Thread as Thread·
 use Rattle.thread.proofs.Thread.Laws as Thread·laws
-use Rattle.command.proofs.call.asked as fn-command-call-asked
-use Rattle.command.proofs.call.asked.Symbol as fn-command-call-asked-def
-use Rattle.command.proofs.call.asked.Met as fn-command-call-asked-thm
-use Rattle.command.proofs.call.call_of as fn-command-call-call-of
-use Rattle.command.proofs.call.call_of.Symbol as fn-command-call-call-of-def
-use Rattle.command.proofs.call.call_of.Met as fn-command-call-call-of-thm
+use Rattle.outcome.proofs.call.asked as fn-outcome-call-asked
+use Rattle.outcome.proofs.call.asked.Symbol as fn-outcome-call-asked-def
+use Rattle.outcome.proofs.call.asked.Met as fn-outcome-call-asked-thm
+use Rattle.outcome.proofs.call.call_of as fn-outcome-call-call-of
+use Rattle.outcome.proofs.call.call_of.Symbol as fn-outcome-call-call-of-def
+use Rattle.outcome.proofs.call.call_of.Met as fn-outcome-call-call-of-thm
 use Rattle.lent.proofs.records.get as fn-lent-records-get
 use Rattle.lent.proofs.records.get.Symbol as fn-lent-records-get-def
 use Rattle.lent.proofs.records.get.Met as fn-lent-records-get-thm
-use Rattle.command.proofs.call.judged as fn-command-call-judged
-use Rattle.command.proofs.call.judged.Symbol as fn-command-call-judged-def
-use Rattle.command.proofs.call.judged.Met as fn-command-call-judged-thm
-use Rattle.command.proofs.call.is_refused as fn-command-call-is-refused
-use Rattle.command.proofs.call.is_refused.Symbol as fn-command-call-is-refused-def
-use Rattle.command.proofs.call.is_refused.Met as fn-command-call-is-refused-thm
-use Rattle.command.proofs.answer.refuses as fn-command-answer-refuses
-use Rattle.command.proofs.answer.refuses.Symbol as fn-command-answer-refuses-def
-use Rattle.command.proofs.answer.refuses.Met as fn-command-answer-refuses-thm
+use Rattle.outcome.proofs.call.judged as fn-outcome-call-judged
+use Rattle.outcome.proofs.call.judged.Symbol as fn-outcome-call-judged-def
+use Rattle.outcome.proofs.call.judged.Met as fn-outcome-call-judged-thm
+use Rattle.outcome.proofs.call.is_refused as fn-outcome-call-is-refused
+use Rattle.outcome.proofs.call.is_refused.Symbol as fn-outcome-call-is-refused-def
+use Rattle.outcome.proofs.call.is_refused.Met as fn-outcome-call-is-refused-thm
+use Rattle.outcome.proofs.answer.refuses as fn-outcome-answer-refuses
+use Rattle.outcome.proofs.answer.refuses.Symbol as fn-outcome-answer-refuses-def
+use Rattle.outcome.proofs.answer.refuses.Met as fn-outcome-answer-refuses-thm
 use Rattle.command.proofs.obey.obey as fn-command-obey-obey
 use Rattle.command.proofs.obey.obey.Symbol as fn-command-obey-obey-def
 use Rattle.command.proofs.obey.obey.Met as fn-command-obey-obey-thm
@@ -179,17 +180,8 @@ module _ {M : Type 1} (𝓤 : URA M) (H : Heap 𝓤) (𝓜 : Model 𝓤 H) (𝓖
     abbrev V₆ : Answered
     V₆ = refuses (a .1 .1 .0) V₄ ((V₂) .used)
 
-    abbrev V₇ : Answered
-    V₇ = obeyDef ys ys′ ys″ (a .1 .1 .0) V₂ .outcome
-
-    abbrev V₈ : List Thread
-    V₈ = obeyDef ys ys′ ys″ (a .1 .1 .0) V₂ .threads
-
-    abbrev V₉ : List (List ℕ)
-    V₉ = obeyDef ys ys′ ys″ (a .1 .1 .0) V₂ .cpus
-
-    abbrev V₁₀ : List (List ℕ)
-    V₁₀ = obeyDef ys ys′ ys″ (a .1 .1 .0) V₂ .nodes
+    abbrev V₇ : Left Answered Lent
+    V₇ = obeyDef (a .1 .1 .0) V₂ (record { threads = ys; cpus = ys′; nodes = ys″ })
 
     module _ (l₀ l₁ l₂ l₃ l₄ l₅ l₆ l₇ l₈ l₉ l₁₀ l₁₁ l₁₂ l₁₃ l₁₄ l₁₅ l₁₆ l₁₇ l₁₈ l₁₉ l₂₀ l₂₁ l₂₂ l₂₃ l₂₄ l₂₅ l₂₆ l₂₇ : ℕ) where
       abbrev En : Env 𝓤 H
@@ -211,7 +203,7 @@ module _ {M : Type 1} (𝓤 : URA M) (H : Heap 𝓤) (𝓜 : Model 𝓤 H) (𝓖
           join ! $
           move ! (1 ∷ 0 ∷ []) $
           join ! $
-          call-slices Answered° (State° ∷ Call° ∷ []) ((a .1 .1 .0, (V₂, tt))) (emp 𝓤) ((mutable Thread·.the-row ys b o n refl room) ∷ (mutable (Array u64 96) ys′ b′ o′ n′ refl room′) ∷ (mutable (Array u64 32) ys″ b″ o″ n″ refl room″) ∷ []) ! fm (λ r ws. (r ≡ V₇) × ((ws .0 ≡ V₈) × ((ws .1 .0 ≡ V₉) × (ws .1 .1 .0 ≡ V₁₀)))) ((are .1 .1 .0, (c₁₀, tt))) (id⊢ 𝓤 (emp 𝓤))
+          call-left Answered° (State° ∷ Call° ∷ []) ((a .1 .1 .0, (V₂, tt))) (emp 𝓤) ((mutable Thread·.the-row ys b o n refl room) ∷ (mutable (Array u64 96) ys′ b′ o′ n′ refl room′) ∷ (mutable (Array u64 32) ys″ b″ o″ n″ refl room″) ∷ []) ! fm (λ r ws. (r ≡ (V₇ .answer)) × ((ws .0 ≡ (V₇ .memory .threads)) × ((ws .1 .0 ≡ (V₇ .memory .cpus)) × (ws .1 .1 .0 ≡ (V₇ .memory .nodes))))) (λ r ws. _≡_ {A = Left Answered Lent} (record { answer = r; memory = record { threads = ws .0; cpus = ws .1 .0; nodes = ws .1 .1 .0 } }) V₇) (λ r ws e. (ap (λ (z : Left Answered Lent). z .answer) e, (ap (λ (z : Left Answered Lent). z .memory .threads) e, (ap (λ (z : Left Answered Lent). z .memory .cpus) e, ap (λ (z : Left Answered Lent). z .memory .nodes) e)))) ((are .1 .1 .0, (c₁₀, tt))) (id⊢ 𝓤 (emp 𝓤))
           (λ νs. cited 𝓤 H (tripleOf 𝓤 H A fn-command-obey-obey.signature (fn-command-obey-obey.spec 𝓤 H A (𝓜 .mem) (𝓡 .run))) 𝓜 𝓡 code.env fn-command-obey-obey-def.name fn-command-obey-obey-def.routine code.calls-command·obey·obey (fn-command-obey-obey-thm.met 𝓤 H 𝓜 𝓖 𝓡) (((νs .0 .0 ∷ [], (νs .1 .0 .0 ∷ [], (νs .1 .1 .0 .0 ∷ [], tt))), (fullShare, (fullShare, (fullShare, tt))), tt, (lent-as b o (νs .0 .1) ys, (lent-as b′ o′ (νs .1 .0 .1) ys′, (lent-as b″ o″ (νs .1 .1 .0 .1) ys″, (a .1 .1 .0, (V₂, tt))))), (slice-of b o ys ∷ [], (slice-of b′ o′ ys′ ∷ [], (slice-of b″ o″ ys″ ∷ [], spell (State° ∷ Call° ∷ []) ((a .1 .1 .0, (V₂, tt))))))), tt))
           (λ k. and-then ! (load ! (from ! (stop !)) (look ! 14 refl)) (and-then ! (load ! (from ! (stop !)) (look ! 10 refl)) (and-then ! (load ! (from ! (stop !)) (look ! 6 refl)) (and-then ! (load ! (from ! (stop !)) (look ! 46 refl)) (and-then ! (load ! (from ! (stop !)) (look ! 40 refl)) (no-more !)))))) (λ r₃₇ ws₃₈ is₃₉ ls₄₀ e₄₁.
           split ! $
@@ -225,19 +217,19 @@ module _ {M : Type 1} (𝓤 : URA M) (H : Heap 𝓤) (𝓜 : Model 𝓤 H) (𝓖
           rewrite ! 1 (λ (us : List (List ℕ)). ‵ (row (Array u64 96) fullShare us b′ o′)) (e₄₁ .1 .1 .0) refl $
           rewrite ! 0 (λ (us : List (List ℕ)). ‵ (row (Array u64 32) fullShare us b″ o″)) (e₄₁ .1 .1 .1) refl $
           told ! Answered° (e₄₁ .0) is₃₉ (λ is₄₂.
-          land ! (from ! (stop !)) (init ! 62 refl (Answered° .typed 𝓤 H A W (V₇) (is₄₂) .0)) $
+          land ! (from ! (stop !)) (init ! 62 refl (Answered° .typed 𝓤 H A W (V₇ .answer) (is₄₂) .0)) $
           move ! (6 ∷ 7 ∷ []) $
           move ! (2 ∷ 7 ∷ []) $
-          closed ! tt (Array u64 32) ys″ (V₁₀) b″ o″ room″ (sym ((refl ∙ sym (subst (λ (us : List (List ℕ)). length us ≡ length ys″) (e₄₁ .1 .1 .1) (ls₄₀ .1 .1 .0))))) $
+          closed ! tt (Array u64 32) ys″ (V₇ .memory .nodes) b″ o″ room″ (sym ((refl ∙ sym (subst (λ (us : List (List ℕ)). length us ≡ length ys″) (e₄₁ .1 .1 .1) (ls₄₀ .1 .1 .0))))) $
           move ! (4 ∷ 7 ∷ []) $
-          closed ! tt (Array u64 96) ys′ (V₉) b′ o′ room′ (sym ((refl ∙ sym (subst (λ (us : List (List ℕ)). length us ≡ length ys′) (e₄₁ .1 .1 .0) (ls₄₀ .1 .0))))) $
+          closed ! tt (Array u64 96) ys′ (V₇ .memory .cpus) b′ o′ room′ (sym ((refl ∙ sym (subst (λ (us : List (List ℕ)). length us ≡ length ys′) (e₄₁ .1 .1 .0) (ls₄₀ .1 .0))))) $
           move ! (6 ∷ 7 ∷ []) $
-          closed ! tt Thread·.the-row ys (V₈) b o room (sym ((refl ∙ sym (subst (λ (us : List Thread). length us ≡ length ys) (e₄₁ .1 .0) (ls₄₀ .0))))) $
+          closed ! tt Thread·.the-row ys (V₇ .memory .threads) b o room (sym ((refl ∙ sym (subst (λ (us : List Thread). length us ≡ length ys) (e₄₁ .1 .0) (ls₄₀ .0))))) $
           returns ! (look ! 62 refl) $
           move ! (62 ∷ 63 ∷ 60 ∷ 61 ∷ 58 ∷ 59 ∷ 56 ∷ 57 ∷ 54 ∷ 55 ∷ 52 ∷ 53 ∷ 50 ∷ 51 ∷ 48 ∷ 49 ∷ 46 ∷ 47 ∷ 44 ∷ 45 ∷ 42 ∷ 43 ∷ 40 ∷ 41 ∷ 38 ∷ 39 ∷ 36 ∷ 37 ∷ 34 ∷ 35 ∷ 32 ∷ 33 ∷ 30 ∷ 31 ∷ 28 ∷ 29 ∷ 26 ∷ 27 ∷ 24 ∷ 25 ∷ 22 ∷ 23 ∷ 20 ∷ 21 ∷ 18 ∷ 19 ∷ 16 ∷ 17 ∷ 14 ∷ 15 ∷ 12 ∷ 13 ∷ 10 ∷ 11 ∷ 8 ∷ 9 ∷ []) $
           all-freed ! mir.locals (l₀ ∷ l₁ ∷ l₂ ∷ l₃ ∷ l₄ ∷ l₅ ∷ l₆ ∷ l₇ ∷ l₈ ∷ l₉ ∷ l₁₀ ∷ l₁₁ ∷ l₁₂ ∷ l₁₃ ∷ l₁₄ ∷ l₁₅ ∷ l₁₆ ∷ l₁₇ ∷ l₁₈ ∷ l₁₉ ∷ l₂₀ ∷ l₂₁ ∷ l₂₂ ∷ l₂₃ ∷ l₂₄ ∷ l₂₅ ∷ l₂₆ ∷ l₂₇ ∷ []) (full _ ∷ full _ ∷ full _ ∷ full _ ∷ full _ ∷ full _ ∷ full _ ∷ full _ ∷ bare ∷ bare ∷ full _ ∷ bare ∷ bare ∷ bare ∷ bare ∷ bare ∷ bare ∷ bare ∷ bare ∷ bare ∷ bare ∷ bare ∷ full _ ∷ full _ ∷ full _ ∷ full _ ∷ full _ ∷ full _ ∷ []) tt $
-          suffices ! _ (ends-at 𝓤 H A command-at.ended stayed c W y _ (V₇) (V₈, (V₉, (V₁₀, (tt, (tt, (tt, (tt, tt))))))) (sym ((refl ∙ sym (subst (λ (us : List Thread). length us ≡ length ys) (e₄₁ .1 .0) (ls₄₀ .0)))), (sym ((refl ∙ sym (subst (λ (us : List (List ℕ)). length us ≡ length ys′) (e₄₁ .1 .1 .0) (ls₄₀ .1 .0)))), (sym ((refl ∙ sym (subst (λ (us : List (List ℕ)). length us ≡ length ys″) (e₄₁ .1 .1 .1) (ls₄₀ .1 .1 .0)))), (tt, (tt, (tt, (tt, tt)))))))) $ says ! (by-after (record { outcome = V₇; threads = V₈; cpus = V₉; nodes = V₁₀ }) (commandDef ys ys′ ys″ ys‴ (a .0) (a .1 .0) (a .1 .1 .0)) ((no (V₅) h₁ _ (refl)))) $
-          leaves4 ! Answered° Ds a (V₇) are (is₄₂)))
+          suffices ! _ (ends-at 𝓤 H A command-at.ended stayed c W y _ (V₇ .answer) (V₇ .memory .threads, (V₇ .memory .cpus, (V₇ .memory .nodes, (tt, (tt, (tt, (tt, tt))))))) (sym ((refl ∙ sym (subst (λ (us : List Thread). length us ≡ length ys) (e₄₁ .1 .0) (ls₄₀ .0)))), (sym ((refl ∙ sym (subst (λ (us : List (List ℕ)). length us ≡ length ys′) (e₄₁ .1 .1 .0) (ls₄₀ .1 .0)))), (sym ((refl ∙ sym (subst (λ (us : List (List ℕ)). length us ≡ length ys″) (e₄₁ .1 .1 .1) (ls₄₀ .1 .1 .0)))), (tt, (tt, (tt, (tt, tt)))))))) $ says ! (so {X = Left Answered Lent} (record { answer = (V₇ .answer); memory = record { threads = (V₇ .memory .threads); cpus = (V₇ .memory .cpus); nodes = (V₇ .memory .nodes) } }) (commandDef (a .0) (a .1 .0) (a .1 .1 .0) ys‴ (record { threads = ys; cpus = ys′; nodes = ys″ })) ((no (V₅) h₁ _ (refl)))) $
+          leaves4 ! Answered° Ds a (V₇ .answer) are (is₄₂)))
 
     walk : ent 𝓤 (onEntry 𝓤 H A command-at.signature (κ, (κ′, (κ″, (κ‴, tt)))) (q, (q′, (q″, (q‴, tt)))) ((lent-as b o γ ys, (lent-as b′ o′ γ′ ys′, (lent-as b″ o″ γ″ ys″, (lent-as b‴ o‴ γ‴ ys‴, a))))) ((s ∷ [], (s′ ∷ [], (s″ ∷ [], (s‴ ∷ [], spell Ds a)))))) (WpFn 𝓤 H C Λ code.function (s ∷ s′ ∷ s″ ∷ s‴ ∷ listed Ds a) Post)
     unfolding commandDef
@@ -258,7 +250,7 @@ module _ {M : Type 1} (𝓤 : URA M) (H : Heap 𝓤) (𝓜 : Model 𝓤 H) (𝓖
         join ! $
         join ! $
         call-slices Reading° (number w64 ∷ number w64 ∷ truth ∷ []) ((a .0, (a .1 .0, ((a .1 .1 .0) .wide, tt)))) (emp 𝓤) ((passed u8 ys‴ b‴ o‴ κ‴ q‴ γ‴) ∷ []) ! fm (λ r ws. r ≡ V₁) ((are .0, (are .1 .0, (LL.owed State·.the-type State·laws.the-laws (a .1 .1 .0) _ (are .1 .1 .0) .1 .1 .1 .0, tt)))) (id⊢ 𝓤 (emp 𝓤))
-        (λ νs. cited 𝓤 H (tripleOf 𝓤 H A fn-command-call-asked.signature (fn-command-call-asked.spec 𝓤 H A (𝓜 .mem) (𝓡 .run))) 𝓜 𝓡 code.env fn-command-call-asked-def.name fn-command-call-asked-def.routine code.calls-command·call·asked (fn-command-call-asked-thm.met 𝓤 H 𝓜 𝓖 𝓡) (((κ‴, tt), (q‴, tt), tt, (lent-as b‴ o‴ γ‴ ys‴, (a .0, (a .1 .0, ((a .1 .1 .0) .wide, tt)))), (slice-of b‴ o‴ ys‴ ∷ [], spell (number w64 ∷ number w64 ∷ truth ∷ []) ((a .0, (a .1 .0, ((a .1 .1 .0) .wide, tt)))))), tt))
+        (λ νs. cited 𝓤 H (tripleOf 𝓤 H A fn-outcome-call-asked.signature (fn-outcome-call-asked.spec 𝓤 H A (𝓜 .mem) (𝓡 .run))) 𝓜 𝓡 code.env fn-outcome-call-asked-def.name fn-outcome-call-asked-def.routine code.calls-outcome·call·asked (fn-outcome-call-asked-thm.met 𝓤 H 𝓜 𝓖 𝓡) (((κ‴, tt), (q‴, tt), tt, (lent-as b‴ o‴ γ‴ ys‴, (a .0, (a .1 .0, ((a .1 .1 .0) .wide, tt)))), (slice-of b‴ o‴ ys‴ ∷ [], spell (number w64 ∷ number w64 ∷ truth ∷ []) ((a .0, (a .1 .0, ((a .1 .1 .0) .wide, tt)))))), tt))
         (λ k. and-then ! (load ! (from ! (stop !)) (look ! 53 refl)) (and-then ! (load ! (from ! (stop !)) (look ! 51 refl)) (and-then ! (load ! (from ! (stop !)) (look ! 49 refl)) (and-then ! (load ! (from ! (stop !)) (look ! 45 refl)) (no-more !))))) (λ r₁ ws₂ is₃ ls₄ e₅.
         split ! $
         split ! $
@@ -268,7 +260,7 @@ module _ {M : Type 1} (𝓤 : URA M) (H : Heap 𝓤) (𝓜 : Model 𝓤 H) (𝓖
         land ! (from ! (stop !)) (init ! 44 refl (Reading° .typed 𝓤 H A W (V₁) (is₆) .0)) $
         nothing ! $
         call-slices Call° (Reading° ∷ []) ((V₁, tt)) (emp 𝓤) ([]) ! fm (λ r ws. r ≡ V₂) ((is₆, tt)) (id⊢ 𝓤 (emp 𝓤))
-        (λ νs. cited 𝓤 H (tripleOf 𝓤 H A fn-command-call-call-of.signature (fn-command-call-call-of.spec 𝓤 H A (𝓜 .mem) (𝓡 .run))) 𝓜 𝓡 code.env fn-command-call-call-of-def.name fn-command-call-call-of-def.routine code.calls-command·call·call-of (fn-command-call-call-of-thm.met 𝓤 H 𝓜 𝓖 𝓡) ((tt, tt, tt, (V₁, tt), spell (Reading° ∷ []) ((V₁, tt))), tt))
+        (λ νs. cited 𝓤 H (tripleOf 𝓤 H A fn-outcome-call-call-of.signature (fn-outcome-call-call-of.spec 𝓤 H A (𝓜 .mem) (𝓡 .run))) 𝓜 𝓡 code.env fn-outcome-call-call-of-def.name fn-outcome-call-call-of-def.routine code.calls-outcome·call·call-of (fn-outcome-call-call-of-thm.met 𝓤 H 𝓜 𝓖 𝓡) ((tt, tt, tt, (V₁, tt), spell (Reading° ∷ []) ((V₁, tt))), tt))
         (λ k. and-then ! (load ! (from ! (stop !)) (look ! 45 refl)) (no-more !)) (λ r₇ ws₈ is₉ ls₁₀ e₁₁.
         drop ! $
         told ! Call° (e₁₁) is₉ (λ is₁₂.
@@ -298,7 +290,7 @@ module _ {M : Type 1} (𝓤 : URA M) (H : Heap 𝓤) (𝓜 : Model 𝓤 H) (𝓖
         move ! (5 ∷ 0 ∷ []) $
         join ! $
         call-slices Refusal° (State° ∷ Thread° ∷ Reading° ∷ []) ((a .1 .1 .0, (V₃, (V₁, tt)))) (emp 𝓤) ((shared (Array u64 96) ys′ b′ o′ n′ refl room′) ∷ (shared (Array u64 32) ys″ b″ o″ n″ refl room″) ∷ []) ! fm (λ r ws. r ≡ V₄) ((are .1 .1 .0, (is₁₈, (is₆, tt)))) (id⊢ 𝓤 (emp 𝓤))
-        (λ νs. cited 𝓤 H (tripleOf 𝓤 H A fn-command-call-judged.signature (fn-command-call-judged.spec 𝓤 H A (𝓜 .mem) (𝓡 .run))) 𝓜 𝓡 code.env fn-command-call-judged-def.name fn-command-call-judged-def.routine code.calls-command·call·judged (fn-command-call-judged-thm.met 𝓤 H 𝓜 𝓖 𝓡) (((νs .0 .0 ∷ [], (νs .1 .0 .0 ∷ [], tt)), (fullShare, (fullShare, tt)), tt, (lent-as b′ o′ (νs .0 .1) ys′, (lent-as b″ o″ (νs .1 .0 .1) ys″, (a .1 .1 .0, (V₃, (V₁, tt))))), (slice-of b′ o′ ys′ ∷ [], (slice-of b″ o″ ys″ ∷ [], spell (State° ∷ Thread° ∷ Reading° ∷ []) ((a .1 .1 .0, (V₃, (V₁, tt))))))), tt))
+        (λ νs. cited 𝓤 H (tripleOf 𝓤 H A fn-outcome-call-judged.signature (fn-outcome-call-judged.spec 𝓤 H A (𝓜 .mem) (𝓡 .run))) 𝓜 𝓡 code.env fn-outcome-call-judged-def.name fn-outcome-call-judged-def.routine code.calls-outcome·call·judged (fn-outcome-call-judged-thm.met 𝓤 H 𝓜 𝓖 𝓡) (((νs .0 .0 ∷ [], (νs .1 .0 .0 ∷ [], tt)), (fullShare, (fullShare, tt)), tt, (lent-as b′ o′ (νs .0 .1) ys′, (lent-as b″ o″ (νs .1 .0 .1) ys″, (a .1 .1 .0, (V₃, (V₁, tt))))), (slice-of b′ o′ ys′ ∷ [], (slice-of b″ o″ ys″ ∷ [], spell (State° ∷ Thread° ∷ Reading° ∷ []) ((a .1 .1 .0, (V₃, (V₁, tt))))))), tt))
         (λ k. and-then ! (load ! (from ! (stop !)) (look ! 25 refl)) (and-then ! (load ! (from ! (stop !)) (look ! 21 refl)) (and-then ! (load ! (from ! (stop !)) (look ! 47 refl)) (and-then ! (load ! (from ! (stop !)) (look ! 35 refl)) (and-then ! (load ! (from ! (stop !)) (look ! 43 refl)) (no-more !)))))) (λ r₁₉ ws₂₀ is₂₁ ls₂₂ e₂₃.
         split ! $
         move ! (1 ∷ []) $
@@ -309,7 +301,7 @@ module _ {M : Type 1} (𝓤 : URA M) (H : Heap 𝓤) (𝓜 : Model 𝓤 H) (𝓖
         land ! (from ! (stop !)) (init ! 34 refl (Refusal° .typed 𝓤 H A W (V₄) (is₂₄) .0)) $
         nothing ! $
         call-slices truth (Refusal° ∷ []) ((V₄, tt)) (emp 𝓤) ([]) ! fm (λ r ws. r ≡ V₅) ((is₂₄, tt)) (id⊢ 𝓤 (emp 𝓤))
-        (λ νs. cited 𝓤 H (tripleOf 𝓤 H A fn-command-call-is-refused.signature (fn-command-call-is-refused.spec 𝓤 H A (𝓜 .mem) (𝓡 .run))) 𝓜 𝓡 code.env fn-command-call-is-refused-def.name fn-command-call-is-refused-def.routine code.calls-command·call·is-refused (fn-command-call-is-refused-thm.met 𝓤 H 𝓜 𝓖 𝓡) ((tt, tt, tt, (V₄, tt), spell (Refusal° ∷ []) ((V₄, tt))), tt))
+        (λ νs. cited 𝓤 H (tripleOf 𝓤 H A fn-outcome-call-is-refused.signature (fn-outcome-call-is-refused.spec 𝓤 H A (𝓜 .mem) (𝓡 .run))) 𝓜 𝓡 code.env fn-outcome-call-is-refused-def.name fn-outcome-call-is-refused-def.routine code.calls-outcome·call·is-refused (fn-outcome-call-is-refused-thm.met 𝓤 H 𝓜 𝓖 𝓡) ((tt, tt, tt, (V₄, tt), spell (Refusal° ∷ []) ((V₄, tt))), tt))
         (λ k. and-then ! (load ! (from ! (stop !)) (look ! 35 refl)) (no-more !)) (λ r₂₅ ws₂₆ is₂₇ ls₂₈ e₂₉.
         drop ! $
         told ! truth (e₂₉) is₂₇ (λ is₃₀.
@@ -318,7 +310,7 @@ module _ {M : Type 1} (𝓤 : URA M) (H : Heap 𝓤) (𝓜 : Model 𝓤 H) (𝓖
         (λ h₁.
         nothing ! $
         call-slices Answered° (State° ∷ Refusal° ∷ number w64 ∷ []) ((a .1 .1 .0, (V₄, ((V₂) .used, tt)))) (emp 𝓤) ([]) ! fm (λ r ws. r ≡ V₆) ((are .1 .1 .0, (is₂₄, (LL.owed Call·.the-type Call·laws.the-laws (V₂) _ (is₁₂) .1 .1 .1 .1 .1 .1 .1 .1 .0, tt)))) (id⊢ 𝓤 (emp 𝓤))
-        (λ νs. cited 𝓤 H (tripleOf 𝓤 H A fn-command-answer-refuses.signature (fn-command-answer-refuses.spec 𝓤 H A (𝓜 .mem) (𝓡 .run))) 𝓜 𝓡 code.env fn-command-answer-refuses-def.name fn-command-answer-refuses-def.routine code.calls-command·answer·refuses (fn-command-answer-refuses-thm.met 𝓤 H 𝓜 𝓖 𝓡) ((tt, tt, tt, (a .1 .1 .0, (V₄, ((V₂) .used, tt))), spell (State° ∷ Refusal° ∷ number w64 ∷ []) ((a .1 .1 .0, (V₄, ((V₂) .used, tt))))), tt))
+        (λ νs. cited 𝓤 H (tripleOf 𝓤 H A fn-outcome-answer-refuses.signature (fn-outcome-answer-refuses.spec 𝓤 H A (𝓜 .mem) (𝓡 .run))) 𝓜 𝓡 code.env fn-outcome-answer-refuses-def.name fn-outcome-answer-refuses-def.routine code.calls-outcome·answer·refuses (fn-outcome-answer-refuses-thm.met 𝓤 H 𝓜 𝓖 𝓡) ((tt, tt, tt, (a .1 .1 .0, (V₄, ((V₂) .used, tt))), spell (State° ∷ Refusal° ∷ number w64 ∷ []) ((a .1 .1 .0, (V₄, ((V₂) .used, tt))))), tt))
         (λ k. and-then ! (load ! (from ! (stop !)) (look ! 49 refl)) (and-then ! (load ! (from ! (stop !)) (look ! 35 refl)) (and-then ! (load ! (from ! (stop !)) (look ! 39 refl)) (no-more !)))) (λ r₃₁ ws₃₂ is₃₃ ls₃₄ e₃₅.
         drop ! $
         told ! Answered° (e₃₅) is₃₃ (λ is₃₆.
@@ -333,7 +325,7 @@ module _ {M : Type 1} (𝓤 : URA M) (H : Heap 𝓤) (𝓜 : Model 𝓤 H) (𝓖
         returns-within ! Post refl (look ! 62 refl) $
         move ! (62 ∷ 63 ∷ 60 ∷ 61 ∷ 58 ∷ 59 ∷ 56 ∷ 57 ∷ 54 ∷ 55 ∷ 52 ∷ 53 ∷ 50 ∷ 51 ∷ 48 ∷ 49 ∷ 46 ∷ 47 ∷ 44 ∷ 45 ∷ 42 ∷ 43 ∷ 40 ∷ 41 ∷ 38 ∷ 39 ∷ 36 ∷ 37 ∷ 34 ∷ 35 ∷ 32 ∷ 33 ∷ 30 ∷ 31 ∷ 28 ∷ 29 ∷ 26 ∷ 27 ∷ 24 ∷ 25 ∷ 22 ∷ 23 ∷ 20 ∷ 21 ∷ 18 ∷ 19 ∷ 16 ∷ 17 ∷ 14 ∷ 15 ∷ 12 ∷ 13 ∷ 10 ∷ 11 ∷ 8 ∷ 9 ∷ []) $
         all-freed ! mir.locals (l₀ ∷ l₁ ∷ l₂ ∷ l₃ ∷ l₄ ∷ l₅ ∷ l₆ ∷ l₇ ∷ l₈ ∷ l₉ ∷ l₁₀ ∷ l₁₁ ∷ l₁₂ ∷ l₁₃ ∷ l₁₄ ∷ l₁₅ ∷ l₁₆ ∷ l₁₇ ∷ l₁₈ ∷ l₁₉ ∷ l₂₀ ∷ l₂₁ ∷ l₂₂ ∷ l₂₃ ∷ l₂₄ ∷ l₂₅ ∷ l₂₆ ∷ l₂₇ ∷ []) (full _ ∷ full _ ∷ full _ ∷ full _ ∷ full _ ∷ full _ ∷ full _ ∷ full _ ∷ full _ ∷ full _ ∷ full _ ∷ full _ ∷ full _ ∷ full _ ∷ full _ ∷ full _ ∷ full _ ∷ full _ ∷ full _ ∷ full _ ∷ full _ ∷ full _ ∷ bare ∷ bare ∷ bare ∷ bare ∷ bare ∷ bare ∷ []) tt $
-        suffices ! _ (ends-at 𝓤 H A command-at.ended stayed c W y _ (V₆) (ys, (ys′, (ys″, (tt, (tt, (tt, (tt, tt))))))) (sym refl, (sym refl, (sym refl, (tt, (tt, (tt, (tt, tt)))))))) $ says ! (by-after (record { outcome = V₆; threads = ys; cpus = ys′; nodes = ys″ }) (commandDef ys ys′ ys″ ys‴ (a .0) (a .1 .0) (a .1 .1 .0)) ((yes (V₅) h₁ _ (refl)))) $
+        suffices ! _ (ends-at 𝓤 H A command-at.ended stayed c W y _ (V₆) (ys, (ys′, (ys″, (tt, (tt, (tt, (tt, tt))))))) (sym refl, (sym refl, (sym refl, (tt, (tt, (tt, (tt, tt)))))))) $ says ! (so {X = Left Answered Lent} (record { answer = V₆; memory = record { threads = ys; cpus = ys′; nodes = ys″ } }) (commandDef (a .0) (a .1 .0) (a .1 .1 .0) ys‴ (record { threads = ys; cpus = ys′; nodes = ys″ })) ((yes (V₅) h₁ _ (refl)))) $
         leaves4 ! Answered° Ds a (V₆) are (is₃₆))))
         (λ h₁.
         forget ! 46 refl $

@@ -30,16 +30,17 @@ use denote.Triple.Clauses.{Clauses}
 use denote.Triple.Walked.{says, Stays, stay-none, stay-slice, walkOf, goes-none, goes-slice, ends-at}
 use denote.Exit.{yes as kept-yes}
 use Rattle.lent.proofs.Walk.{Datum, number, nil, struct, Dens, AreD, listed, spell, lent-as, slice-of, kept, opened, closed, full, told, proved}
-use Rattle.lent.proofs.Lent.{mutable, call-slices, all-freed, begins1, leaves1}
-use Rattle.command.specs.Answer.{changed}
-use Rattle.command.specs.Command.{thread-in, declareThread}
+use Rattle.lent.proofs.Lent.{mutable, call-slices, all-freed, so, begins1, leaves1}
+use Rattle.command.specs.Command.{declareThread, thread-in}
+use Rattle.lent.specs.Left.{Left}
+use Rattle.outcome.specs.Answer.{changed}
 use denote.Struct.Laws as LL
-use Rattle.command.specs.declared.answer.Answered.{Answered}
-use Rattle.command.proofs.answer.Answered as Answered·
-use Rattle.command.proofs.answer.Answered.Laws as Answered·laws
-use Rattle.command.specs.declared.call.Call.{Call}
-use Rattle.command.proofs.call.Call as Call·
-use Rattle.command.proofs.call.Call.Laws as Call·laws
+use Rattle.outcome.specs.declared.answer.Answered.{Answered}
+use Rattle.outcome.proofs.answer.Answered as Answered·
+use Rattle.outcome.proofs.answer.Answered.Laws as Answered·laws
+use Rattle.outcome.specs.declared.call.Call.{Call}
+use Rattle.outcome.proofs.call.Call as Call·
+use Rattle.outcome.proofs.call.Call.Laws as Call·laws
 use Rattle.questions.specs.declared.state.State.{State}
 use Rattle.questions.proofs.state.State as State·
 use Rattle.questions.proofs.state.State.Laws as State·laws
@@ -154,7 +155,7 @@ module _ {M : Type 1} (𝓤 : URA M) (H : Heap 𝓤) (𝓜 : Model 𝓤 H) (𝓖
         returns ! (look ! 18 refl) $
         move ! (18 ∷ 19 ∷ 16 ∷ 17 ∷ 14 ∷ 15 ∷ 12 ∷ 13 ∷ 10 ∷ 11 ∷ 8 ∷ 9 ∷ 6 ∷ 7 ∷ 4 ∷ 5 ∷ 2 ∷ 3 ∷ []) $
         all-freed ! mir.locals (l₀ ∷ l₁ ∷ l₂ ∷ l₃ ∷ l₄ ∷ l₅ ∷ l₆ ∷ l₇ ∷ l₈ ∷ []) (full _ ∷ full _ ∷ full _ ∷ full _ ∷ full _ ∷ full _ ∷ full _ ∷ full _ ∷ full _ ∷ []) tt $
-        suffices ! _ (ends-at 𝓤 H A declare-thread.ended stayed c W y _ (V₂) (V₁, (tt, (tt, tt))) (sym ((refl ∙ sym (subst (λ (us : List Thread). length us ≡ length ys) (e₁₁) (ls₁₀ .0)))), (tt, (tt, tt)))) $ says ! (refl, refl) $
+        suffices ! _ (ends-at 𝓤 H A declare-thread.ended stayed c W y _ (V₂) (V₁, (tt, (tt, tt))) (sym ((refl ∙ sym (subst (λ (us : List Thread). length us ≡ length ys) (e₁₁) (ls₁₀ .0)))), (tt, (tt, tt)))) $ says ! (so {X = Left Answered (List Thread)} (record { answer = V₂; memory = V₁ }) (declareThread (a .0) (a .1 .0) ys) (refl)) $
         leaves1 ! Answered° Ds a (V₂) are (is₁₇)))))))))))))))
 
 pub declare-thread-spec : {M : Type 1} → stated.statement M

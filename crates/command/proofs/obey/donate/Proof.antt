@@ -1,5 +1,5 @@
 -- `command::obey::donate` meets its contract: a walk of its MIR, written by tools/entrygen.py.
-use mathlib.Core.Path.{_≡_, refl, sym, subst, _∙_}
+use mathlib.Core.Path.{_≡_, refl, sym, ap, subst, _∙_}
 use Prim.Native.Nat.{ℕ}
 use mathlib.Core.List.{[], _∷_, List}
 use lib.ListN.{length}
@@ -33,18 +33,19 @@ use denote.Triple.Clauses.{Clauses}
 use denote.Triple.Walked.{says, Stays, stay-none, stay-slice, stay-none-slice, walkOf, goes-none, goes-slice, goes-none-slice, ends-at}
 use denote.Exit.{yes as kept-yes}
 use Rattle.lent.proofs.Walk.{Datum, number, struct, Dens, AreD, listed, spell, lent-as, slice-of, kept, opened, closed, full, told, proved}
-use Rattle.lent.proofs.Lent.{mutable, passed, call-slices, all-freed, begins2, leaves2}
-use Rattle.sched.specs.Donate.{donatePriority}
-use Rattle.command.specs.Answer.{ran}
-use Rattle.command.specs.Call.{priority-in}
+use Rattle.lent.proofs.Lent.{mutable, passed, call-slices, call-left, all-freed, so, begins2, leaves2}
 use Rattle.command.specs.Command.{donateDef}
+use Rattle.lent.specs.Left.{Left}
+use Rattle.outcome.specs.Answer.{ran}
+use Rattle.outcome.specs.Call.{priority-in}
+use Rattle.sched_queues.specs.Donate.{donatePriority}
 use denote.Struct.Laws as LL
-use Rattle.command.specs.declared.answer.Answered.{Answered}
-use Rattle.command.proofs.answer.Answered as Answered·
-use Rattle.command.proofs.answer.Answered.Laws as Answered·laws
-use Rattle.command.specs.declared.call.Call.{Call}
-use Rattle.command.proofs.call.Call as Call·
-use Rattle.command.proofs.call.Call.Laws as Call·laws
+use Rattle.outcome.specs.declared.answer.Answered.{Answered}
+use Rattle.outcome.proofs.answer.Answered as Answered·
+use Rattle.outcome.proofs.answer.Answered.Laws as Answered·laws
+use Rattle.outcome.specs.declared.call.Call.{Call}
+use Rattle.outcome.proofs.call.Call as Call·
+use Rattle.outcome.proofs.call.Call.Laws as Call·laws
 use Rattle.rules.specs.declared.Priority.{Priority}
 use Rattle.rules.proofs.Priority as Priority·
 use Rattle.rules.proofs.Priority.Laws as Priority·laws
@@ -54,12 +55,12 @@ use Rattle.questions.proofs.state.State.Laws as State·laws
 use Rattle.thread.specs.declared.Thread.{Thread}
 use Rattle.thread.proofs.Thread as Thread·
 use Rattle.thread.proofs.Thread.Laws as Thread·laws
-use Rattle.command.proofs.call.priority_in as fn-command-call-priority-in
-use Rattle.command.proofs.call.priority_in.Symbol as fn-command-call-priority-in-def
-use Rattle.command.proofs.call.priority_in.Met as fn-command-call-priority-in-thm
-use Rattle.sched.proofs.donate.donate_priority as fn-sched-donate-donate-priority
-use Rattle.sched.proofs.donate.donate_priority.Symbol as fn-sched-donate-donate-priority-def
-use Rattle.sched.proofs.donate.donate_priority.Met as fn-sched-donate-donate-priority-thm
+use Rattle.outcome.proofs.call.priority_in as fn-outcome-call-priority-in
+use Rattle.outcome.proofs.call.priority_in.Symbol as fn-outcome-call-priority-in-def
+use Rattle.outcome.proofs.call.priority_in.Met as fn-outcome-call-priority-in-thm
+use Rattle.sched_queues.proofs.donate.donate_priority as fn-sched-queues-donate-donate-priority
+use Rattle.sched_queues.proofs.donate.donate_priority.Symbol as fn-sched-queues-donate-donate-priority-def
+use Rattle.sched_queues.proofs.donate.donate_priority.Met as fn-sched-queues-donate-donate-priority-thm
 use Rattle.command.proofs.obey.ran_on as fn-command-obey-ran-on
 use Rattle.command.proofs.obey.ran_on.Symbol as fn-command-obey-ran-on-def
 use Rattle.command.proofs.obey.ran_on.Met as fn-command-obey-ran-on-thm
@@ -125,14 +126,11 @@ module _ {M : Type 1} (𝓤 : URA M) (H : Heap 𝓤) (𝓜 : Model 𝓤 H) (𝓖
     abbrev Post : Val → SProp 𝓤
     Post = walkOf 𝓤 H A donate.ended stayed c .post y
 
-    abbrev V₁ : ℕ
-    V₁ = donatePriority ys ys′ ((a .1 .0) .cpu) ((a .1 .0) .thread) (priority-in (a .1 .0)) 0 .wakeups
+    abbrev V₁ : Left ℕ (List Thread)
+    V₁ = donatePriority ((a .1 .0) .cpu) ((a .1 .0) .thread) (priority-in (a .1 .0)) 0 ys′ ys
 
-    abbrev V₂ : List Thread
-    V₂ = donatePriority ys ys′ ((a .1 .0) .cpu) ((a .1 .0) .thread) (priority-in (a .1 .0)) 0 .threads
-
-    abbrev V₃ : Answered
-    V₃ = ran ys′ (a .0) ((a .1 .0) .cpu) V₁ ((a .1 .0) .used)
+    abbrev V₂ : Answered
+    V₂ = ran ys′ (a .0) ((a .1 .0) .cpu) (V₁ .answer) ((a .1 .0) .used)
 
     walk : ent 𝓤 (onEntry 𝓤 H A donate.signature (κ, (κ′, tt)) (q, (q′, tt)) ((lent-as b o γ ys, (lent-as b′ o′ γ′ ys′, a))) ((s ∷ [], (s′ ∷ [], spell Ds a)))) (WpFn 𝓤 H C Λ code.function (s ∷ s′ ∷ listed Ds a) Post)
     unfolding donateDef
@@ -147,7 +145,7 @@ module _ {M : Type 1} (𝓤 : URA M) (H : Heap 𝓤) (𝓜 : Model 𝓤 H) (𝓖
         assigns ! (of-opd ! (load ! (from ! (fld ! refl (stop !))) (look-in ! 16 (sub ! 2 refl (whole !))))) (from ! (stop !)) (init ! 12 refl ((number w64) .typed 𝓤 H A W ((a .1 .0) .thread) (LL.owed Call·.the-type Call·laws.the-laws (a .1 .0) _ (are .1 .0) .1 .1 .0) .0)) $
         nothing ! $
         call-slices Priority° (Call° ∷ []) ((a .1 .0, tt)) (emp 𝓤) ([]) ! fm (λ r ws. r ≡ (priority-in (a .1 .0))) ((are .1 .0, tt)) (id⊢ 𝓤 (emp 𝓤))
-        (λ νs. cited 𝓤 H (tripleOf 𝓤 H A fn-command-call-priority-in.signature (fn-command-call-priority-in.spec 𝓤 H A (𝓜 .mem) (𝓡 .run))) 𝓜 𝓡 code.env fn-command-call-priority-in-def.name fn-command-call-priority-in-def.routine code.calls-command·call·priority-in (fn-command-call-priority-in-thm.met 𝓤 H 𝓜 𝓖 𝓡) ((tt, tt, tt, (a .1 .0, tt), spell (Call° ∷ []) ((a .1 .0, tt))), tt))
+        (λ νs. cited 𝓤 H (tripleOf 𝓤 H A fn-outcome-call-priority-in.signature (fn-outcome-call-priority-in.spec 𝓤 H A (𝓜 .mem) (𝓡 .run))) 𝓜 𝓡 code.env fn-outcome-call-priority-in-def.name fn-outcome-call-priority-in-def.routine code.calls-outcome·call·priority-in (fn-outcome-call-priority-in-thm.met 𝓤 H 𝓜 𝓖 𝓡) ((tt, tt, tt, (a .1 .0, tt), spell (Call° ∷ []) ((a .1 .0, tt))), tt))
         (λ k. and-then ! (load ! (from ! (stop !)) (look ! 17 refl)) (no-more !)) (λ r₁ ws₂ is₃ ls₄ e₅.
         drop ! $
         told ! Priority° (e₅) is₃ (λ is₆.
@@ -160,8 +158,8 @@ module _ {M : Type 1} (𝓤 : URA M) (H : Heap 𝓤) (𝓜 : Model 𝓤 H) (𝓖
         join ! $
         move ! (1 ∷ 0 ∷ []) $
         join ! $
-        call-slices (number w64) (number w64 ∷ number w64 ∷ Priority° ∷ number w64 ∷ []) (((a .1 .0) .cpu, ((a .1 .0) .thread, (priority-in (a .1 .0), (0, tt))))) (emp 𝓤) ((mutable Thread·.the-row ys b o n refl room) ∷ (passed (Array u64 96) ys′ b′ o′ κ′ q′ γ′) ∷ []) ! fm (λ r ws. (r ≡ V₁) × (ws .0 ≡ V₂)) ((LL.owed Call·.the-type Call·laws.the-laws (a .1 .0) _ (are .1 .0) .1 .0, (LL.owed Call·.the-type Call·laws.the-laws (a .1 .0) _ (are .1 .0) .1 .1 .0, (is₆, ((refl, lit< tt), tt))))) (id⊢ 𝓤 (emp 𝓤))
-        (λ νs. cited 𝓤 H (tripleOf 𝓤 H A fn-sched-donate-donate-priority.signature (fn-sched-donate-donate-priority.spec 𝓤 H A (𝓜 .mem) (𝓡 .run))) 𝓜 𝓡 code.env fn-sched-donate-donate-priority-def.name fn-sched-donate-donate-priority-def.routine code.calls-sched·donate·donate-priority (fn-sched-donate-donate-priority-thm.met 𝓤 H 𝓜 𝓖 𝓡) (((νs .0 .0 ∷ [], (κ′, tt)), (fullShare, (q′, tt)), tt, (lent-as b o (νs .0 .1) ys, (lent-as b′ o′ γ′ ys′, ((a .1 .0) .cpu, ((a .1 .0) .thread, (priority-in (a .1 .0), (0, tt)))))), (slice-of b o ys ∷ [], (slice-of b′ o′ ys′ ∷ [], spell (number w64 ∷ number w64 ∷ Priority° ∷ number w64 ∷ []) (((a .1 .0) .cpu, ((a .1 .0) .thread, (priority-in (a .1 .0), (0, tt)))))))), tt))
+        call-left (number w64) (number w64 ∷ number w64 ∷ Priority° ∷ number w64 ∷ []) (((a .1 .0) .cpu, ((a .1 .0) .thread, (priority-in (a .1 .0), (0, tt))))) (emp 𝓤) ((mutable Thread·.the-row ys b o n refl room) ∷ (passed (Array u64 96) ys′ b′ o′ κ′ q′ γ′) ∷ []) ! fm (λ r ws. (r ≡ (V₁ .answer)) × (ws .0 ≡ (V₁ .memory))) (λ r ws. _≡_ {A = Left ℕ (List Thread)} (record { answer = r; memory = ws .0 }) V₁) (λ r ws e. (ap (λ (z : Left ℕ (List Thread)). z .answer) e, ap (λ (z : Left ℕ (List Thread)). z .memory) e)) ((LL.owed Call·.the-type Call·laws.the-laws (a .1 .0) _ (are .1 .0) .1 .0, (LL.owed Call·.the-type Call·laws.the-laws (a .1 .0) _ (are .1 .0) .1 .1 .0, (is₆, ((refl, lit< tt), tt))))) (id⊢ 𝓤 (emp 𝓤))
+        (λ νs. cited 𝓤 H (tripleOf 𝓤 H A fn-sched-queues-donate-donate-priority.signature (fn-sched-queues-donate-donate-priority.spec 𝓤 H A (𝓜 .mem) (𝓡 .run))) 𝓜 𝓡 code.env fn-sched-queues-donate-donate-priority-def.name fn-sched-queues-donate-donate-priority-def.routine code.calls-sched-queues·donate·donate-priority (fn-sched-queues-donate-donate-priority-thm.met 𝓤 H 𝓜 𝓖 𝓡) (((νs .0 .0 ∷ [], (κ′, tt)), (fullShare, (q′, tt)), tt, (lent-as b o (νs .0 .1) ys, (lent-as b′ o′ γ′ ys′, ((a .1 .0) .cpu, ((a .1 .0) .thread, (priority-in (a .1 .0), (0, tt)))))), (slice-of b o ys ∷ [], (slice-of b′ o′ ys′ ∷ [], spell (number w64 ∷ number w64 ∷ Priority° ∷ number w64 ∷ []) (((a .1 .0) .cpu, ((a .1 .0) .thread, (priority-in (a .1 .0), (0, tt)))))))), tt))
         (λ k. and-then ! (load ! (from ! (stop !)) (look ! 2 refl)) (and-then ! (load ! (from ! (stop !)) (look ! 18 refl)) (and-then ! (load ! (from ! (stop !)) (look ! 12 refl)) (and-then ! (load ! (from ! (stop !)) (look ! 10 refl)) (and-then ! (load ! (from ! (stop !)) (look ! 8 refl)) (and-then ! (lit ! tt) (no-more !))))))) (λ r₇ ws₈ is₉ ls₁₀ e₁₁.
         split ! $
         move ! (1 ∷ []) $
@@ -171,27 +169,27 @@ module _ {M : Type 1} (𝓤 : URA M) (H : Heap 𝓤) (𝓜 : Model 𝓤 H) (𝓖
         drop ! $
         rewrite ! 2 (λ (us : List Thread). ‵ (row Thread·.the-row fullShare us b o)) (e₁₁ .1) refl $
         told ! (number w64) (e₁₁ .0) is₉ (λ is₁₂.
-        land ! (from ! (stop !)) (init ! 8 refl ((number w64) .typed 𝓤 H A W (V₁) (is₁₂) .0)) $
+        land ! (from ! (stop !)) (init ! 8 refl ((number w64) .typed 𝓤 H A W (V₁ .answer) (is₁₂) .0)) $
         nothing ! $
         move ! (1 ∷ 2 ∷ []) $
         join ! $
         join ! $
-        call-slices Answered° (State° ∷ Call° ∷ number w64 ∷ []) ((a .0, (a .1 .0, (V₁, tt)))) (emp 𝓤) ((passed (Array u64 96) ys′ b′ o′ κ′ q′ γ′) ∷ []) ! fm (λ r ws. r ≡ V₃) ((are .0, (are .1 .0, (is₁₂, tt)))) (id⊢ 𝓤 (emp 𝓤))
-        (λ νs. cited 𝓤 H (tripleOf 𝓤 H A fn-command-obey-ran-on.signature (fn-command-obey-ran-on.spec 𝓤 H A (𝓜 .mem) (𝓡 .run))) 𝓜 𝓡 code.env fn-command-obey-ran-on-def.name fn-command-obey-ran-on-def.routine code.calls-command·obey·ran-on (fn-command-obey-ran-on-thm.met 𝓤 H 𝓜 𝓖 𝓡) (((κ′, tt), (q′, tt), tt, (lent-as b′ o′ γ′ ys′, (a .0, (a .1 .0, (V₁, tt)))), (slice-of b′ o′ ys′ ∷ [], spell (State° ∷ Call° ∷ number w64 ∷ []) ((a .0, (a .1 .0, (V₁, tt)))))), tt))
+        call-slices Answered° (State° ∷ Call° ∷ number w64 ∷ []) ((a .0, (a .1 .0, (V₁ .answer, tt)))) (emp 𝓤) ((passed (Array u64 96) ys′ b′ o′ κ′ q′ γ′) ∷ []) ! fm (λ r ws. r ≡ V₂) ((are .0, (are .1 .0, (is₁₂, tt)))) (id⊢ 𝓤 (emp 𝓤))
+        (λ νs. cited 𝓤 H (tripleOf 𝓤 H A fn-command-obey-ran-on.signature (fn-command-obey-ran-on.spec 𝓤 H A (𝓜 .mem) (𝓡 .run))) 𝓜 𝓡 code.env fn-command-obey-ran-on-def.name fn-command-obey-ran-on-def.routine code.calls-command·obey·ran-on (fn-command-obey-ran-on-thm.met 𝓤 H 𝓜 𝓖 𝓡) (((κ′, tt), (q′, tt), tt, (lent-as b′ o′ γ′ ys′, (a .0, (a .1 .0, (V₁ .answer, tt)))), (slice-of b′ o′ ys′ ∷ [], spell (State° ∷ Call° ∷ number w64 ∷ []) ((a .0, (a .1 .0, (V₁ .answer, tt)))))), tt))
         (λ k. and-then ! (load ! (from ! (stop !)) (look ! 19 refl)) (and-then ! (load ! (from ! (stop !)) (look ! 17 refl)) (and-then ! (load ! (from ! (stop !)) (look ! 15 refl)) (and-then ! (load ! (from ! (stop !)) (look ! 7 refl)) (no-more !))))) (λ r₁₃ ws₁₄ is₁₅ ls₁₆ e₁₇.
         split ! $
         split ! $
         move ! (2 ∷ []) $
         drop ! $
         told ! Answered° (e₁₇) is₁₅ (λ is₁₈.
-        land ! (from ! (stop !)) (init ! 24 refl (Answered° .typed 𝓤 H A W (V₃) (is₁₈) .0)) $
+        land ! (from ! (stop !)) (init ! 24 refl (Answered° .typed 𝓤 H A W (V₂) (is₁₈) .0)) $
         move ! (2 ∷ 3 ∷ []) $
-        closed ! tt Thread·.the-row ys (V₂) b o room (sym ((refl ∙ sym (subst (λ (us : List Thread). length us ≡ length ys) (e₁₁ .1) (ls₁₀ .0))))) $
+        closed ! tt Thread·.the-row ys (V₁ .memory) b o room (sym ((refl ∙ sym (subst (λ (us : List Thread). length us ≡ length ys) (e₁₁ .1) (ls₁₀ .0))))) $
         returns ! (look ! 24 refl) $
         move ! (24 ∷ 25 ∷ 22 ∷ 23 ∷ 20 ∷ 21 ∷ 18 ∷ 19 ∷ 16 ∷ 17 ∷ 14 ∷ 15 ∷ 12 ∷ 13 ∷ 10 ∷ 11 ∷ 8 ∷ 9 ∷ 6 ∷ 7 ∷ 4 ∷ 5 ∷ []) $
         all-freed ! mir.locals (l₀ ∷ l₁ ∷ l₂ ∷ l₃ ∷ l₄ ∷ l₅ ∷ l₆ ∷ l₇ ∷ l₈ ∷ l₉ ∷ l₁₀ ∷ []) (full _ ∷ full _ ∷ full _ ∷ full _ ∷ full _ ∷ full _ ∷ full _ ∷ full _ ∷ full _ ∷ full _ ∷ full _ ∷ []) tt $
-        suffices ! _ (ends-at 𝓤 H A donate.ended stayed c W y _ (V₃) (V₂, (tt, (tt, (tt, tt)))) (sym ((refl ∙ sym (subst (λ (us : List Thread). length us ≡ length ys) (e₁₁ .1) (ls₁₀ .0)))), (tt, (tt, (tt, tt))))) $ says ! (refl, refl) $
-        leaves2 ! Answered° Ds a (V₃) are (is₁₈))))))))))))))))))
+        suffices ! _ (ends-at 𝓤 H A donate.ended stayed c W y _ (V₂) (V₁ .memory, (tt, (tt, (tt, tt)))) (sym ((refl ∙ sym (subst (λ (us : List Thread). length us ≡ length ys) (e₁₁ .1) (ls₁₀ .0)))), (tt, (tt, (tt, tt))))) $ says ! (so {X = Left Answered (List Thread)} (record { answer = V₂; memory = (V₁ .memory) }) (donateDef (a .0) (a .1 .0) ys′ ys) (refl)) $
+        leaves2 ! Answered° Ds a (V₂) are (is₁₈))))))))))))))))))
 
 pub donate-spec : {M : Type 1} → stated.statement M
 unfolding code.routine

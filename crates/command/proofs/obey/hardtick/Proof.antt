@@ -1,5 +1,5 @@
 -- `command::obey::hardtick` meets its contract: a walk of its MIR, written by tools/entrygen.py.
-use mathlib.Core.Path.{_≡_, refl, sym, subst, _∙_}
+use mathlib.Core.Path.{_≡_, refl, sym, ap, subst, _∙_}
 use Prim.Native.Nat.{ℕ}
 use mathlib.Core.List.{[], _∷_, List}
 use lib.ListN.{length}
@@ -33,33 +33,34 @@ use denote.Triple.Clauses.{Clauses}
 use denote.Triple.Walked.{says, Stays, stay-none, stay-slice, walkOf, goes-none, goes-slice, ends-at}
 use denote.Exit.{yes as kept-yes}
 use Rattle.lent.proofs.Walk.{Datum, number, nil, struct, Dens, AreD, listed, spell, lent-as, slice-of, kept, opened, closed, full, told, proved}
-use Rattle.lent.proofs.Lent.{mutable, shared, call-slices, all-freed, begins2, leaves2}
-use Rattle.sched.specs.Ticks.{scheduleHardtick}
-use Rattle.command.specs.Answer.{ran}
-use Rattle.command.specs.Call.{context-of}
-use Rattle.command.specs.Command.{hardtickDef}
+use Rattle.lent.proofs.Lent.{mutable, shared, call-slices, call-left, all-freed, so, begins2, leaves2}
+use Rattle.command.specs.Command.{hardtickCommand}
+use Rattle.lent.specs.Left.{Memory, Left}
+use Rattle.outcome.specs.Answer.{ran}
+use Rattle.outcome.specs.Call.{context-of}
+use Rattle.sched_ticks.specs.Ticks.{scheduleHardtick}
 use denote.Struct.Laws as LL
-use Rattle.command.specs.declared.answer.Answered.{Answered}
-use Rattle.command.proofs.answer.Answered as Answered·
-use Rattle.command.proofs.answer.Answered.Laws as Answered·laws
-use Rattle.command.specs.declared.call.Call.{Call}
-use Rattle.command.proofs.call.Call as Call·
-use Rattle.command.proofs.call.Call.Laws as Call·laws
-use Rattle.sched.specs.declared.context.Context.{Context}
-use Rattle.sched.proofs.context.Context as Context·
-use Rattle.sched.proofs.context.Context.Laws as Context·laws
+use Rattle.outcome.specs.declared.answer.Answered.{Answered}
+use Rattle.outcome.proofs.answer.Answered as Answered·
+use Rattle.outcome.proofs.answer.Answered.Laws as Answered·laws
+use Rattle.outcome.specs.declared.call.Call.{Call}
+use Rattle.outcome.proofs.call.Call as Call·
+use Rattle.outcome.proofs.call.Call.Laws as Call·laws
+use Rattle.step.specs.declared.context.Context.{Context}
+use Rattle.step.proofs.context.Context as Context·
+use Rattle.step.proofs.context.Context.Laws as Context·laws
 use Rattle.questions.specs.declared.state.State.{State}
 use Rattle.questions.proofs.state.State as State·
 use Rattle.questions.proofs.state.State.Laws as State·laws
 use Rattle.thread.specs.declared.Thread.{Thread}
 use Rattle.thread.proofs.Thread as Thread·
 use Rattle.thread.proofs.Thread.Laws as Thread·laws
-use Rattle.command.proofs.call.context_of as fn-command-call-context-of
-use Rattle.command.proofs.call.context_of.Symbol as fn-command-call-context-of-def
-use Rattle.command.proofs.call.context_of.Met as fn-command-call-context-of-thm
-use Rattle.sched.proofs.ticks.schedule_hardtick as fn-sched-ticks-schedule-hardtick
-use Rattle.sched.proofs.ticks.schedule_hardtick.Symbol as fn-sched-ticks-schedule-hardtick-def
-use Rattle.sched.proofs.ticks.schedule_hardtick.Met as fn-sched-ticks-schedule-hardtick-thm
+use Rattle.outcome.proofs.call.context_of as fn-outcome-call-context-of
+use Rattle.outcome.proofs.call.context_of.Symbol as fn-outcome-call-context-of-def
+use Rattle.outcome.proofs.call.context_of.Met as fn-outcome-call-context-of-thm
+use Rattle.sched_ticks.proofs.ticks.schedule_hardtick as fn-sched-ticks-ticks-schedule-hardtick
+use Rattle.sched_ticks.proofs.ticks.schedule_hardtick.Symbol as fn-sched-ticks-ticks-schedule-hardtick-def
+use Rattle.sched_ticks.proofs.ticks.schedule_hardtick.Met as fn-sched-ticks-ticks-schedule-hardtick-thm
 use Rattle.command.proofs.obey.ran_on as fn-command-obey-ran-on
 use Rattle.command.proofs.obey.ran_on.Symbol as fn-command-obey-ran-on-def
 use Rattle.command.proofs.obey.ran_on.Met as fn-command-obey-ran-on-thm
@@ -128,17 +129,14 @@ module _ {M : Type 1} (𝓤 : URA M) (H : Heap 𝓤) (𝓜 : Model 𝓤 H) (𝓖
     abbrev V₁ : Context
     V₁ = context-of (a .0) (a .1 .0)
 
-    abbrev V₂ : List Thread
-    V₂ = scheduleHardtick ys ys′ V₁ .threads
+    abbrev V₂ : Memory
+    V₂ = scheduleHardtick V₁ (record { threads = ys; cpus = ys′ })
 
-    abbrev V₃ : List (List ℕ)
-    V₃ = scheduleHardtick ys ys′ V₁ .cpus
-
-    abbrev V₄ : Answered
-    V₄ = ran V₃ (a .0) ((a .1 .0) .cpu) 0 ((a .1 .0) .used)
+    abbrev V₃ : Answered
+    V₃ = ran (V₂ .cpus) (a .0) ((a .1 .0) .cpu) 0 ((a .1 .0) .used)
 
     walk : ent 𝓤 (onEntry 𝓤 H A hardtick.signature (κ, (κ′, tt)) (q, (q′, tt)) ((lent-as b o γ ys, (lent-as b′ o′ γ′ ys′, a))) ((s ∷ [], (s′ ∷ [], spell Ds a)))) (WpFn 𝓤 H C Λ code.function (s ∷ s′ ∷ listed Ds a) Post)
-    unfolding hardtickDef
+    unfolding hardtickCommand
     walk =
         qed W ((‵ (flft κ q) ⊛ (‵ (flft κ′ q′) ⊛ (‵ ftrue))) ∷ ‵ (owns (MutSlice (named 0) κ Thread·.the-row ∷ MutSlice (named 1) κ′ (Array u64 96) ∷ State·.the-row ∷ Call·.the-row ∷ []) ((lent-as b o γ ys, (lent-as b′ o′ γ′ ys′, a))) ((s ∷ [], (s′ ∷ [], spell Ds a)))) ∷ []) ∵ begins2 ! $ enter ! C _ code.function (s ∷ s′ ∷ listed Ds a) _ $
         alloc1 ! (λ l₀. alloc1 ! (λ l₁. alloc1 ! (λ l₂. alloc1 ! (λ l₃. alloc1 ! (λ l₄. alloc1 ! (λ l₅. alloc1 ! (λ l₆. alloc1 ! (λ l₇. alloc1 ! (λ l₈. alloc1 ! (λ l₉. alloc1 ! (λ l₁₀. alloc1 ! (λ l₁₁. alloc1 ! (λ l₁₂. alloc0 ! $ params1 ! $
@@ -149,7 +147,7 @@ module _ {M : Type 1} (𝓤 : URA M) (H : Heap 𝓤) (𝓜 : Model 𝓤 H) (𝓖
         opened ! tt Thread·.the-row γ ys b o $
         nothing ! $
         call-slices Context° (State° ∷ Call° ∷ []) ((a .0, (a .1 .0, tt))) (emp 𝓤) ([]) ! fm (λ r ws. r ≡ V₁) ((are .0, (are .1 .0, tt))) (id⊢ 𝓤 (emp 𝓤))
-        (λ νs. cited 𝓤 H (tripleOf 𝓤 H A fn-command-call-context-of.signature (fn-command-call-context-of.spec 𝓤 H A (𝓜 .mem) (𝓡 .run))) 𝓜 𝓡 code.env fn-command-call-context-of-def.name fn-command-call-context-of-def.routine code.calls-command·call·context-of (fn-command-call-context-of-thm.met 𝓤 H 𝓜 𝓖 𝓡) ((tt, tt, tt, (a .0, (a .1 .0, tt)), spell (State° ∷ Call° ∷ []) ((a .0, (a .1 .0, tt)))), tt))
+        (λ νs. cited 𝓤 H (tripleOf 𝓤 H A fn-outcome-call-context-of.signature (fn-outcome-call-context-of.spec 𝓤 H A (𝓜 .mem) (𝓡 .run))) 𝓜 𝓡 code.env fn-outcome-call-context-of-def.name fn-outcome-call-context-of-def.routine code.calls-outcome·call·context-of (fn-outcome-call-context-of-thm.met 𝓤 H 𝓜 𝓖 𝓡) ((tt, tt, tt, (a .0, (a .1 .0, tt)), spell (State° ∷ Call° ∷ []) ((a .0, (a .1 .0, tt)))), tt))
         (λ k. and-then ! (load ! (from ! (stop !)) (look ! 23 refl)) (and-then ! (load ! (from ! (stop !)) (look ! 21 refl)) (no-more !))) (λ r₁ ws₂ is₃ ls₄ e₅.
         drop ! $
         told ! Context° (e₅) is₃ (λ is₆.
@@ -163,8 +161,8 @@ module _ {M : Type 1} (𝓤 : URA M) (H : Heap 𝓤) (𝓜 : Model 𝓤 H) (𝓖
         join ! $
         move ! (1 ∷ 0 ∷ []) $
         join ! $
-        call-slices nil (Context° ∷ []) ((V₁, tt)) (emp 𝓤) ((mutable Thread·.the-row ys b o n refl room) ∷ (mutable (Array u64 96) ys′ b′ o′ n′ refl room′) ∷ []) ! fm (λ r ws. (ws .0 ≡ V₂) × (ws .1 .0 ≡ V₃)) ((is₆, tt)) (id⊢ 𝓤 (emp 𝓤))
-        (λ νs. cited 𝓤 H (tripleOf 𝓤 H A fn-sched-ticks-schedule-hardtick.signature (fn-sched-ticks-schedule-hardtick.spec 𝓤 H A (𝓜 .mem) (𝓡 .run))) 𝓜 𝓡 code.env fn-sched-ticks-schedule-hardtick-def.name fn-sched-ticks-schedule-hardtick-def.routine code.calls-sched·ticks·schedule-hardtick (fn-sched-ticks-schedule-hardtick-thm.met 𝓤 H 𝓜 𝓖 𝓡) (((νs .0 .0 ∷ [], (νs .1 .0 .0 ∷ [], tt)), (fullShare, (fullShare, tt)), tt, (lent-as b o (νs .0 .1) ys, (lent-as b′ o′ (νs .1 .0 .1) ys′, (V₁, tt))), (slice-of b o ys ∷ [], (slice-of b′ o′ ys′ ∷ [], spell (Context° ∷ []) ((V₁, tt))))), tt))
+        call-left nil (Context° ∷ []) ((V₁, tt)) (emp 𝓤) ((mutable Thread·.the-row ys b o n refl room) ∷ (mutable (Array u64 96) ys′ b′ o′ n′ refl room′) ∷ []) ! fm (λ r ws. (ws .0 ≡ (V₂ .threads)) × (ws .1 .0 ≡ (V₂ .cpus))) (λ r ws. _≡_ {A = Memory} (record { threads = ws .0; cpus = ws .1 .0 }) V₂) (λ r ws e. (ap (λ (z : Memory). z .threads) e, ap (λ (z : Memory). z .cpus) e)) ((is₆, tt)) (id⊢ 𝓤 (emp 𝓤))
+        (λ νs. cited 𝓤 H (tripleOf 𝓤 H A fn-sched-ticks-ticks-schedule-hardtick.signature (fn-sched-ticks-ticks-schedule-hardtick.spec 𝓤 H A (𝓜 .mem) (𝓡 .run))) 𝓜 𝓡 code.env fn-sched-ticks-ticks-schedule-hardtick-def.name fn-sched-ticks-ticks-schedule-hardtick-def.routine code.calls-sched-ticks·ticks·schedule-hardtick (fn-sched-ticks-ticks-schedule-hardtick-thm.met 𝓤 H 𝓜 𝓖 𝓡) (((νs .0 .0 ∷ [], (νs .1 .0 .0 ∷ [], tt)), (fullShare, (fullShare, tt)), tt, (lent-as b o (νs .0 .1) ys, (lent-as b′ o′ (νs .1 .0 .1) ys′, (V₁, tt))), (slice-of b o ys ∷ [], (slice-of b′ o′ ys′ ∷ [], spell (Context° ∷ []) ((V₁, tt))))), tt))
         (λ k. and-then ! (load ! (from ! (stop !)) (look ! 11 refl)) (and-then ! (load ! (from ! (stop !)) (look ! 7 refl)) (and-then ! (load ! (from ! (stop !)) (look ! 17 refl)) (no-more !)))) (λ r₇ ws₈ is₉ ls₁₀ e₁₁.
         split ! $
         move ! (1 ∷ []) $
@@ -179,23 +177,23 @@ module _ {M : Type 1} (𝓤 : URA M) (H : Heap 𝓤) (𝓜 : Model 𝓤 H) (𝓖
         nothing ! $
         move ! (1 ∷ 0 ∷ []) $
         join ! $
-        call-slices Answered° (State° ∷ Call° ∷ number w64 ∷ []) ((a .0, (a .1 .0, (0, tt)))) (emp 𝓤) ((shared (Array u64 96) V₃ b′ o′ n′ ((refl ∙ sym (subst (λ (us : List (List ℕ)). length us ≡ length ys′) (e₁₁ .1) (ls₁₀ .1 .0)))) room′) ∷ []) ! fm (λ r ws. r ≡ V₄) ((are .0, (are .1 .0, ((refl, lit< tt), tt)))) (id⊢ 𝓤 (emp 𝓤))
-        (λ νs. cited 𝓤 H (tripleOf 𝓤 H A fn-command-obey-ran-on.signature (fn-command-obey-ran-on.spec 𝓤 H A (𝓜 .mem) (𝓡 .run))) 𝓜 𝓡 code.env fn-command-obey-ran-on-def.name fn-command-obey-ran-on-def.routine code.calls-command·obey·ran-on (fn-command-obey-ran-on-thm.met 𝓤 H 𝓜 𝓖 𝓡) (((νs .0 .0 ∷ [], tt), (fullShare, tt), tt, (lent-as b′ o′ (νs .0 .1) V₃, (a .0, (a .1 .0, (0, tt)))), (slice-of b′ o′ V₃ ∷ [], spell (State° ∷ Call° ∷ number w64 ∷ []) ((a .0, (a .1 .0, (0, tt)))))), tt))
+        call-slices Answered° (State° ∷ Call° ∷ number w64 ∷ []) ((a .0, (a .1 .0, (0, tt)))) (emp 𝓤) ((shared (Array u64 96) (V₂ .cpus) b′ o′ n′ ((refl ∙ sym (subst (λ (us : List (List ℕ)). length us ≡ length ys′) (e₁₁ .1) (ls₁₀ .1 .0)))) room′) ∷ []) ! fm (λ r ws. r ≡ V₃) ((are .0, (are .1 .0, ((refl, lit< tt), tt)))) (id⊢ 𝓤 (emp 𝓤))
+        (λ νs. cited 𝓤 H (tripleOf 𝓤 H A fn-command-obey-ran-on.signature (fn-command-obey-ran-on.spec 𝓤 H A (𝓜 .mem) (𝓡 .run))) 𝓜 𝓡 code.env fn-command-obey-ran-on-def.name fn-command-obey-ran-on-def.routine code.calls-command·obey·ran-on (fn-command-obey-ran-on-thm.met 𝓤 H 𝓜 𝓖 𝓡) (((νs .0 .0 ∷ [], tt), (fullShare, tt), tt, (lent-as b′ o′ (νs .0 .1) (V₂ .cpus), (a .0, (a .1 .0, (0, tt)))), (slice-of b′ o′ (V₂ .cpus) ∷ [], spell (State° ∷ Call° ∷ number w64 ∷ []) ((a .0, (a .1 .0, (0, tt)))))), tt))
         (λ k. and-then ! (load ! (from ! (stop !)) (look ! 4 refl)) (and-then ! (load ! (from ! (stop !)) (look ! 22 refl)) (and-then ! (load ! (from ! (stop !)) (look ! 20 refl)) (and-then ! (lit ! tt) (no-more !))))) (λ r₁₂ ws₁₃ is₁₄ ls₁₅ e₁₆.
         split ! $
         move ! (1 ∷ []) $
         drop ! $
         told ! Answered° (e₁₆) is₁₄ (λ is₁₇.
-        land ! (from ! (stop !)) (init ! 28 refl (Answered° .typed 𝓤 H A W (V₄) (is₁₇) .0)) $
+        land ! (from ! (stop !)) (init ! 28 refl (Answered° .typed 𝓤 H A W (V₃) (is₁₇) .0)) $
         move ! (0 ∷ 3 ∷ []) $
-        closed ! tt (Array u64 96) ys′ (V₃) b′ o′ room′ (sym ((refl ∙ sym (subst (λ (us : List (List ℕ)). length us ≡ length ys′) (e₁₁ .1) (ls₁₀ .1 .0))))) $
+        closed ! tt (Array u64 96) ys′ (V₂ .cpus) b′ o′ room′ (sym ((refl ∙ sym (subst (λ (us : List (List ℕ)). length us ≡ length ys′) (e₁₁ .1) (ls₁₀ .1 .0))))) $
         move ! (2 ∷ 3 ∷ []) $
-        closed ! tt Thread·.the-row ys (V₂) b o room (sym ((refl ∙ sym (subst (λ (us : List Thread). length us ≡ length ys) (e₁₁ .0) (ls₁₀ .0))))) $
+        closed ! tt Thread·.the-row ys (V₂ .threads) b o room (sym ((refl ∙ sym (subst (λ (us : List Thread). length us ≡ length ys) (e₁₁ .0) (ls₁₀ .0))))) $
         returns ! (look ! 28 refl) $
         move ! (28 ∷ 29 ∷ 26 ∷ 27 ∷ 24 ∷ 25 ∷ 22 ∷ 23 ∷ 20 ∷ 21 ∷ 18 ∷ 19 ∷ 16 ∷ 17 ∷ 14 ∷ 15 ∷ 12 ∷ 13 ∷ 10 ∷ 11 ∷ 8 ∷ 9 ∷ 6 ∷ 7 ∷ 4 ∷ 5 ∷ []) $
         all-freed ! mir.locals (l₀ ∷ l₁ ∷ l₂ ∷ l₃ ∷ l₄ ∷ l₅ ∷ l₆ ∷ l₇ ∷ l₈ ∷ l₉ ∷ l₁₀ ∷ l₁₁ ∷ l₁₂ ∷ []) (full _ ∷ full _ ∷ full _ ∷ full _ ∷ full _ ∷ full _ ∷ full _ ∷ full _ ∷ full _ ∷ full _ ∷ full _ ∷ full _ ∷ full _ ∷ []) tt $
-        suffices ! _ (ends-at 𝓤 H A hardtick.ended stayed c W y _ (V₄) (V₂, (V₃, (tt, (tt, tt)))) (sym ((refl ∙ sym (subst (λ (us : List Thread). length us ≡ length ys) (e₁₁ .0) (ls₁₀ .0)))), (sym ((refl ∙ sym (subst (λ (us : List (List ℕ)). length us ≡ length ys′) (e₁₁ .1) (ls₁₀ .1 .0)))), (tt, (tt, tt))))) $ says ! (refl, (refl, refl)) $
-        leaves2 ! Answered° Ds a (V₄) are (is₁₇)))))))))))))))))))
+        suffices ! _ (ends-at 𝓤 H A hardtick.ended stayed c W y _ (V₃) (V₂ .threads, (V₂ .cpus, (tt, (tt, tt)))) (sym ((refl ∙ sym (subst (λ (us : List Thread). length us ≡ length ys) (e₁₁ .0) (ls₁₀ .0)))), (sym ((refl ∙ sym (subst (λ (us : List (List ℕ)). length us ≡ length ys′) (e₁₁ .1) (ls₁₀ .1 .0)))), (tt, (tt, tt))))) $ says ! (so {X = Left Answered Memory} (record { answer = V₃; memory = record { threads = (V₂ .threads); cpus = (V₂ .cpus) } }) (hardtickCommand (a .0) (a .1 .0) (record { threads = ys; cpus = ys′ })) (refl)) $
+        leaves2 ! Answered° Ds a (V₃) are (is₁₇)))))))))))))))))))
 
 pub hardtick-spec : {M : Type 1} → stated.statement M
 unfolding code.routine

@@ -1,5 +1,5 @@
 -- `command::obey::maybe_preempt` meets its contract: a walk of its MIR, written by tools/entrygen.py.
-use mathlib.Core.Path.{_≡_, refl, sym, subst, _∙_}
+use mathlib.Core.Path.{_≡_, refl, sym, ap, subst, _∙_}
 use Prim.Native.Nat.{ℕ}
 use mathlib.Core.List.{[], _∷_, List}
 use lib.ListN.{length}
@@ -33,33 +33,34 @@ use denote.Triple.Clauses.{Clauses}
 use denote.Triple.Walked.{says, Stays, stay-none, stay-slice, stay-none-slice, walkOf, goes-none, goes-slice, goes-none-slice, ends-at}
 use denote.Exit.{yes as kept-yes}
 use Rattle.lent.proofs.Walk.{Datum, number, struct, Dens, AreD, listed, spell, lent-as, slice-of, kept, opened, closed, full, told, proved}
-use Rattle.lent.proofs.Lent.{mutable, shared, passed, call-slices, all-freed, begins3, leaves3}
-use Rattle.sched.specs.Ticks.{scheduleMaybePreempt}
-use Rattle.command.specs.Answer.{ran}
-use Rattle.command.specs.Call.{context-of}
+use Rattle.lent.proofs.Lent.{mutable, shared, passed, call-slices, call-left, all-freed, so, begins3, leaves3}
 use Rattle.command.specs.Command.{maybePreemptDef}
+use Rattle.lent.specs.Left.{Memory, Left}
+use Rattle.outcome.specs.Answer.{ran}
+use Rattle.outcome.specs.Call.{context-of}
+use Rattle.sched.specs.Preempt.{scheduleMaybePreempt}
 use denote.Struct.Laws as LL
-use Rattle.command.specs.declared.answer.Answered.{Answered}
-use Rattle.command.proofs.answer.Answered as Answered·
-use Rattle.command.proofs.answer.Answered.Laws as Answered·laws
-use Rattle.command.specs.declared.call.Call.{Call}
-use Rattle.command.proofs.call.Call as Call·
-use Rattle.command.proofs.call.Call.Laws as Call·laws
-use Rattle.sched.specs.declared.context.Context.{Context}
-use Rattle.sched.proofs.context.Context as Context·
-use Rattle.sched.proofs.context.Context.Laws as Context·laws
+use Rattle.outcome.specs.declared.answer.Answered.{Answered}
+use Rattle.outcome.proofs.answer.Answered as Answered·
+use Rattle.outcome.proofs.answer.Answered.Laws as Answered·laws
+use Rattle.outcome.specs.declared.call.Call.{Call}
+use Rattle.outcome.proofs.call.Call as Call·
+use Rattle.outcome.proofs.call.Call.Laws as Call·laws
+use Rattle.step.specs.declared.context.Context.{Context}
+use Rattle.step.proofs.context.Context as Context·
+use Rattle.step.proofs.context.Context.Laws as Context·laws
 use Rattle.questions.specs.declared.state.State.{State}
 use Rattle.questions.proofs.state.State as State·
 use Rattle.questions.proofs.state.State.Laws as State·laws
 use Rattle.thread.specs.declared.Thread.{Thread}
 use Rattle.thread.proofs.Thread as Thread·
 use Rattle.thread.proofs.Thread.Laws as Thread·laws
-use Rattle.command.proofs.call.context_of as fn-command-call-context-of
-use Rattle.command.proofs.call.context_of.Symbol as fn-command-call-context-of-def
-use Rattle.command.proofs.call.context_of.Met as fn-command-call-context-of-thm
-use Rattle.sched.proofs.ticks.schedule_maybe_preempt as fn-sched-ticks-schedule-maybe-preempt
-use Rattle.sched.proofs.ticks.schedule_maybe_preempt.Symbol as fn-sched-ticks-schedule-maybe-preempt-def
-use Rattle.sched.proofs.ticks.schedule_maybe_preempt.Met as fn-sched-ticks-schedule-maybe-preempt-thm
+use Rattle.outcome.proofs.call.context_of as fn-outcome-call-context-of
+use Rattle.outcome.proofs.call.context_of.Symbol as fn-outcome-call-context-of-def
+use Rattle.outcome.proofs.call.context_of.Met as fn-outcome-call-context-of-thm
+use Rattle.sched.proofs.preempt.schedule_maybe_preempt as fn-sched-preempt-schedule-maybe-preempt
+use Rattle.sched.proofs.preempt.schedule_maybe_preempt.Symbol as fn-sched-preempt-schedule-maybe-preempt-def
+use Rattle.sched.proofs.preempt.schedule_maybe_preempt.Met as fn-sched-preempt-schedule-maybe-preempt-thm
 use Rattle.command.proofs.obey.ran_on as fn-command-obey-ran-on
 use Rattle.command.proofs.obey.ran_on.Symbol as fn-command-obey-ran-on-def
 use Rattle.command.proofs.obey.ran_on.Met as fn-command-obey-ran-on-thm
@@ -134,17 +135,11 @@ module _ {M : Type 1} (𝓤 : URA M) (H : Heap 𝓤) (𝓜 : Model 𝓤 H) (𝓖
     abbrev V₁ : Context
     V₁ = context-of (a .0) (a .1 .0)
 
-    abbrev V₂ : ℕ
-    V₂ = scheduleMaybePreempt ys ys′ ys″ V₁ 0 .wakeups
+    abbrev V₂ : Left ℕ Memory
+    V₂ = scheduleMaybePreempt V₁ 0 ys″ (record { threads = ys; cpus = ys′ })
 
-    abbrev V₃ : List Thread
-    V₃ = scheduleMaybePreempt ys ys′ ys″ V₁ 0 .threads
-
-    abbrev V₄ : List (List ℕ)
-    V₄ = scheduleMaybePreempt ys ys′ ys″ V₁ 0 .cpus
-
-    abbrev V₅ : Answered
-    V₅ = ran V₄ (a .0) ((a .1 .0) .cpu) V₂ ((a .1 .0) .used)
+    abbrev V₃ : Answered
+    V₃ = ran (V₂ .memory .cpus) (a .0) ((a .1 .0) .cpu) (V₂ .answer) ((a .1 .0) .used)
 
     walk : ent 𝓤 (onEntry 𝓤 H A maybe-preempt.signature (κ, (κ′, (κ″, tt))) (q, (q′, (q″, tt))) ((lent-as b o γ ys, (lent-as b′ o′ γ′ ys′, (lent-as b″ o″ γ″ ys″, a)))) ((s ∷ [], (s′ ∷ [], (s″ ∷ [], spell Ds a))))) (WpFn 𝓤 H C Λ code.function (s ∷ s′ ∷ s″ ∷ listed Ds a) Post)
     unfolding maybePreemptDef
@@ -159,7 +154,7 @@ module _ {M : Type 1} (𝓤 : URA M) (H : Heap 𝓤) (𝓜 : Model 𝓤 H) (𝓖
         opened ! tt Thread·.the-row γ ys b o $
         nothing ! $
         call-slices Context° (State° ∷ Call° ∷ []) ((a .0, (a .1 .0, tt))) (emp 𝓤) ([]) ! fm (λ r ws. r ≡ V₁) ((are .0, (are .1 .0, tt))) (id⊢ 𝓤 (emp 𝓤))
-        (λ νs. cited 𝓤 H (tripleOf 𝓤 H A fn-command-call-context-of.signature (fn-command-call-context-of.spec 𝓤 H A (𝓜 .mem) (𝓡 .run))) 𝓜 𝓡 code.env fn-command-call-context-of-def.name fn-command-call-context-of-def.routine code.calls-command·call·context-of (fn-command-call-context-of-thm.met 𝓤 H 𝓜 𝓖 𝓡) ((tt, tt, tt, (a .0, (a .1 .0, tt)), spell (State° ∷ Call° ∷ []) ((a .0, (a .1 .0, tt)))), tt))
+        (λ νs. cited 𝓤 H (tripleOf 𝓤 H A fn-outcome-call-context-of.signature (fn-outcome-call-context-of.spec 𝓤 H A (𝓜 .mem) (𝓡 .run))) 𝓜 𝓡 code.env fn-outcome-call-context-of-def.name fn-outcome-call-context-of-def.routine code.calls-outcome·call·context-of (fn-outcome-call-context-of-thm.met 𝓤 H 𝓜 𝓖 𝓡) ((tt, tt, tt, (a .0, (a .1 .0, tt)), spell (State° ∷ Call° ∷ []) ((a .0, (a .1 .0, tt)))), tt))
         (λ k. and-then ! (load ! (from ! (stop !)) (look ! 25 refl)) (and-then ! (load ! (from ! (stop !)) (look ! 23 refl)) (no-more !))) (λ r₁ ws₂ is₃ ls₄ e₅.
         drop ! $
         told ! Context° (e₅) is₃ (λ is₆.
@@ -176,8 +171,8 @@ module _ {M : Type 1} (𝓤 : URA M) (H : Heap 𝓤) (𝓜 : Model 𝓤 H) (𝓖
         join ! $
         move ! (1 ∷ 0 ∷ []) $
         join ! $
-        call-slices (number w64) (Context° ∷ number w64 ∷ []) ((V₁, (0, tt))) (emp 𝓤) ((mutable Thread·.the-row ys b o n refl room) ∷ (mutable (Array u64 96) ys′ b′ o′ n′ refl room′) ∷ (passed (Array u64 32) ys″ b″ o″ κ″ q″ γ″) ∷ []) ! fm (λ r ws. (r ≡ V₂) × ((ws .0 ≡ V₃) × (ws .1 .0 ≡ V₄))) ((is₆, ((refl, lit< tt), tt))) (id⊢ 𝓤 (emp 𝓤))
-        (λ νs. cited 𝓤 H (tripleOf 𝓤 H A fn-sched-ticks-schedule-maybe-preempt.signature (fn-sched-ticks-schedule-maybe-preempt.spec 𝓤 H A (𝓜 .mem) (𝓡 .run))) 𝓜 𝓡 code.env fn-sched-ticks-schedule-maybe-preempt-def.name fn-sched-ticks-schedule-maybe-preempt-def.routine code.calls-sched·ticks·schedule-maybe-preempt (fn-sched-ticks-schedule-maybe-preempt-thm.met 𝓤 H 𝓜 𝓖 𝓡) (((νs .0 .0 ∷ [], (νs .1 .0 .0 ∷ [], (κ″, tt))), (fullShare, (fullShare, (q″, tt))), tt, (lent-as b o (νs .0 .1) ys, (lent-as b′ o′ (νs .1 .0 .1) ys′, (lent-as b″ o″ γ″ ys″, (V₁, (0, tt))))), (slice-of b o ys ∷ [], (slice-of b′ o′ ys′ ∷ [], (slice-of b″ o″ ys″ ∷ [], spell (Context° ∷ number w64 ∷ []) ((V₁, (0, tt))))))), tt))
+        call-left (number w64) (Context° ∷ number w64 ∷ []) ((V₁, (0, tt))) (emp 𝓤) ((mutable Thread·.the-row ys b o n refl room) ∷ (mutable (Array u64 96) ys′ b′ o′ n′ refl room′) ∷ (passed (Array u64 32) ys″ b″ o″ κ″ q″ γ″) ∷ []) ! fm (λ r ws. (r ≡ (V₂ .answer)) × ((ws .0 ≡ (V₂ .memory .threads)) × (ws .1 .0 ≡ (V₂ .memory .cpus)))) (λ r ws. _≡_ {A = Left ℕ Memory} (record { answer = r; memory = record { threads = ws .0; cpus = ws .1 .0 } }) V₂) (λ r ws e. (ap (λ (z : Left ℕ Memory). z .answer) e, (ap (λ (z : Left ℕ Memory). z .memory .threads) e, ap (λ (z : Left ℕ Memory). z .memory .cpus) e))) ((is₆, ((refl, lit< tt), tt))) (id⊢ 𝓤 (emp 𝓤))
+        (λ νs. cited 𝓤 H (tripleOf 𝓤 H A fn-sched-preempt-schedule-maybe-preempt.signature (fn-sched-preempt-schedule-maybe-preempt.spec 𝓤 H A (𝓜 .mem) (𝓡 .run))) 𝓜 𝓡 code.env fn-sched-preempt-schedule-maybe-preempt-def.name fn-sched-preempt-schedule-maybe-preempt-def.routine code.calls-sched·preempt·schedule-maybe-preempt (fn-sched-preempt-schedule-maybe-preempt-thm.met 𝓤 H 𝓜 𝓖 𝓡) (((νs .0 .0 ∷ [], (νs .1 .0 .0 ∷ [], (κ″, tt))), (fullShare, (fullShare, (q″, tt))), tt, (lent-as b o (νs .0 .1) ys, (lent-as b′ o′ (νs .1 .0 .1) ys′, (lent-as b″ o″ γ″ ys″, (V₁, (0, tt))))), (slice-of b o ys ∷ [], (slice-of b′ o′ ys′ ∷ [], (slice-of b″ o″ ys″ ∷ [], spell (Context° ∷ number w64 ∷ []) ((V₁, (0, tt))))))), tt))
         (λ k. and-then ! (load ! (from ! (stop !)) (look ! 11 refl)) (and-then ! (load ! (from ! (stop !)) (look ! 7 refl)) (and-then ! (load ! (from ! (stop !)) (look ! 23 refl)) (and-then ! (load ! (from ! (stop !)) (look ! 17 refl)) (and-then ! (lit ! tt) (no-more !)))))) (λ r₇ ws₈ is₉ ls₁₀ e₁₁.
         split ! $
         move ! (1 ∷ []) $
@@ -190,30 +185,30 @@ module _ {M : Type 1} (𝓤 : URA M) (H : Heap 𝓤) (𝓜 : Model 𝓤 H) (𝓖
         rewrite ! 3 (λ (us : List Thread). ‵ (row Thread·.the-row fullShare us b o)) (e₁₁ .1 .0) refl $
         rewrite ! 2 (λ (us : List (List ℕ)). ‵ (row (Array u64 96) fullShare us b′ o′)) (e₁₁ .1 .1) refl $
         told ! (number w64) (e₁₁ .0) is₉ (λ is₁₂.
-        land ! (from ! (stop !)) (init ! 18 refl ((number w64) .typed 𝓤 H A W (V₂) (is₁₂) .0)) $
+        land ! (from ! (stop !)) (init ! 18 refl ((number w64) .typed 𝓤 H A W (V₂ .answer) (is₁₂) .0)) $
         assigns ! (addr ! (from ! (fld ! refl (hop ! (look-in ! 28 (sub ! 0 refl (whole !))) (stop !))))) (from ! (stop !)) (init ! 8 refl (tt, tt)) $
         assigns ! (agg ! (and-then ! (load ! (from ! (stop !)) (look ! 8 refl)) (and-then ! (load ! (from ! (fld ! refl (stop !))) (look-in ! 28 (sub ! 1 refl (whole !)))) (no-more !)))) (from ! (stop !)) (init ! 6 refl (tt, (tt, (record { fits = room′ .0 }, tt)))) $
         nothing ! $
         move ! (3 ∷ 0 ∷ []) $
         join ! $
-        call-slices Answered° (State° ∷ Call° ∷ number w64 ∷ []) ((a .0, (a .1 .0, (V₂, tt)))) (emp 𝓤) ((shared (Array u64 96) V₄ b′ o′ n′ ((refl ∙ sym (subst (λ (us : List (List ℕ)). length us ≡ length ys′) (e₁₁ .1 .1) (ls₁₀ .1 .0)))) room′) ∷ []) ! fm (λ r ws. r ≡ V₅) ((are .0, (are .1 .0, (is₁₂, tt)))) (id⊢ 𝓤 (emp 𝓤))
-        (λ νs. cited 𝓤 H (tripleOf 𝓤 H A fn-command-obey-ran-on.signature (fn-command-obey-ran-on.spec 𝓤 H A (𝓜 .mem) (𝓡 .run))) 𝓜 𝓡 code.env fn-command-obey-ran-on-def.name fn-command-obey-ran-on-def.routine code.calls-command·obey·ran-on (fn-command-obey-ran-on-thm.met 𝓤 H 𝓜 𝓖 𝓡) (((νs .0 .0 ∷ [], tt), (fullShare, tt), tt, (lent-as b′ o′ (νs .0 .1) V₄, (a .0, (a .1 .0, (V₂, tt)))), (slice-of b′ o′ V₄ ∷ [], spell (State° ∷ Call° ∷ number w64 ∷ []) ((a .0, (a .1 .0, (V₂, tt)))))), tt))
+        call-slices Answered° (State° ∷ Call° ∷ number w64 ∷ []) ((a .0, (a .1 .0, (V₂ .answer, tt)))) (emp 𝓤) ((shared (Array u64 96) (V₂ .memory .cpus) b′ o′ n′ ((refl ∙ sym (subst (λ (us : List (List ℕ)). length us ≡ length ys′) (e₁₁ .1 .1) (ls₁₀ .1 .0)))) room′) ∷ []) ! fm (λ r ws. r ≡ V₃) ((are .0, (are .1 .0, (is₁₂, tt)))) (id⊢ 𝓤 (emp 𝓤))
+        (λ νs. cited 𝓤 H (tripleOf 𝓤 H A fn-command-obey-ran-on.signature (fn-command-obey-ran-on.spec 𝓤 H A (𝓜 .mem) (𝓡 .run))) 𝓜 𝓡 code.env fn-command-obey-ran-on-def.name fn-command-obey-ran-on-def.routine code.calls-command·obey·ran-on (fn-command-obey-ran-on-thm.met 𝓤 H 𝓜 𝓖 𝓡) (((νs .0 .0 ∷ [], tt), (fullShare, tt), tt, (lent-as b′ o′ (νs .0 .1) (V₂ .memory .cpus), (a .0, (a .1 .0, (V₂ .answer, tt)))), (slice-of b′ o′ (V₂ .memory .cpus) ∷ [], spell (State° ∷ Call° ∷ number w64 ∷ []) ((a .0, (a .1 .0, (V₂ .answer, tt)))))), tt))
         (λ k. and-then ! (load ! (from ! (stop !)) (look ! 6 refl)) (and-then ! (load ! (from ! (stop !)) (look ! 24 refl)) (and-then ! (load ! (from ! (stop !)) (look ! 22 refl)) (and-then ! (load ! (from ! (stop !)) (look ! 18 refl)) (no-more !))))) (λ r₁₃ ws₁₄ is₁₅ ls₁₆ e₁₇.
         split ! $
         move ! (1 ∷ []) $
         drop ! $
         told ! Answered° (e₁₇) is₁₅ (λ is₁₈.
-        land ! (from ! (stop !)) (init ! 32 refl (Answered° .typed 𝓤 H A W (V₅) (is₁₈) .0)) $
+        land ! (from ! (stop !)) (init ! 32 refl (Answered° .typed 𝓤 H A W (V₃) (is₁₈) .0)) $
         move ! (1 ∷ 2 ∷ []) $
         move ! (2 ∷ 5 ∷ []) $
-        closed ! tt (Array u64 96) ys′ (V₄) b′ o′ room′ (sym ((refl ∙ sym (subst (λ (us : List (List ℕ)). length us ≡ length ys′) (e₁₁ .1 .1) (ls₁₀ .1 .0))))) $
+        closed ! tt (Array u64 96) ys′ (V₂ .memory .cpus) b′ o′ room′ (sym ((refl ∙ sym (subst (λ (us : List (List ℕ)). length us ≡ length ys′) (e₁₁ .1 .1) (ls₁₀ .1 .0))))) $
         move ! (4 ∷ 5 ∷ []) $
-        closed ! tt Thread·.the-row ys (V₃) b o room (sym ((refl ∙ sym (subst (λ (us : List Thread). length us ≡ length ys) (e₁₁ .1 .0) (ls₁₀ .0))))) $
+        closed ! tt Thread·.the-row ys (V₂ .memory .threads) b o room (sym ((refl ∙ sym (subst (λ (us : List Thread). length us ≡ length ys) (e₁₁ .1 .0) (ls₁₀ .0))))) $
         returns ! (look ! 32 refl) $
         move ! (32 ∷ 33 ∷ 30 ∷ 31 ∷ 28 ∷ 29 ∷ 26 ∷ 27 ∷ 24 ∷ 25 ∷ 22 ∷ 23 ∷ 20 ∷ 21 ∷ 18 ∷ 19 ∷ 16 ∷ 17 ∷ 14 ∷ 15 ∷ 12 ∷ 13 ∷ 10 ∷ 11 ∷ 8 ∷ 9 ∷ 6 ∷ 7 ∷ []) $
         all-freed ! mir.locals (l₀ ∷ l₁ ∷ l₂ ∷ l₃ ∷ l₄ ∷ l₅ ∷ l₆ ∷ l₇ ∷ l₈ ∷ l₉ ∷ l₁₀ ∷ l₁₁ ∷ l₁₂ ∷ l₁₃ ∷ []) (full _ ∷ full _ ∷ full _ ∷ full _ ∷ full _ ∷ full _ ∷ full _ ∷ full _ ∷ full _ ∷ full _ ∷ full _ ∷ full _ ∷ full _ ∷ full _ ∷ []) tt $
-        suffices ! _ (ends-at 𝓤 H A maybe-preempt.ended stayed c W y _ (V₅) (V₃, (V₄, (tt, (tt, (tt, tt))))) (sym ((refl ∙ sym (subst (λ (us : List Thread). length us ≡ length ys) (e₁₁ .1 .0) (ls₁₀ .0)))), (sym ((refl ∙ sym (subst (λ (us : List (List ℕ)). length us ≡ length ys′) (e₁₁ .1 .1) (ls₁₀ .1 .0)))), (tt, (tt, (tt, tt)))))) $ says ! (refl, (refl, refl)) $
-        leaves3 ! Answered° Ds a (V₅) are (is₁₈)))))))))))))))))))))
+        suffices ! _ (ends-at 𝓤 H A maybe-preempt.ended stayed c W y _ (V₃) (V₂ .memory .threads, (V₂ .memory .cpus, (tt, (tt, (tt, tt))))) (sym ((refl ∙ sym (subst (λ (us : List Thread). length us ≡ length ys) (e₁₁ .1 .0) (ls₁₀ .0)))), (sym ((refl ∙ sym (subst (λ (us : List (List ℕ)). length us ≡ length ys′) (e₁₁ .1 .1) (ls₁₀ .1 .0)))), (tt, (tt, (tt, tt)))))) $ says ! (so {X = Left Answered Memory} (record { answer = V₃; memory = record { threads = (V₂ .memory .threads); cpus = (V₂ .memory .cpus) } }) (maybePreemptDef (a .0) (a .1 .0) ys″ (record { threads = ys; cpus = ys′ })) (refl)) $
+        leaves3 ! Answered° Ds a (V₃) are (is₁₈)))))))))))))))))))))
 
 pub maybe-preempt-spec : {M : Type 1} → stated.statement M
 unfolding code.routine

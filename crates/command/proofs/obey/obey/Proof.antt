@@ -1,5 +1,5 @@
 -- `command::obey::obey` meets its contract: a walk of its MIR, written by tools/entrygen.py.
-use mathlib.Core.Path.{_≡_, refl, sym, subst, _∙_}
+use mathlib.Core.Path.{_≡_, refl, sym, ap, subst, _∙_}
 use Prim.Native.Nat.{ℕ}
 use mathlib.Core.Bool.{not}
 use mathlib.Core.List.{[], _∷_, List}
@@ -35,27 +35,29 @@ use denote.Triple.Clauses.{Clauses}
 use denote.Triple.Walked.{says, Stays, stay-none, stay-slice, walkOf, goes-none, goes-slice, ends-at}
 use denote.Exit.{yes as kept-yes}
 use Rattle.lent.proofs.Walk.{Datum, number, struct, Dens, AreD, listed, spell, lent-as, slice-of, kept, opened, closed, guards, env-of, standing, bare, full, told, proved}
-use Rattle.lent.proofs.Lent.{mutable, shared, call-slices, all-freed, no, yes, begins3, leaves3}
-use Rattle.command.specs.Answer.{changed}
-use Rattle.command.specs.Call.{ticked}
-use Rattle.command.specs.Command.{prepares, declareThread, scheduleThreadDef, scheduleCommand, hardtickDef, stattickDef, reschedDef, maybePreemptDef, donateDef, removeDonation, criticalDef, obeyDef}
-use Rattle.command.proofs.Exits.{by-after}
+use Rattle.lent.proofs.Lent.{mutable, shared, call-slices, call-left, all-freed, no, yes, so, begins3, leaves3}
+use Rattle.command.specs.Command.{obeyDef, declareThread, scheduleThreadDef, scheduleCommand, hardtickCommand, stattickDef, reschedDef, maybePreemptDef, donateDef, removeDonation, criticalDef}
+use Rattle.command.specs.Lent.{Lent}
+use Rattle.lent.specs.Left.{Memory, Left}
+use Rattle.outcome.specs.Answer.{changed}
+use Rattle.outcome.specs.Call.{ticked}
+use Rattle.outcome.specs.Prepare.{prepares}
 use denote.Struct.Laws as LL
-use Rattle.command.specs.declared.answer.Answered.{Answered}
-use Rattle.command.proofs.answer.Answered as Answered·
-use Rattle.command.proofs.answer.Answered.Laws as Answered·laws
-use Rattle.command.specs.declared.call.Call.{Call}
-use Rattle.command.proofs.call.Call as Call·
-use Rattle.command.proofs.call.Call.Laws as Call·laws
+use Rattle.outcome.specs.declared.answer.Answered.{Answered}
+use Rattle.outcome.proofs.answer.Answered as Answered·
+use Rattle.outcome.proofs.answer.Answered.Laws as Answered·laws
+use Rattle.outcome.specs.declared.call.Call.{Call}
+use Rattle.outcome.proofs.call.Call as Call·
+use Rattle.outcome.proofs.call.Call.Laws as Call·laws
 use Rattle.questions.specs.declared.state.State.{State}
 use Rattle.questions.proofs.state.State as State·
 use Rattle.questions.proofs.state.State.Laws as State·laws
 use Rattle.thread.specs.declared.Thread.{Thread}
 use Rattle.thread.proofs.Thread as Thread·
 use Rattle.thread.proofs.Thread.Laws as Thread·laws
-use Rattle.command.proofs.prepare.prepare as fn-command-prepare-prepare
-use Rattle.command.proofs.prepare.prepare.Symbol as fn-command-prepare-prepare-def
-use Rattle.command.proofs.prepare.prepare.Met as fn-command-prepare-prepare-thm
+use Rattle.outcome.proofs.prepare.prepare as fn-outcome-prepare-prepare
+use Rattle.outcome.proofs.prepare.prepare.Symbol as fn-outcome-prepare-prepare-def
+use Rattle.outcome.proofs.prepare.prepare.Met as fn-outcome-prepare-prepare-thm
 use Rattle.command.proofs.obey.declare_thread as fn-command-obey-declare-thread
 use Rattle.command.proofs.obey.declare_thread.Symbol as fn-command-obey-declare-thread-def
 use Rattle.command.proofs.obey.declare_thread.Met as fn-command-obey-declare-thread-thm
@@ -163,83 +165,38 @@ module _ {M : Type 1} (𝓤 : URA M) (H : Heap 𝓤) (𝓜 : Model 𝓤 H) (𝓖
     abbrev V₃ : List (List ℕ)
     V₃ = prepares ys′ ys″ (a .0) (a .1 .0) .nodes
 
-    abbrev V₄ : Answered
-    V₄ = declareThread ys (a .0) (a .1 .0) .outcome
+    abbrev V₄ : Left Answered (List Thread)
+    V₄ = declareThread (a .0) (a .1 .0) ys
 
-    abbrev V₅ : List Thread
-    V₅ = declareThread ys (a .0) (a .1 .0) .threads
+    abbrev V₅ : Answered
+    V₅ = changed (ticked (a .0) ((a .1 .0) .number)) ((a .1 .0) .used)
 
-    abbrev V₆ : Answered
-    V₆ = changed (ticked (a .0) ((a .1 .0) .number)) ((a .1 .0) .used)
+    abbrev V₆ : Left Answered Memory
+    V₆ = scheduleThreadDef (a .0) (a .1 .0) ys″ (record { threads = ys; cpus = ys′ })
 
-    abbrev V₇ : Answered
-    V₇ = scheduleThreadDef ys ys′ ys″ (a .0) (a .1 .0) .outcome
+    abbrev V₇ : Left Answered Memory
+    V₇ = scheduleCommand (a .0) (a .1 .0) ys″ (record { threads = ys; cpus = ys′ })
 
-    abbrev V₈ : List Thread
-    V₈ = scheduleThreadDef ys ys′ ys″ (a .0) (a .1 .0) .threads
+    abbrev V₈ : Left Answered Memory
+    V₈ = hardtickCommand (a .0) (a .1 .0) (record { threads = ys; cpus = ys′ })
 
-    abbrev V₉ : List (List ℕ)
-    V₉ = scheduleThreadDef ys ys′ ys″ (a .0) (a .1 .0) .cpus
+    abbrev V₉ : Left Answered Memory
+    V₉ = stattickDef (a .0) (a .1 .0) ys″ (record { threads = ys; cpus = ys′ })
 
-    abbrev V₁₀ : Answered
-    V₁₀ = scheduleCommand ys ys′ ys″ (a .0) (a .1 .0) .outcome
+    abbrev V₁₀ : Left Answered (List (List ℕ))
+    V₁₀ = reschedDef (a .0) (a .1 .0) ys ys′
 
-    abbrev V₁₁ : List Thread
-    V₁₁ = scheduleCommand ys ys′ ys″ (a .0) (a .1 .0) .threads
+    abbrev V₁₁ : Left Answered Memory
+    V₁₁ = maybePreemptDef (a .0) (a .1 .0) ys″ (record { threads = ys; cpus = ys′ })
 
-    abbrev V₁₂ : List (List ℕ)
-    V₁₂ = scheduleCommand ys ys′ ys″ (a .0) (a .1 .0) .cpus
+    abbrev V₁₂ : Left Answered (List Thread)
+    V₁₂ = donateDef (a .0) (a .1 .0) ys′ ys
 
-    abbrev V₁₃ : Answered
-    V₁₃ = hardtickDef ys ys′ (a .0) (a .1 .0) .outcome
+    abbrev V₁₃ : Left Answered (List Thread)
+    V₁₃ = removeDonation (a .0) (a .1 .0) ys
 
-    abbrev V₁₄ : List Thread
-    V₁₄ = hardtickDef ys ys′ (a .0) (a .1 .0) .threads
-
-    abbrev V₁₅ : List (List ℕ)
-    V₁₅ = hardtickDef ys ys′ (a .0) (a .1 .0) .cpus
-
-    abbrev V₁₆ : Answered
-    V₁₆ = stattickDef ys ys′ ys″ (a .0) (a .1 .0) .outcome
-
-    abbrev V₁₇ : List Thread
-    V₁₇ = stattickDef ys ys′ ys″ (a .0) (a .1 .0) .threads
-
-    abbrev V₁₈ : List (List ℕ)
-    V₁₈ = stattickDef ys ys′ ys″ (a .0) (a .1 .0) .cpus
-
-    abbrev V₁₉ : Answered
-    V₁₉ = reschedDef ys ys′ (a .0) (a .1 .0) .outcome
-
-    abbrev V₂₀ : List (List ℕ)
-    V₂₀ = reschedDef ys ys′ (a .0) (a .1 .0) .cpus
-
-    abbrev V₂₁ : Answered
-    V₂₁ = maybePreemptDef ys ys′ ys″ (a .0) (a .1 .0) .outcome
-
-    abbrev V₂₂ : List Thread
-    V₂₂ = maybePreemptDef ys ys′ ys″ (a .0) (a .1 .0) .threads
-
-    abbrev V₂₃ : List (List ℕ)
-    V₂₃ = maybePreemptDef ys ys′ ys″ (a .0) (a .1 .0) .cpus
-
-    abbrev V₂₄ : Answered
-    V₂₄ = donateDef ys ys′ (a .0) (a .1 .0) .outcome
-
-    abbrev V₂₅ : List Thread
-    V₂₅ = donateDef ys ys′ (a .0) (a .1 .0) .threads
-
-    abbrev V₂₆ : Answered
-    V₂₆ = removeDonation ys (a .0) (a .1 .0) .outcome
-
-    abbrev V₂₇ : List Thread
-    V₂₇ = removeDonation ys (a .0) (a .1 .0) .threads
-
-    abbrev V₂₈ : Answered
-    V₂₈ = criticalDef ys (a .0) (a .1 .0) .outcome
-
-    abbrev V₂₉ : List Thread
-    V₂₉ = criticalDef ys (a .0) (a .1 .0) .threads
+    abbrev V₁₄ : Left Answered (List Thread)
+    V₁₄ = criticalDef (a .0) (a .1 .0) ys
 
     module _ (l₀ l₁ l₂ l₃ l₄ l₅ l₆ l₇ l₈ l₉ l₁₀ l₁₁ l₁₂ l₁₃ l₁₄ l₁₅ l₁₆ l₁₇ l₁₈ l₁₉ l₂₀ l₂₁ l₂₂ l₂₃ l₂₄ l₂₅ l₂₆ l₂₇ l₂₈ l₂₉ l₃₀ l₃₁ l₃₂ l₃₃ l₃₄ l₃₅ l₃₆ l₃₇ l₃₈ l₃₉ l₄₀ l₄₁ l₄₂ l₄₃ l₄₄ l₄₅ l₄₆ l₄₇ l₄₈ l₄₉ l₅₀ l₅₁ l₅₂ l₅₃ : ℕ) where
       abbrev En : Env 𝓤 H
@@ -260,7 +217,7 @@ module _ {M : Type 1} (𝓤 : URA M) (H : Heap 𝓤) (𝓜 : Model 𝓤 H) (𝓖
           join ! $
           move ! (1 ∷ 0 ∷ []) $
           join ! $
-          call-slices Answered° (State° ∷ Call° ∷ []) ((a .0, (a .1 .0, tt))) (emp 𝓤) ((mutable Thread·.the-row ys b o n refl room) ∷ (shared (Array u64 96) ys′ b′ o′ n′ refl room′) ∷ []) ! fm (λ r ws. (r ≡ V₂₄) × (ws .0 ≡ V₂₅)) ((are .0, (are .1 .0, tt))) (id⊢ 𝓤 (emp 𝓤))
+          call-left Answered° (State° ∷ Call° ∷ []) ((a .0, (a .1 .0, tt))) (emp 𝓤) ((mutable Thread·.the-row ys b o n refl room) ∷ (shared (Array u64 96) ys′ b′ o′ n′ refl room′) ∷ []) ! fm (λ r ws. (r ≡ (V₁₂ .answer)) × (ws .0 ≡ (V₁₂ .memory))) (λ r ws. _≡_ {A = Left Answered (List Thread)} (record { answer = r; memory = ws .0 }) V₁₂) (λ r ws e. (ap (λ (z : Left Answered (List Thread)). z .answer) e, ap (λ (z : Left Answered (List Thread)). z .memory) e)) ((are .0, (are .1 .0, tt))) (id⊢ 𝓤 (emp 𝓤))
           (λ νs. cited 𝓤 H (tripleOf 𝓤 H A fn-command-obey-donate.signature (fn-command-obey-donate.spec 𝓤 H A (𝓜 .mem) (𝓡 .run))) 𝓜 𝓡 code.env fn-command-obey-donate-def.name fn-command-obey-donate-def.routine code.calls-command·obey·donate (fn-command-obey-donate-thm.met 𝓤 H 𝓜 𝓖 𝓡) (((νs .0 .0 ∷ [], (νs .1 .0 .0 ∷ [], tt)), (fullShare, (fullShare, tt)), tt, (lent-as b o (νs .0 .1) ys, (lent-as b′ o′ (νs .1 .0 .1) ys′, (a .0, (a .1 .0, tt)))), (slice-of b o ys ∷ [], (slice-of b′ o′ ys′ ∷ [], spell (State° ∷ Call° ∷ []) ((a .0, (a .1 .0, tt)))))), tt))
           (λ k. and-then ! (load ! (from ! (stop !)) (look ! 17 refl)) (and-then ! (load ! (from ! (stop !)) (look ! 13 refl)) (and-then ! (load ! (from ! (stop !)) (look ! 103 refl)) (and-then ! (load ! (from ! (stop !)) (look ! 101 refl)) (no-more !))))) (λ r₅₅ ws₅₆ is₅₇ ls₅₈ e₅₉.
           split ! $
@@ -270,18 +227,18 @@ module _ {M : Type 1} (𝓤 : URA M) (H : Heap 𝓤) (𝓜 : Model 𝓤 H) (𝓖
           drop ! $
           rewrite ! 1 (λ (us : List Thread). ‵ (row Thread·.the-row fullShare us b o)) (e₅₉ .1) refl $
           told ! Answered° (e₅₉ .0) is₅₇ (λ is₆₀.
-          land ! (from ! (stop !)) (init ! 112 refl (Answered° .typed 𝓤 H A W (V₂₄) (is₆₀) .0)) $
+          land ! (from ! (stop !)) (init ! 112 refl (Answered° .typed 𝓤 H A W (V₁₂ .answer) (is₆₀) .0)) $
           move ! (4 ∷ 5 ∷ []) $
           closed ! tt (Array u64 32) ys″ (ys″) b″ o″ room″ (sym refl) $
           move ! (2 ∷ 5 ∷ []) $
           closed ! tt (Array u64 96) ys′ (ys′) b′ o′ room′ (sym refl) $
           move ! (4 ∷ 5 ∷ []) $
-          closed ! tt Thread·.the-row ys (V₂₅) b o room (sym ((refl ∙ sym (subst (λ (us : List Thread). length us ≡ length ys) (e₅₉ .1) (ls₅₈ .0))))) $
+          closed ! tt Thread·.the-row ys (V₁₂ .memory) b o room (sym ((refl ∙ sym (subst (λ (us : List Thread). length us ≡ length ys) (e₅₉ .1) (ls₅₈ .0))))) $
           returns-within ! Post refl (look ! 112 refl) $
           move ! (112 ∷ 113 ∷ 110 ∷ 111 ∷ 108 ∷ 109 ∷ 106 ∷ 107 ∷ 104 ∷ 105 ∷ 102 ∷ 103 ∷ 100 ∷ 101 ∷ 98 ∷ 99 ∷ 96 ∷ 97 ∷ 94 ∷ 95 ∷ 92 ∷ 93 ∷ 90 ∷ 91 ∷ 88 ∷ 89 ∷ 86 ∷ 87 ∷ 84 ∷ 85 ∷ 82 ∷ 83 ∷ 80 ∷ 81 ∷ 78 ∷ 79 ∷ 76 ∷ 77 ∷ 74 ∷ 75 ∷ 72 ∷ 73 ∷ 70 ∷ 71 ∷ 68 ∷ 69 ∷ 66 ∷ 67 ∷ 64 ∷ 65 ∷ 62 ∷ 63 ∷ 60 ∷ 61 ∷ 58 ∷ 59 ∷ 56 ∷ 57 ∷ 54 ∷ 55 ∷ 52 ∷ 53 ∷ 50 ∷ 51 ∷ 48 ∷ 49 ∷ 46 ∷ 47 ∷ 44 ∷ 45 ∷ 42 ∷ 43 ∷ 40 ∷ 41 ∷ 38 ∷ 39 ∷ 36 ∷ 37 ∷ 34 ∷ 35 ∷ 32 ∷ 33 ∷ 30 ∷ 31 ∷ 28 ∷ 29 ∷ 26 ∷ 27 ∷ 24 ∷ 25 ∷ 22 ∷ 23 ∷ 20 ∷ 21 ∷ 18 ∷ 19 ∷ 16 ∷ 17 ∷ 14 ∷ 15 ∷ 12 ∷ 13 ∷ 10 ∷ 11 ∷ 8 ∷ 9 ∷ 6 ∷ 7 ∷ []) $
           all-freed ! mir.locals (l₀ ∷ l₁ ∷ l₂ ∷ l₃ ∷ l₄ ∷ l₅ ∷ l₆ ∷ l₇ ∷ l₈ ∷ l₉ ∷ l₁₀ ∷ l₁₁ ∷ l₁₂ ∷ l₁₃ ∷ l₁₄ ∷ l₁₅ ∷ l₁₆ ∷ l₁₇ ∷ l₁₈ ∷ l₁₉ ∷ l₂₀ ∷ l₂₁ ∷ l₂₂ ∷ l₂₃ ∷ l₂₄ ∷ l₂₅ ∷ l₂₆ ∷ l₂₇ ∷ l₂₈ ∷ l₂₉ ∷ l₃₀ ∷ l₃₁ ∷ l₃₂ ∷ l₃₃ ∷ l₃₄ ∷ l₃₅ ∷ l₃₆ ∷ l₃₇ ∷ l₃₈ ∷ l₃₉ ∷ l₄₀ ∷ l₄₁ ∷ l₄₂ ∷ l₄₃ ∷ l₄₄ ∷ l₄₅ ∷ l₄₆ ∷ l₄₇ ∷ l₄₈ ∷ l₄₉ ∷ l₅₀ ∷ l₅₁ ∷ l₅₂ ∷ l₅₃ ∷ []) (full _ ∷ full _ ∷ full _ ∷ full _ ∷ full _ ∷ full _ ∷ full _ ∷ full _ ∷ bare ∷ bare ∷ bare ∷ bare ∷ bare ∷ bare ∷ bare ∷ bare ∷ bare ∷ bare ∷ bare ∷ bare ∷ bare ∷ bare ∷ bare ∷ bare ∷ bare ∷ bare ∷ bare ∷ bare ∷ bare ∷ bare ∷ bare ∷ bare ∷ bare ∷ bare ∷ bare ∷ bare ∷ bare ∷ bare ∷ bare ∷ bare ∷ bare ∷ bare ∷ bare ∷ bare ∷ bare ∷ bare ∷ full _ ∷ full _ ∷ full _ ∷ full _ ∷ bare ∷ bare ∷ bare ∷ bare ∷ []) tt $
-          suffices ! _ (ends-at 𝓤 H A obey.ended stayed c W y _ (V₂₄) (V₂₅, (ys′, (ys″, (tt, (tt, tt))))) (sym ((refl ∙ sym (subst (λ (us : List Thread). length us ≡ length ys) (e₅₉ .1) (ls₅₈ .0)))), (sym refl, (sym refl, (tt, (tt, tt)))))) $ says ! (by-after (record { outcome = V₂₄; threads = V₂₅; cpus = ys′; nodes = ys″ }) (obeyDef ys ys′ ys″ (a .0) (a .1 .0)) ((no (leb ((a .1 .0) .kind) (4)) h₁ _ (no (eqb ((a .1 .0) .kind) (16)) h₂ _ (no (eqb ((a .1 .0) .kind) (17)) h₃ _ (no (eqb ((a .1 .0) .kind) (18)) h₄ _ (no (eqb ((a .1 .0) .kind) (19)) h₅ _ (no (eqb ((a .1 .0) .kind) (20)) h₆ _ (no (eqb ((a .1 .0) .kind) (21)) h₇ _ (no (eqb ((a .1 .0) .kind) (22)) h₈ _ (no (eqb ((a .1 .0) .kind) (23)) h₉ _ (yes (eqb ((a .1 .0) .kind) (24)) h₁₀ _ (refl))))))))))))) $
-          leaves3 ! Answered° Ds a (V₂₄) are (is₆₀))))
+          suffices ! _ (ends-at 𝓤 H A obey.ended stayed c W y _ (V₁₂ .answer) (V₁₂ .memory, (ys′, (ys″, (tt, (tt, tt))))) (sym ((refl ∙ sym (subst (λ (us : List Thread). length us ≡ length ys) (e₅₉ .1) (ls₅₈ .0)))), (sym refl, (sym refl, (tt, (tt, tt)))))) $ says ! (so {X = Left Answered Lent} (record { answer = (V₁₂ .answer); memory = record { threads = (V₁₂ .memory); cpus = ys′; nodes = ys″ } }) (obeyDef (a .0) (a .1 .0) (record { threads = ys; cpus = ys′; nodes = ys″ })) ((no (leb ((a .1 .0) .kind) (4)) h₁ _ (no (eqb ((a .1 .0) .kind) (16)) h₂ _ (no (eqb ((a .1 .0) .kind) (17)) h₃ _ (no (eqb ((a .1 .0) .kind) (18)) h₄ _ (no (eqb ((a .1 .0) .kind) (19)) h₅ _ (no (eqb ((a .1 .0) .kind) (20)) h₆ _ (no (eqb ((a .1 .0) .kind) (21)) h₇ _ (no (eqb ((a .1 .0) .kind) (22)) h₈ _ (no (eqb ((a .1 .0) .kind) (23)) h₉ _ (yes (eqb ((a .1 .0) .kind) (24)) h₁₀ _ (refl))))))))))))) $
+          leaves3 ! Answered° Ds a (V₁₂ .answer) are (is₆₀))))
           (λ h₁₀.
           assigns ! (bin ! (load ! (from ! (stop !)) (look ! 100 refl)) (lit ! tt) tt) (from ! (stop !)) (store ! 98 refl (tt, tt)) $
           guards ! (load ! (from ! (stop !)) (look ! 98 refl))
@@ -291,7 +248,7 @@ module _ {M : Type 1} (𝓤 : URA M) (H : Heap 𝓤) (𝓜 : Model 𝓤 H) (𝓖
           nothing ! $
           move ! (1 ∷ 0 ∷ []) $
           join ! $
-          call-slices Answered° (State° ∷ Call° ∷ []) ((a .0, (a .1 .0, tt))) (emp 𝓤) ((mutable Thread·.the-row ys b o n refl room) ∷ []) ! fm (λ r ws. (r ≡ V₂₆) × (ws .0 ≡ V₂₇)) ((are .0, (are .1 .0, tt))) (id⊢ 𝓤 (emp 𝓤))
+          call-left Answered° (State° ∷ Call° ∷ []) ((a .0, (a .1 .0, tt))) (emp 𝓤) ((mutable Thread·.the-row ys b o n refl room) ∷ []) ! fm (λ r ws. (r ≡ (V₁₃ .answer)) × (ws .0 ≡ (V₁₃ .memory))) (λ r ws. _≡_ {A = Left Answered (List Thread)} (record { answer = r; memory = ws .0 }) V₁₃) (λ r ws e. (ap (λ (z : Left Answered (List Thread)). z .answer) e, ap (λ (z : Left Answered (List Thread)). z .memory) e)) ((are .0, (are .1 .0, tt))) (id⊢ 𝓤 (emp 𝓤))
           (λ νs. cited 𝓤 H (tripleOf 𝓤 H A fn-command-obey-remove-donation.signature (fn-command-obey-remove-donation.spec 𝓤 H A (𝓜 .mem) (𝓡 .run))) 𝓜 𝓡 code.env fn-command-obey-remove-donation-def.name fn-command-obey-remove-donation-def.routine code.calls-command·obey·remove-donation (fn-command-obey-remove-donation-thm.met 𝓤 H 𝓜 𝓖 𝓡) (((νs .0 .0 ∷ [], tt), (fullShare, tt), tt, (lent-as b o (νs .0 .1) ys, (a .0, (a .1 .0, tt))), (slice-of b o ys ∷ [], spell (State° ∷ Call° ∷ []) ((a .0, (a .1 .0, tt))))), tt))
           (λ k. and-then ! (load ! (from ! (stop !)) (look ! 10 refl)) (and-then ! (load ! (from ! (stop !)) (look ! 104 refl)) (and-then ! (load ! (from ! (stop !)) (look ! 102 refl)) (no-more !)))) (λ r₆₁ ws₆₂ is₆₃ ls₆₄ e₆₅.
           split ! $
@@ -299,25 +256,25 @@ module _ {M : Type 1} (𝓤 : URA M) (H : Heap 𝓤) (𝓜 : Model 𝓤 H) (𝓖
           drop ! $
           rewrite ! 0 (λ (us : List Thread). ‵ (row Thread·.the-row fullShare us b o)) (e₆₅ .1) refl $
           told ! Answered° (e₆₅ .0) is₆₃ (λ is₆₆.
-          land ! (from ! (stop !)) (init ! 112 refl (Answered° .typed 𝓤 H A W (V₂₆) (is₆₆) .0)) $
+          land ! (from ! (stop !)) (init ! 112 refl (Answered° .typed 𝓤 H A W (V₁₃ .answer) (is₆₆) .0)) $
           move ! (4 ∷ 5 ∷ []) $
           closed ! tt (Array u64 32) ys″ (ys″) b″ o″ room″ (sym refl) $
           move ! (4 ∷ 5 ∷ []) $
           closed ! tt (Array u64 96) ys′ (ys′) b′ o′ room′ (sym refl) $
           move ! (4 ∷ 5 ∷ []) $
-          closed ! tt Thread·.the-row ys (V₂₇) b o room (sym ((refl ∙ sym (subst (λ (us : List Thread). length us ≡ length ys) (e₆₅ .1) (ls₆₄ .0))))) $
+          closed ! tt Thread·.the-row ys (V₁₃ .memory) b o room (sym ((refl ∙ sym (subst (λ (us : List Thread). length us ≡ length ys) (e₆₅ .1) (ls₆₄ .0))))) $
           returns-within ! Post refl (look ! 112 refl) $
           move ! (112 ∷ 113 ∷ 110 ∷ 111 ∷ 108 ∷ 109 ∷ 106 ∷ 107 ∷ 104 ∷ 105 ∷ 102 ∷ 103 ∷ 100 ∷ 101 ∷ 98 ∷ 99 ∷ 96 ∷ 97 ∷ 94 ∷ 95 ∷ 92 ∷ 93 ∷ 90 ∷ 91 ∷ 88 ∷ 89 ∷ 86 ∷ 87 ∷ 84 ∷ 85 ∷ 82 ∷ 83 ∷ 80 ∷ 81 ∷ 78 ∷ 79 ∷ 76 ∷ 77 ∷ 74 ∷ 75 ∷ 72 ∷ 73 ∷ 70 ∷ 71 ∷ 68 ∷ 69 ∷ 66 ∷ 67 ∷ 64 ∷ 65 ∷ 62 ∷ 63 ∷ 60 ∷ 61 ∷ 58 ∷ 59 ∷ 56 ∷ 57 ∷ 54 ∷ 55 ∷ 52 ∷ 53 ∷ 50 ∷ 51 ∷ 48 ∷ 49 ∷ 46 ∷ 47 ∷ 44 ∷ 45 ∷ 42 ∷ 43 ∷ 40 ∷ 41 ∷ 38 ∷ 39 ∷ 36 ∷ 37 ∷ 34 ∷ 35 ∷ 32 ∷ 33 ∷ 30 ∷ 31 ∷ 28 ∷ 29 ∷ 26 ∷ 27 ∷ 24 ∷ 25 ∷ 22 ∷ 23 ∷ 20 ∷ 21 ∷ 18 ∷ 19 ∷ 16 ∷ 17 ∷ 14 ∷ 15 ∷ 12 ∷ 13 ∷ 10 ∷ 11 ∷ 8 ∷ 9 ∷ 6 ∷ 7 ∷ []) $
           all-freed ! mir.locals (l₀ ∷ l₁ ∷ l₂ ∷ l₃ ∷ l₄ ∷ l₅ ∷ l₆ ∷ l₇ ∷ l₈ ∷ l₉ ∷ l₁₀ ∷ l₁₁ ∷ l₁₂ ∷ l₁₃ ∷ l₁₄ ∷ l₁₅ ∷ l₁₆ ∷ l₁₇ ∷ l₁₈ ∷ l₁₉ ∷ l₂₀ ∷ l₂₁ ∷ l₂₂ ∷ l₂₃ ∷ l₂₄ ∷ l₂₅ ∷ l₂₆ ∷ l₂₇ ∷ l₂₈ ∷ l₂₉ ∷ l₃₀ ∷ l₃₁ ∷ l₃₂ ∷ l₃₃ ∷ l₃₄ ∷ l₃₅ ∷ l₃₆ ∷ l₃₇ ∷ l₃₈ ∷ l₃₉ ∷ l₄₀ ∷ l₄₁ ∷ l₄₂ ∷ l₄₃ ∷ l₄₄ ∷ l₄₅ ∷ l₄₆ ∷ l₄₇ ∷ l₄₈ ∷ l₄₉ ∷ l₅₀ ∷ l₅₁ ∷ l₅₂ ∷ l₅₃ ∷ []) (full _ ∷ full _ ∷ full _ ∷ full _ ∷ full _ ∷ full _ ∷ full _ ∷ full _ ∷ bare ∷ bare ∷ bare ∷ bare ∷ bare ∷ bare ∷ bare ∷ bare ∷ bare ∷ bare ∷ bare ∷ bare ∷ bare ∷ bare ∷ bare ∷ bare ∷ bare ∷ bare ∷ bare ∷ bare ∷ bare ∷ bare ∷ bare ∷ bare ∷ bare ∷ bare ∷ bare ∷ bare ∷ bare ∷ bare ∷ bare ∷ bare ∷ bare ∷ bare ∷ bare ∷ bare ∷ bare ∷ bare ∷ bare ∷ bare ∷ bare ∷ bare ∷ full _ ∷ full _ ∷ bare ∷ bare ∷ []) tt $
-          suffices ! _ (ends-at 𝓤 H A obey.ended stayed c W y _ (V₂₆) (V₂₇, (ys′, (ys″, (tt, (tt, tt))))) (sym ((refl ∙ sym (subst (λ (us : List Thread). length us ≡ length ys) (e₆₅ .1) (ls₆₄ .0)))), (sym refl, (sym refl, (tt, (tt, tt)))))) $ says ! (by-after (record { outcome = V₂₆; threads = V₂₇; cpus = ys′; nodes = ys″ }) (obeyDef ys ys′ ys″ (a .0) (a .1 .0)) ((no (leb ((a .1 .0) .kind) (4)) h₁ _ (no (eqb ((a .1 .0) .kind) (16)) h₂ _ (no (eqb ((a .1 .0) .kind) (17)) h₃ _ (no (eqb ((a .1 .0) .kind) (18)) h₄ _ (no (eqb ((a .1 .0) .kind) (19)) h₅ _ (no (eqb ((a .1 .0) .kind) (20)) h₆ _ (no (eqb ((a .1 .0) .kind) (21)) h₇ _ (no (eqb ((a .1 .0) .kind) (22)) h₈ _ (no (eqb ((a .1 .0) .kind) (23)) h₉ _ (no (eqb ((a .1 .0) .kind) (24)) h₁₀ _ (yes (eqb ((a .1 .0) .kind) (25)) h₁₁ _ (refl)))))))))))))) $
-          leaves3 ! Answered° Ds a (V₂₆) are (is₆₆))))
+          suffices ! _ (ends-at 𝓤 H A obey.ended stayed c W y _ (V₁₃ .answer) (V₁₃ .memory, (ys′, (ys″, (tt, (tt, tt))))) (sym ((refl ∙ sym (subst (λ (us : List Thread). length us ≡ length ys) (e₆₅ .1) (ls₆₄ .0)))), (sym refl, (sym refl, (tt, (tt, tt)))))) $ says ! (so {X = Left Answered Lent} (record { answer = (V₁₃ .answer); memory = record { threads = (V₁₃ .memory); cpus = ys′; nodes = ys″ } }) (obeyDef (a .0) (a .1 .0) (record { threads = ys; cpus = ys′; nodes = ys″ })) ((no (leb ((a .1 .0) .kind) (4)) h₁ _ (no (eqb ((a .1 .0) .kind) (16)) h₂ _ (no (eqb ((a .1 .0) .kind) (17)) h₃ _ (no (eqb ((a .1 .0) .kind) (18)) h₄ _ (no (eqb ((a .1 .0) .kind) (19)) h₅ _ (no (eqb ((a .1 .0) .kind) (20)) h₆ _ (no (eqb ((a .1 .0) .kind) (21)) h₇ _ (no (eqb ((a .1 .0) .kind) (22)) h₈ _ (no (eqb ((a .1 .0) .kind) (23)) h₉ _ (no (eqb ((a .1 .0) .kind) (24)) h₁₀ _ (yes (eqb ((a .1 .0) .kind) (25)) h₁₁ _ (refl)))))))))))))) $
+          leaves3 ! Answered° Ds a (V₁₃ .answer) are (is₆₆))))
           (λ h₁₁.
           assigns ! (addr ! (from ! (fld ! refl (hop ! (look-in ! 110 (sub ! 0 refl (whole !))) (stop !))))) (from ! (stop !)) (init ! 8 refl (tt, tt)) $
           assigns ! (agg ! (and-then ! (load ! (from ! (stop !)) (look ! 8 refl)) (and-then ! (load ! (from ! (fld ! refl (stop !))) (look-in ! 110 (sub ! 1 refl (whole !)))) (no-more !)))) (from ! (stop !)) (init ! 6 refl (tt, (tt, (record { fits = room .0 }, tt)))) $
           nothing ! $
           move ! (1 ∷ 0 ∷ []) $
           join ! $
-          call-slices Answered° (State° ∷ Call° ∷ []) ((a .0, (a .1 .0, tt))) (emp 𝓤) ((mutable Thread·.the-row ys b o n refl room) ∷ []) ! fm (λ r ws. (r ≡ V₂₈) × (ws .0 ≡ V₂₉)) ((are .0, (are .1 .0, tt))) (id⊢ 𝓤 (emp 𝓤))
+          call-left Answered° (State° ∷ Call° ∷ []) ((a .0, (a .1 .0, tt))) (emp 𝓤) ((mutable Thread·.the-row ys b o n refl room) ∷ []) ! fm (λ r ws. (r ≡ (V₁₄ .answer)) × (ws .0 ≡ (V₁₄ .memory))) (λ r ws. _≡_ {A = Left Answered (List Thread)} (record { answer = r; memory = ws .0 }) V₁₄) (λ r ws e. (ap (λ (z : Left Answered (List Thread)). z .answer) e, ap (λ (z : Left Answered (List Thread)). z .memory) e)) ((are .0, (are .1 .0, tt))) (id⊢ 𝓤 (emp 𝓤))
           (λ νs. cited 𝓤 H (tripleOf 𝓤 H A fn-command-obey-set-critical.signature (fn-command-obey-set-critical.spec 𝓤 H A (𝓜 .mem) (𝓡 .run))) 𝓜 𝓡 code.env fn-command-obey-set-critical-def.name fn-command-obey-set-critical-def.routine code.calls-command·obey·set-critical (fn-command-obey-set-critical-thm.met 𝓤 H 𝓜 𝓖 𝓡) (((νs .0 .0 ∷ [], tt), (fullShare, tt), tt, (lent-as b o (νs .0 .1) ys, (a .0, (a .1 .0, tt))), (slice-of b o ys ∷ [], spell (State° ∷ Call° ∷ []) ((a .0, (a .1 .0, tt))))), tt))
           (λ k. and-then ! (load ! (from ! (stop !)) (look ! 6 refl)) (and-then ! (load ! (from ! (stop !)) (look ! 104 refl)) (and-then ! (load ! (from ! (stop !)) (look ! 102 refl)) (no-more !)))) (λ r₆₇ ws₆₈ is₆₉ ls₇₀ e₇₁.
           split ! $
@@ -325,18 +282,18 @@ module _ {M : Type 1} (𝓤 : URA M) (H : Heap 𝓤) (𝓜 : Model 𝓤 H) (𝓖
           drop ! $
           rewrite ! 0 (λ (us : List Thread). ‵ (row Thread·.the-row fullShare us b o)) (e₇₁ .1) refl $
           told ! Answered° (e₇₁ .0) is₆₉ (λ is₇₂.
-          land ! (from ! (stop !)) (init ! 112 refl (Answered° .typed 𝓤 H A W (V₂₈) (is₇₂) .0)) $
+          land ! (from ! (stop !)) (init ! 112 refl (Answered° .typed 𝓤 H A W (V₁₄ .answer) (is₇₂) .0)) $
           move ! (4 ∷ 5 ∷ []) $
           closed ! tt (Array u64 32) ys″ (ys″) b″ o″ room″ (sym refl) $
           move ! (4 ∷ 5 ∷ []) $
           closed ! tt (Array u64 96) ys′ (ys′) b′ o′ room′ (sym refl) $
           move ! (4 ∷ 5 ∷ []) $
-          closed ! tt Thread·.the-row ys (V₂₉) b o room (sym ((refl ∙ sym (subst (λ (us : List Thread). length us ≡ length ys) (e₇₁ .1) (ls₇₀ .0))))) $
+          closed ! tt Thread·.the-row ys (V₁₄ .memory) b o room (sym ((refl ∙ sym (subst (λ (us : List Thread). length us ≡ length ys) (e₇₁ .1) (ls₇₀ .0))))) $
           returns ! (look ! 112 refl) $
           move ! (112 ∷ 113 ∷ 110 ∷ 111 ∷ 108 ∷ 109 ∷ 106 ∷ 107 ∷ 104 ∷ 105 ∷ 102 ∷ 103 ∷ 100 ∷ 101 ∷ 98 ∷ 99 ∷ 96 ∷ 97 ∷ 94 ∷ 95 ∷ 92 ∷ 93 ∷ 90 ∷ 91 ∷ 88 ∷ 89 ∷ 86 ∷ 87 ∷ 84 ∷ 85 ∷ 82 ∷ 83 ∷ 80 ∷ 81 ∷ 78 ∷ 79 ∷ 76 ∷ 77 ∷ 74 ∷ 75 ∷ 72 ∷ 73 ∷ 70 ∷ 71 ∷ 68 ∷ 69 ∷ 66 ∷ 67 ∷ 64 ∷ 65 ∷ 62 ∷ 63 ∷ 60 ∷ 61 ∷ 58 ∷ 59 ∷ 56 ∷ 57 ∷ 54 ∷ 55 ∷ 52 ∷ 53 ∷ 50 ∷ 51 ∷ 48 ∷ 49 ∷ 46 ∷ 47 ∷ 44 ∷ 45 ∷ 42 ∷ 43 ∷ 40 ∷ 41 ∷ 38 ∷ 39 ∷ 36 ∷ 37 ∷ 34 ∷ 35 ∷ 32 ∷ 33 ∷ 30 ∷ 31 ∷ 28 ∷ 29 ∷ 26 ∷ 27 ∷ 24 ∷ 25 ∷ 22 ∷ 23 ∷ 20 ∷ 21 ∷ 18 ∷ 19 ∷ 16 ∷ 17 ∷ 14 ∷ 15 ∷ 12 ∷ 13 ∷ 10 ∷ 11 ∷ 8 ∷ 9 ∷ 6 ∷ 7 ∷ []) $
           all-freed ! mir.locals (l₀ ∷ l₁ ∷ l₂ ∷ l₃ ∷ l₄ ∷ l₅ ∷ l₆ ∷ l₇ ∷ l₈ ∷ l₉ ∷ l₁₀ ∷ l₁₁ ∷ l₁₂ ∷ l₁₃ ∷ l₁₄ ∷ l₁₅ ∷ l₁₆ ∷ l₁₇ ∷ l₁₈ ∷ l₁₉ ∷ l₂₀ ∷ l₂₁ ∷ l₂₂ ∷ l₂₃ ∷ l₂₄ ∷ l₂₅ ∷ l₂₆ ∷ l₂₇ ∷ l₂₈ ∷ l₂₉ ∷ l₃₀ ∷ l₃₁ ∷ l₃₂ ∷ l₃₃ ∷ l₃₄ ∷ l₃₅ ∷ l₃₆ ∷ l₃₇ ∷ l₃₈ ∷ l₃₉ ∷ l₄₀ ∷ l₄₁ ∷ l₄₂ ∷ l₄₃ ∷ l₄₄ ∷ l₄₅ ∷ l₄₆ ∷ l₄₇ ∷ l₄₈ ∷ l₄₉ ∷ l₅₀ ∷ l₅₁ ∷ l₅₂ ∷ l₅₃ ∷ []) (full _ ∷ full _ ∷ full _ ∷ full _ ∷ full _ ∷ full _ ∷ full _ ∷ full _ ∷ bare ∷ bare ∷ bare ∷ bare ∷ bare ∷ bare ∷ bare ∷ bare ∷ bare ∷ bare ∷ bare ∷ bare ∷ bare ∷ bare ∷ bare ∷ bare ∷ bare ∷ bare ∷ bare ∷ bare ∷ bare ∷ bare ∷ bare ∷ bare ∷ bare ∷ bare ∷ bare ∷ bare ∷ bare ∷ bare ∷ bare ∷ bare ∷ bare ∷ bare ∷ bare ∷ bare ∷ bare ∷ bare ∷ bare ∷ bare ∷ bare ∷ bare ∷ bare ∷ bare ∷ full _ ∷ full _ ∷ []) tt $
-          suffices ! _ (ends-at 𝓤 H A obey.ended stayed c W y _ (V₂₈) (V₂₉, (ys′, (ys″, (tt, (tt, tt))))) (sym ((refl ∙ sym (subst (λ (us : List Thread). length us ≡ length ys) (e₇₁ .1) (ls₇₀ .0)))), (sym refl, (sym refl, (tt, (tt, tt)))))) $ says ! (by-after (record { outcome = V₂₈; threads = V₂₉; cpus = ys′; nodes = ys″ }) (obeyDef ys ys′ ys″ (a .0) (a .1 .0)) ((no (leb ((a .1 .0) .kind) (4)) h₁ _ (no (eqb ((a .1 .0) .kind) (16)) h₂ _ (no (eqb ((a .1 .0) .kind) (17)) h₃ _ (no (eqb ((a .1 .0) .kind) (18)) h₄ _ (no (eqb ((a .1 .0) .kind) (19)) h₅ _ (no (eqb ((a .1 .0) .kind) (20)) h₆ _ (no (eqb ((a .1 .0) .kind) (21)) h₇ _ (no (eqb ((a .1 .0) .kind) (22)) h₈ _ (no (eqb ((a .1 .0) .kind) (23)) h₉ _ (no (eqb ((a .1 .0) .kind) (24)) h₁₀ _ (no (eqb ((a .1 .0) .kind) (25)) h₁₁ _ (refl)))))))))))))) $
-          leaves3 ! Answered° Ds a (V₂₈) are (is₇₂)))))
+          suffices ! _ (ends-at 𝓤 H A obey.ended stayed c W y _ (V₁₄ .answer) (V₁₄ .memory, (ys′, (ys″, (tt, (tt, tt))))) (sym ((refl ∙ sym (subst (λ (us : List Thread). length us ≡ length ys) (e₇₁ .1) (ls₇₀ .0)))), (sym refl, (sym refl, (tt, (tt, tt)))))) $ says ! (so {X = Left Answered Lent} (record { answer = (V₁₄ .answer); memory = record { threads = (V₁₄ .memory); cpus = ys′; nodes = ys″ } }) (obeyDef (a .0) (a .1 .0) (record { threads = ys; cpus = ys′; nodes = ys″ })) ((no (leb ((a .1 .0) .kind) (4)) h₁ _ (no (eqb ((a .1 .0) .kind) (16)) h₂ _ (no (eqb ((a .1 .0) .kind) (17)) h₃ _ (no (eqb ((a .1 .0) .kind) (18)) h₄ _ (no (eqb ((a .1 .0) .kind) (19)) h₅ _ (no (eqb ((a .1 .0) .kind) (20)) h₆ _ (no (eqb ((a .1 .0) .kind) (21)) h₇ _ (no (eqb ((a .1 .0) .kind) (22)) h₈ _ (no (eqb ((a .1 .0) .kind) (23)) h₉ _ (no (eqb ((a .1 .0) .kind) (24)) h₁₀ _ (no (eqb ((a .1 .0) .kind) (25)) h₁₁ _ (refl)))))))))))))) $
+          leaves3 ! Answered° Ds a (V₁₄ .answer) are (is₇₂)))))
 
       part-14 : (c₆ : Is u64 ((a .1 .0) .kind) ((number w64) .val ((a .1 .0) .kind) ∷ [])) (h₁ : Holds (not (leb ((a .1 .0) .kind) (4)))) (h₂ : Holds (not (eqb ((a .1 .0) .kind) (16)))) (h₃ : Holds (not (eqb ((a .1 .0) .kind) (17)))) (h₄ : Holds (not (eqb ((a .1 .0) .kind) (18)))) (h₅ : Holds (not (eqb ((a .1 .0) .kind) (19)))) (h₆ : Holds (not (eqb ((a .1 .0) .kind) (20)))) → Sq W (‵ (row Thread·.the-row fullShare (ys) b o) ∷ ‵ (kept Thread·.the-row κ q γ b o ys) ∷ ‵ (row (Array u64 96) fullShare (ys′) b′ o′) ∷ ‵ (kept (Array u64 96) κ′ q′ γ′ b′ o′ ys′) ∷ ‵ (row (Array u64 32) fullShare (ys″) b″ o″) ∷ ‵ (kept (Array u64 32) κ″ q″ γ″ b″ o″ ys″) ∷ standing 𝓤 mir.locals (l₀ ∷ l₁ ∷ l₂ ∷ l₃ ∷ l₄ ∷ l₅ ∷ l₆ ∷ l₇ ∷ l₈ ∷ l₉ ∷ l₁₀ ∷ l₁₁ ∷ l₁₂ ∷ l₁₃ ∷ l₁₄ ∷ l₁₅ ∷ l₁₆ ∷ l₁₇ ∷ l₁₈ ∷ l₁₉ ∷ l₂₀ ∷ l₂₁ ∷ l₂₂ ∷ l₂₃ ∷ l₂₄ ∷ l₂₅ ∷ l₂₆ ∷ l₂₇ ∷ l₂₈ ∷ l₂₉ ∷ l₃₀ ∷ l₃₁ ∷ l₃₂ ∷ l₃₃ ∷ l₃₄ ∷ l₃₅ ∷ l₃₆ ∷ l₃₇ ∷ l₃₈ ∷ l₃₉ ∷ l₄₀ ∷ l₄₁ ∷ l₄₂ ∷ l₄₃ ∷ l₄₄ ∷ l₄₅ ∷ l₄₆ ∷ l₄₇ ∷ l₄₈ ∷ l₄₉ ∷ l₅₀ ∷ l₅₁ ∷ l₅₂ ∷ l₅₃ ∷ []) (bare ∷ full s ∷ full s′ ∷ full s″ ∷ full (State° .val (a .0)) ∷ full (Call° .val (a .1 .0)) ∷ full ((number w64) .val ((a .1 .0) .kind)) ∷ bare ∷ bare ∷ bare ∷ bare ∷ bare ∷ bare ∷ bare ∷ bare ∷ bare ∷ bare ∷ bare ∷ bare ∷ bare ∷ bare ∷ bare ∷ bare ∷ bare ∷ bare ∷ bare ∷ bare ∷ bare ∷ bare ∷ bare ∷ bare ∷ bare ∷ bare ∷ bare ∷ bare ∷ bare ∷ bare ∷ bare ∷ bare ∷ bare ∷ bare ∷ bare ∷ bare ∷ bare ∷ bare ∷ bare ∷ bare ∷ bare ∷ bare ∷ bare ∷ bare ∷ bare ∷ bare ∷ bare ∷ []) []) (runs C Λ En mir.t-14 (atRet En Post))
       unfolding obeyDef
@@ -357,7 +314,7 @@ module _ {M : Type 1} (𝓤 : URA M) (H : Heap 𝓤) (𝓜 : Model 𝓤 H) (𝓖
           join ! $
           move ! (1 ∷ 0 ∷ []) $
           join ! $
-          call-slices Answered° (State° ∷ Call° ∷ []) ((a .0, (a .1 .0, tt))) (emp 𝓤) ((mutable Thread·.the-row ys b o n refl room) ∷ (mutable (Array u64 96) ys′ b′ o′ n′ refl room′) ∷ (shared (Array u64 32) ys″ b″ o″ n″ refl room″) ∷ []) ! fm (λ r ws. (r ≡ V₁₆) × ((ws .0 ≡ V₁₇) × (ws .1 .0 ≡ V₁₈))) ((are .0, (are .1 .0, tt))) (id⊢ 𝓤 (emp 𝓤))
+          call-left Answered° (State° ∷ Call° ∷ []) ((a .0, (a .1 .0, tt))) (emp 𝓤) ((mutable Thread·.the-row ys b o n refl room) ∷ (mutable (Array u64 96) ys′ b′ o′ n′ refl room′) ∷ (shared (Array u64 32) ys″ b″ o″ n″ refl room″) ∷ []) ! fm (λ r ws. (r ≡ (V₉ .answer)) × ((ws .0 ≡ (V₉ .memory .threads)) × (ws .1 .0 ≡ (V₉ .memory .cpus)))) (λ r ws. _≡_ {A = Left Answered Memory} (record { answer = r; memory = record { threads = ws .0; cpus = ws .1 .0 } }) V₉) (λ r ws e. (ap (λ (z : Left Answered Memory). z .answer) e, (ap (λ (z : Left Answered Memory). z .memory .threads) e, ap (λ (z : Left Answered Memory). z .memory .cpus) e))) ((are .0, (are .1 .0, tt))) (id⊢ 𝓤 (emp 𝓤))
           (λ νs. cited 𝓤 H (tripleOf 𝓤 H A fn-command-obey-stattick.signature (fn-command-obey-stattick.spec 𝓤 H A (𝓜 .mem) (𝓡 .run))) 𝓜 𝓡 code.env fn-command-obey-stattick-def.name fn-command-obey-stattick-def.routine code.calls-command·obey·stattick (fn-command-obey-stattick-thm.met 𝓤 H 𝓜 𝓖 𝓡) (((νs .0 .0 ∷ [], (νs .1 .0 .0 ∷ [], (νs .1 .1 .0 .0 ∷ [], tt))), (fullShare, (fullShare, (fullShare, tt))), tt, (lent-as b o (νs .0 .1) ys, (lent-as b′ o′ (νs .1 .0 .1) ys′, (lent-as b″ o″ (νs .1 .1 .0 .1) ys″, (a .0, (a .1 .0, tt))))), (slice-of b o ys ∷ [], (slice-of b′ o′ ys′ ∷ [], (slice-of b″ o″ ys″ ∷ [], spell (State° ∷ Call° ∷ []) ((a .0, (a .1 .0, tt))))))), tt))
           (λ k. and-then ! (load ! (from ! (stop !)) (look ! 48 refl)) (and-then ! (load ! (from ! (stop !)) (look ! 44 refl)) (and-then ! (load ! (from ! (stop !)) (look ! 40 refl)) (and-then ! (load ! (from ! (stop !)) (look ! 102 refl)) (and-then ! (load ! (from ! (stop !)) (look ! 100 refl)) (no-more !)))))) (λ r₃₇ ws₃₈ is₃₉ ls₄₀ e₄₁.
           split ! $
@@ -370,18 +327,18 @@ module _ {M : Type 1} (𝓤 : URA M) (H : Heap 𝓤) (𝓜 : Model 𝓤 H) (𝓖
           rewrite ! 2 (λ (us : List Thread). ‵ (row Thread·.the-row fullShare us b o)) (e₄₁ .1 .0) refl $
           rewrite ! 1 (λ (us : List (List ℕ)). ‵ (row (Array u64 96) fullShare us b′ o′)) (e₄₁ .1 .1) refl $
           told ! Answered° (e₄₁ .0) is₃₉ (λ is₄₂.
-          land ! (from ! (stop !)) (init ! 112 refl (Answered° .typed 𝓤 H A W (V₁₆) (is₄₂) .0)) $
+          land ! (from ! (stop !)) (init ! 112 refl (Answered° .typed 𝓤 H A W (V₉ .answer) (is₄₂) .0)) $
           move ! (0 ∷ 5 ∷ []) $
           closed ! tt (Array u64 32) ys″ (ys″) b″ o″ room″ (sym refl) $
           move ! (2 ∷ 5 ∷ []) $
-          closed ! tt (Array u64 96) ys′ (V₁₈) b′ o′ room′ (sym ((refl ∙ sym (subst (λ (us : List (List ℕ)). length us ≡ length ys′) (e₄₁ .1 .1) (ls₄₀ .1 .0))))) $
+          closed ! tt (Array u64 96) ys′ (V₉ .memory .cpus) b′ o′ room′ (sym ((refl ∙ sym (subst (λ (us : List (List ℕ)). length us ≡ length ys′) (e₄₁ .1 .1) (ls₄₀ .1 .0))))) $
           move ! (4 ∷ 5 ∷ []) $
-          closed ! tt Thread·.the-row ys (V₁₇) b o room (sym ((refl ∙ sym (subst (λ (us : List Thread). length us ≡ length ys) (e₄₁ .1 .0) (ls₄₀ .0))))) $
+          closed ! tt Thread·.the-row ys (V₉ .memory .threads) b o room (sym ((refl ∙ sym (subst (λ (us : List Thread). length us ≡ length ys) (e₄₁ .1 .0) (ls₄₀ .0))))) $
           returns-within ! Post refl (look ! 112 refl) $
           move ! (112 ∷ 113 ∷ 110 ∷ 111 ∷ 108 ∷ 109 ∷ 106 ∷ 107 ∷ 104 ∷ 105 ∷ 102 ∷ 103 ∷ 100 ∷ 101 ∷ 98 ∷ 99 ∷ 96 ∷ 97 ∷ 94 ∷ 95 ∷ 92 ∷ 93 ∷ 90 ∷ 91 ∷ 88 ∷ 89 ∷ 86 ∷ 87 ∷ 84 ∷ 85 ∷ 82 ∷ 83 ∷ 80 ∷ 81 ∷ 78 ∷ 79 ∷ 76 ∷ 77 ∷ 74 ∷ 75 ∷ 72 ∷ 73 ∷ 70 ∷ 71 ∷ 68 ∷ 69 ∷ 66 ∷ 67 ∷ 64 ∷ 65 ∷ 62 ∷ 63 ∷ 60 ∷ 61 ∷ 58 ∷ 59 ∷ 56 ∷ 57 ∷ 54 ∷ 55 ∷ 52 ∷ 53 ∷ 50 ∷ 51 ∷ 48 ∷ 49 ∷ 46 ∷ 47 ∷ 44 ∷ 45 ∷ 42 ∷ 43 ∷ 40 ∷ 41 ∷ 38 ∷ 39 ∷ 36 ∷ 37 ∷ 34 ∷ 35 ∷ 32 ∷ 33 ∷ 30 ∷ 31 ∷ 28 ∷ 29 ∷ 26 ∷ 27 ∷ 24 ∷ 25 ∷ 22 ∷ 23 ∷ 20 ∷ 21 ∷ 18 ∷ 19 ∷ 16 ∷ 17 ∷ 14 ∷ 15 ∷ 12 ∷ 13 ∷ 10 ∷ 11 ∷ 8 ∷ 9 ∷ 6 ∷ 7 ∷ []) $
           all-freed ! mir.locals (l₀ ∷ l₁ ∷ l₂ ∷ l₃ ∷ l₄ ∷ l₅ ∷ l₆ ∷ l₇ ∷ l₈ ∷ l₉ ∷ l₁₀ ∷ l₁₁ ∷ l₁₂ ∷ l₁₃ ∷ l₁₄ ∷ l₁₅ ∷ l₁₆ ∷ l₁₇ ∷ l₁₈ ∷ l₁₉ ∷ l₂₀ ∷ l₂₁ ∷ l₂₂ ∷ l₂₃ ∷ l₂₄ ∷ l₂₅ ∷ l₂₆ ∷ l₂₇ ∷ l₂₈ ∷ l₂₉ ∷ l₃₀ ∷ l₃₁ ∷ l₃₂ ∷ l₃₃ ∷ l₃₄ ∷ l₃₅ ∷ l₃₆ ∷ l₃₇ ∷ l₃₈ ∷ l₃₉ ∷ l₄₀ ∷ l₄₁ ∷ l₄₂ ∷ l₄₃ ∷ l₄₄ ∷ l₄₅ ∷ l₄₆ ∷ l₄₇ ∷ l₄₈ ∷ l₄₉ ∷ l₅₀ ∷ l₅₁ ∷ l₅₂ ∷ l₅₃ ∷ []) (full _ ∷ full _ ∷ full _ ∷ full _ ∷ full _ ∷ full _ ∷ full _ ∷ full _ ∷ bare ∷ bare ∷ bare ∷ bare ∷ bare ∷ bare ∷ bare ∷ bare ∷ bare ∷ bare ∷ bare ∷ bare ∷ bare ∷ bare ∷ bare ∷ bare ∷ bare ∷ bare ∷ bare ∷ bare ∷ bare ∷ bare ∷ full _ ∷ full _ ∷ full _ ∷ full _ ∷ full _ ∷ full _ ∷ bare ∷ bare ∷ bare ∷ bare ∷ bare ∷ bare ∷ bare ∷ bare ∷ bare ∷ bare ∷ bare ∷ bare ∷ bare ∷ bare ∷ bare ∷ bare ∷ bare ∷ bare ∷ []) tt $
-          suffices ! _ (ends-at 𝓤 H A obey.ended stayed c W y _ (V₁₆) (V₁₇, (V₁₈, (ys″, (tt, (tt, tt))))) (sym ((refl ∙ sym (subst (λ (us : List Thread). length us ≡ length ys) (e₄₁ .1 .0) (ls₄₀ .0)))), (sym ((refl ∙ sym (subst (λ (us : List (List ℕ)). length us ≡ length ys′) (e₄₁ .1 .1) (ls₄₀ .1 .0)))), (sym refl, (tt, (tt, tt)))))) $ says ! (by-after (record { outcome = V₁₆; threads = V₁₇; cpus = V₁₈; nodes = ys″ }) (obeyDef ys ys′ ys″ (a .0) (a .1 .0)) ((no (leb ((a .1 .0) .kind) (4)) h₁ _ (no (eqb ((a .1 .0) .kind) (16)) h₂ _ (no (eqb ((a .1 .0) .kind) (17)) h₃ _ (no (eqb ((a .1 .0) .kind) (18)) h₄ _ (no (eqb ((a .1 .0) .kind) (19)) h₅ _ (no (eqb ((a .1 .0) .kind) (20)) h₆ _ (yes (eqb ((a .1 .0) .kind) (21)) h₇ _ (refl)))))))))) $
-          leaves3 ! Answered° Ds a (V₁₆) are (is₄₂))))
+          suffices ! _ (ends-at 𝓤 H A obey.ended stayed c W y _ (V₉ .answer) (V₉ .memory .threads, (V₉ .memory .cpus, (ys″, (tt, (tt, tt))))) (sym ((refl ∙ sym (subst (λ (us : List Thread). length us ≡ length ys) (e₄₁ .1 .0) (ls₄₀ .0)))), (sym ((refl ∙ sym (subst (λ (us : List (List ℕ)). length us ≡ length ys′) (e₄₁ .1 .1) (ls₄₀ .1 .0)))), (sym refl, (tt, (tt, tt)))))) $ says ! (so {X = Left Answered Lent} (record { answer = (V₉ .answer); memory = record { threads = (V₉ .memory .threads); cpus = (V₉ .memory .cpus); nodes = ys″ } }) (obeyDef (a .0) (a .1 .0) (record { threads = ys; cpus = ys′; nodes = ys″ })) ((no (leb ((a .1 .0) .kind) (4)) h₁ _ (no (eqb ((a .1 .0) .kind) (16)) h₂ _ (no (eqb ((a .1 .0) .kind) (17)) h₃ _ (no (eqb ((a .1 .0) .kind) (18)) h₄ _ (no (eqb ((a .1 .0) .kind) (19)) h₅ _ (no (eqb ((a .1 .0) .kind) (20)) h₆ _ (yes (eqb ((a .1 .0) .kind) (21)) h₇ _ (refl)))))))))) $
+          leaves3 ! Answered° Ds a (V₉ .answer) are (is₄₂))))
           (λ h₇.
           assigns ! (bin ! (load ! (from ! (stop !)) (look ! 100 refl)) (lit ! tt) tt) (from ! (stop !)) (store ! 98 refl (tt, tt)) $
           guards ! (load ! (from ! (stop !)) (look ! 98 refl))
@@ -395,7 +352,7 @@ module _ {M : Type 1} (𝓤 : URA M) (H : Heap 𝓤) (𝓜 : Model 𝓤 H) (𝓖
           join ! $
           move ! (1 ∷ 0 ∷ []) $
           join ! $
-          call-slices Answered° (State° ∷ Call° ∷ []) ((a .0, (a .1 .0, tt))) (emp 𝓤) ((shared Thread·.the-row ys b o n refl room) ∷ (mutable (Array u64 96) ys′ b′ o′ n′ refl room′) ∷ []) ! fm (λ r ws. (r ≡ V₁₉) × (ws .1 .0 ≡ V₂₀)) ((are .0, (are .1 .0, tt))) (id⊢ 𝓤 (emp 𝓤))
+          call-left Answered° (State° ∷ Call° ∷ []) ((a .0, (a .1 .0, tt))) (emp 𝓤) ((shared Thread·.the-row ys b o n refl room) ∷ (mutable (Array u64 96) ys′ b′ o′ n′ refl room′) ∷ []) ! fm (λ r ws. (r ≡ (V₁₀ .answer)) × (ws .1 .0 ≡ (V₁₀ .memory))) (λ r ws. _≡_ {A = Left Answered (List (List ℕ))} (record { answer = r; memory = ws .1 .0 }) V₁₀) (λ r ws e. (ap (λ (z : Left Answered (List (List ℕ))). z .answer) e, ap (λ (z : Left Answered (List (List ℕ))). z .memory) e)) ((are .0, (are .1 .0, tt))) (id⊢ 𝓤 (emp 𝓤))
           (λ νs. cited 𝓤 H (tripleOf 𝓤 H A fn-command-obey-resched.signature (fn-command-obey-resched.spec 𝓤 H A (𝓜 .mem) (𝓡 .run))) 𝓜 𝓡 code.env fn-command-obey-resched-def.name fn-command-obey-resched-def.routine code.calls-command·obey·resched (fn-command-obey-resched-thm.met 𝓤 H 𝓜 𝓖 𝓡) (((νs .0 .0 ∷ [], (νs .1 .0 .0 ∷ [], tt)), (fullShare, (fullShare, tt)), tt, (lent-as b o (νs .0 .1) ys, (lent-as b′ o′ (νs .1 .0 .1) ys′, (a .0, (a .1 .0, tt)))), (slice-of b o ys ∷ [], (slice-of b′ o′ ys′ ∷ [], spell (State° ∷ Call° ∷ []) ((a .0, (a .1 .0, tt)))))), tt))
           (λ k. and-then ! (load ! (from ! (stop !)) (look ! 37 refl)) (and-then ! (load ! (from ! (stop !)) (look ! 33 refl)) (and-then ! (load ! (from ! (stop !)) (look ! 103 refl)) (and-then ! (load ! (from ! (stop !)) (look ! 101 refl)) (no-more !))))) (λ r₄₃ ws₄₄ is₄₅ ls₄₆ e₄₇.
           split ! $
@@ -405,18 +362,18 @@ module _ {M : Type 1} (𝓤 : URA M) (H : Heap 𝓤) (𝓜 : Model 𝓤 H) (𝓖
           drop ! $
           rewrite ! 0 (λ (us : List (List ℕ)). ‵ (row (Array u64 96) fullShare us b′ o′)) (e₄₇ .1) refl $
           told ! Answered° (e₄₇ .0) is₄₅ (λ is₄₈.
-          land ! (from ! (stop !)) (init ! 112 refl (Answered° .typed 𝓤 H A W (V₁₉) (is₄₈) .0)) $
+          land ! (from ! (stop !)) (init ! 112 refl (Answered° .typed 𝓤 H A W (V₁₀ .answer) (is₄₈) .0)) $
           move ! (4 ∷ 5 ∷ []) $
           closed ! tt (Array u64 32) ys″ (ys″) b″ o″ room″ (sym refl) $
           move ! (2 ∷ 5 ∷ []) $
-          closed ! tt (Array u64 96) ys′ (V₂₀) b′ o′ room′ (sym ((refl ∙ sym (subst (λ (us : List (List ℕ)). length us ≡ length ys′) (e₄₇ .1) (ls₄₆ .1 .0))))) $
+          closed ! tt (Array u64 96) ys′ (V₁₀ .memory) b′ o′ room′ (sym ((refl ∙ sym (subst (λ (us : List (List ℕ)). length us ≡ length ys′) (e₄₇ .1) (ls₄₆ .1 .0))))) $
           move ! (4 ∷ 5 ∷ []) $
           closed ! tt Thread·.the-row ys (ys) b o room (sym refl) $
           returns-within ! Post refl (look ! 112 refl) $
           move ! (112 ∷ 113 ∷ 110 ∷ 111 ∷ 108 ∷ 109 ∷ 106 ∷ 107 ∷ 104 ∷ 105 ∷ 102 ∷ 103 ∷ 100 ∷ 101 ∷ 98 ∷ 99 ∷ 96 ∷ 97 ∷ 94 ∷ 95 ∷ 92 ∷ 93 ∷ 90 ∷ 91 ∷ 88 ∷ 89 ∷ 86 ∷ 87 ∷ 84 ∷ 85 ∷ 82 ∷ 83 ∷ 80 ∷ 81 ∷ 78 ∷ 79 ∷ 76 ∷ 77 ∷ 74 ∷ 75 ∷ 72 ∷ 73 ∷ 70 ∷ 71 ∷ 68 ∷ 69 ∷ 66 ∷ 67 ∷ 64 ∷ 65 ∷ 62 ∷ 63 ∷ 60 ∷ 61 ∷ 58 ∷ 59 ∷ 56 ∷ 57 ∷ 54 ∷ 55 ∷ 52 ∷ 53 ∷ 50 ∷ 51 ∷ 48 ∷ 49 ∷ 46 ∷ 47 ∷ 44 ∷ 45 ∷ 42 ∷ 43 ∷ 40 ∷ 41 ∷ 38 ∷ 39 ∷ 36 ∷ 37 ∷ 34 ∷ 35 ∷ 32 ∷ 33 ∷ 30 ∷ 31 ∷ 28 ∷ 29 ∷ 26 ∷ 27 ∷ 24 ∷ 25 ∷ 22 ∷ 23 ∷ 20 ∷ 21 ∷ 18 ∷ 19 ∷ 16 ∷ 17 ∷ 14 ∷ 15 ∷ 12 ∷ 13 ∷ 10 ∷ 11 ∷ 8 ∷ 9 ∷ 6 ∷ 7 ∷ []) $
           all-freed ! mir.locals (l₀ ∷ l₁ ∷ l₂ ∷ l₃ ∷ l₄ ∷ l₅ ∷ l₆ ∷ l₇ ∷ l₈ ∷ l₉ ∷ l₁₀ ∷ l₁₁ ∷ l₁₂ ∷ l₁₃ ∷ l₁₄ ∷ l₁₅ ∷ l₁₆ ∷ l₁₇ ∷ l₁₈ ∷ l₁₉ ∷ l₂₀ ∷ l₂₁ ∷ l₂₂ ∷ l₂₃ ∷ l₂₄ ∷ l₂₅ ∷ l₂₆ ∷ l₂₇ ∷ l₂₈ ∷ l₂₉ ∷ l₃₀ ∷ l₃₁ ∷ l₃₂ ∷ l₃₃ ∷ l₃₄ ∷ l₃₅ ∷ l₃₆ ∷ l₃₇ ∷ l₃₈ ∷ l₃₉ ∷ l₄₀ ∷ l₄₁ ∷ l₄₂ ∷ l₄₃ ∷ l₄₄ ∷ l₄₅ ∷ l₄₆ ∷ l₄₇ ∷ l₄₈ ∷ l₄₉ ∷ l₅₀ ∷ l₅₁ ∷ l₅₂ ∷ l₅₃ ∷ []) (full _ ∷ full _ ∷ full _ ∷ full _ ∷ full _ ∷ full _ ∷ full _ ∷ full _ ∷ bare ∷ bare ∷ bare ∷ bare ∷ bare ∷ bare ∷ bare ∷ bare ∷ bare ∷ bare ∷ bare ∷ bare ∷ bare ∷ bare ∷ bare ∷ bare ∷ bare ∷ bare ∷ bare ∷ bare ∷ bare ∷ bare ∷ bare ∷ bare ∷ bare ∷ bare ∷ bare ∷ bare ∷ full _ ∷ full _ ∷ full _ ∷ full _ ∷ bare ∷ bare ∷ bare ∷ bare ∷ bare ∷ bare ∷ bare ∷ bare ∷ bare ∷ bare ∷ bare ∷ bare ∷ bare ∷ bare ∷ []) tt $
-          suffices ! _ (ends-at 𝓤 H A obey.ended stayed c W y _ (V₁₉) (ys, (V₂₀, (ys″, (tt, (tt, tt))))) (sym refl, (sym ((refl ∙ sym (subst (λ (us : List (List ℕ)). length us ≡ length ys′) (e₄₇ .1) (ls₄₆ .1 .0)))), (sym refl, (tt, (tt, tt)))))) $ says ! (by-after (record { outcome = V₁₉; threads = ys; cpus = V₂₀; nodes = ys″ }) (obeyDef ys ys′ ys″ (a .0) (a .1 .0)) ((no (leb ((a .1 .0) .kind) (4)) h₁ _ (no (eqb ((a .1 .0) .kind) (16)) h₂ _ (no (eqb ((a .1 .0) .kind) (17)) h₃ _ (no (eqb ((a .1 .0) .kind) (18)) h₄ _ (no (eqb ((a .1 .0) .kind) (19)) h₅ _ (no (eqb ((a .1 .0) .kind) (20)) h₆ _ (no (eqb ((a .1 .0) .kind) (21)) h₇ _ (yes (eqb ((a .1 .0) .kind) (22)) h₈ _ (refl))))))))))) $
-          leaves3 ! Answered° Ds a (V₁₉) are (is₄₈))))
+          suffices ! _ (ends-at 𝓤 H A obey.ended stayed c W y _ (V₁₀ .answer) (ys, (V₁₀ .memory, (ys″, (tt, (tt, tt))))) (sym refl, (sym ((refl ∙ sym (subst (λ (us : List (List ℕ)). length us ≡ length ys′) (e₄₇ .1) (ls₄₆ .1 .0)))), (sym refl, (tt, (tt, tt)))))) $ says ! (so {X = Left Answered Lent} (record { answer = (V₁₀ .answer); memory = record { threads = ys; cpus = (V₁₀ .memory); nodes = ys″ } }) (obeyDef (a .0) (a .1 .0) (record { threads = ys; cpus = ys′; nodes = ys″ })) ((no (leb ((a .1 .0) .kind) (4)) h₁ _ (no (eqb ((a .1 .0) .kind) (16)) h₂ _ (no (eqb ((a .1 .0) .kind) (17)) h₃ _ (no (eqb ((a .1 .0) .kind) (18)) h₄ _ (no (eqb ((a .1 .0) .kind) (19)) h₅ _ (no (eqb ((a .1 .0) .kind) (20)) h₆ _ (no (eqb ((a .1 .0) .kind) (21)) h₇ _ (yes (eqb ((a .1 .0) .kind) (22)) h₈ _ (refl))))))))))) $
+          leaves3 ! Answered° Ds a (V₁₀ .answer) are (is₄₈))))
           (λ h₈.
           assigns ! (bin ! (load ! (from ! (stop !)) (look ! 100 refl)) (lit ! tt) tt) (from ! (stop !)) (store ! 98 refl (tt, tt)) $
           guards ! (load ! (from ! (stop !)) (look ! 98 refl))
@@ -434,7 +391,7 @@ module _ {M : Type 1} (𝓤 : URA M) (H : Heap 𝓤) (𝓜 : Model 𝓤 H) (𝓖
           join ! $
           move ! (1 ∷ 0 ∷ []) $
           join ! $
-          call-slices Answered° (State° ∷ Call° ∷ []) ((a .0, (a .1 .0, tt))) (emp 𝓤) ((mutable Thread·.the-row ys b o n refl room) ∷ (mutable (Array u64 96) ys′ b′ o′ n′ refl room′) ∷ (shared (Array u64 32) ys″ b″ o″ n″ refl room″) ∷ []) ! fm (λ r ws. (r ≡ V₂₁) × ((ws .0 ≡ V₂₂) × (ws .1 .0 ≡ V₂₃))) ((are .0, (are .1 .0, tt))) (id⊢ 𝓤 (emp 𝓤))
+          call-left Answered° (State° ∷ Call° ∷ []) ((a .0, (a .1 .0, tt))) (emp 𝓤) ((mutable Thread·.the-row ys b o n refl room) ∷ (mutable (Array u64 96) ys′ b′ o′ n′ refl room′) ∷ (shared (Array u64 32) ys″ b″ o″ n″ refl room″) ∷ []) ! fm (λ r ws. (r ≡ (V₁₁ .answer)) × ((ws .0 ≡ (V₁₁ .memory .threads)) × (ws .1 .0 ≡ (V₁₁ .memory .cpus)))) (λ r ws. _≡_ {A = Left Answered Memory} (record { answer = r; memory = record { threads = ws .0; cpus = ws .1 .0 } }) V₁₁) (λ r ws e. (ap (λ (z : Left Answered Memory). z .answer) e, (ap (λ (z : Left Answered Memory). z .memory .threads) e, ap (λ (z : Left Answered Memory). z .memory .cpus) e))) ((are .0, (are .1 .0, tt))) (id⊢ 𝓤 (emp 𝓤))
           (λ νs. cited 𝓤 H (tripleOf 𝓤 H A fn-command-obey-maybe-preempt.signature (fn-command-obey-maybe-preempt.spec 𝓤 H A (𝓜 .mem) (𝓡 .run))) 𝓜 𝓡 code.env fn-command-obey-maybe-preempt-def.name fn-command-obey-maybe-preempt-def.routine code.calls-command·obey·maybe-preempt (fn-command-obey-maybe-preempt-thm.met 𝓤 H 𝓜 𝓖 𝓡) (((νs .0 .0 ∷ [], (νs .1 .0 .0 ∷ [], (νs .1 .1 .0 .0 ∷ [], tt))), (fullShare, (fullShare, (fullShare, tt))), tt, (lent-as b o (νs .0 .1) ys, (lent-as b′ o′ (νs .1 .0 .1) ys′, (lent-as b″ o″ (νs .1 .1 .0 .1) ys″, (a .0, (a .1 .0, tt))))), (slice-of b o ys ∷ [], (slice-of b′ o′ ys′ ∷ [], (slice-of b″ o″ ys″ ∷ [], spell (State° ∷ Call° ∷ []) ((a .0, (a .1 .0, tt))))))), tt))
           (λ k. and-then ! (load ! (from ! (stop !)) (look ! 28 refl)) (and-then ! (load ! (from ! (stop !)) (look ! 24 refl)) (and-then ! (load ! (from ! (stop !)) (look ! 20 refl)) (and-then ! (load ! (from ! (stop !)) (look ! 102 refl)) (and-then ! (load ! (from ! (stop !)) (look ! 100 refl)) (no-more !)))))) (λ r₄₉ ws₅₀ is₅₁ ls₅₂ e₅₃.
           split ! $
@@ -447,18 +404,18 @@ module _ {M : Type 1} (𝓤 : URA M) (H : Heap 𝓤) (𝓜 : Model 𝓤 H) (𝓖
           rewrite ! 2 (λ (us : List Thread). ‵ (row Thread·.the-row fullShare us b o)) (e₅₃ .1 .0) refl $
           rewrite ! 1 (λ (us : List (List ℕ)). ‵ (row (Array u64 96) fullShare us b′ o′)) (e₅₃ .1 .1) refl $
           told ! Answered° (e₅₃ .0) is₅₁ (λ is₅₄.
-          land ! (from ! (stop !)) (init ! 112 refl (Answered° .typed 𝓤 H A W (V₂₁) (is₅₄) .0)) $
+          land ! (from ! (stop !)) (init ! 112 refl (Answered° .typed 𝓤 H A W (V₁₁ .answer) (is₅₄) .0)) $
           move ! (0 ∷ 5 ∷ []) $
           closed ! tt (Array u64 32) ys″ (ys″) b″ o″ room″ (sym refl) $
           move ! (2 ∷ 5 ∷ []) $
-          closed ! tt (Array u64 96) ys′ (V₂₃) b′ o′ room′ (sym ((refl ∙ sym (subst (λ (us : List (List ℕ)). length us ≡ length ys′) (e₅₃ .1 .1) (ls₅₂ .1 .0))))) $
+          closed ! tt (Array u64 96) ys′ (V₁₁ .memory .cpus) b′ o′ room′ (sym ((refl ∙ sym (subst (λ (us : List (List ℕ)). length us ≡ length ys′) (e₅₃ .1 .1) (ls₅₂ .1 .0))))) $
           move ! (4 ∷ 5 ∷ []) $
-          closed ! tt Thread·.the-row ys (V₂₂) b o room (sym ((refl ∙ sym (subst (λ (us : List Thread). length us ≡ length ys) (e₅₃ .1 .0) (ls₅₂ .0))))) $
+          closed ! tt Thread·.the-row ys (V₁₁ .memory .threads) b o room (sym ((refl ∙ sym (subst (λ (us : List Thread). length us ≡ length ys) (e₅₃ .1 .0) (ls₅₂ .0))))) $
           returns-within ! Post refl (look ! 112 refl) $
           move ! (112 ∷ 113 ∷ 110 ∷ 111 ∷ 108 ∷ 109 ∷ 106 ∷ 107 ∷ 104 ∷ 105 ∷ 102 ∷ 103 ∷ 100 ∷ 101 ∷ 98 ∷ 99 ∷ 96 ∷ 97 ∷ 94 ∷ 95 ∷ 92 ∷ 93 ∷ 90 ∷ 91 ∷ 88 ∷ 89 ∷ 86 ∷ 87 ∷ 84 ∷ 85 ∷ 82 ∷ 83 ∷ 80 ∷ 81 ∷ 78 ∷ 79 ∷ 76 ∷ 77 ∷ 74 ∷ 75 ∷ 72 ∷ 73 ∷ 70 ∷ 71 ∷ 68 ∷ 69 ∷ 66 ∷ 67 ∷ 64 ∷ 65 ∷ 62 ∷ 63 ∷ 60 ∷ 61 ∷ 58 ∷ 59 ∷ 56 ∷ 57 ∷ 54 ∷ 55 ∷ 52 ∷ 53 ∷ 50 ∷ 51 ∷ 48 ∷ 49 ∷ 46 ∷ 47 ∷ 44 ∷ 45 ∷ 42 ∷ 43 ∷ 40 ∷ 41 ∷ 38 ∷ 39 ∷ 36 ∷ 37 ∷ 34 ∷ 35 ∷ 32 ∷ 33 ∷ 30 ∷ 31 ∷ 28 ∷ 29 ∷ 26 ∷ 27 ∷ 24 ∷ 25 ∷ 22 ∷ 23 ∷ 20 ∷ 21 ∷ 18 ∷ 19 ∷ 16 ∷ 17 ∷ 14 ∷ 15 ∷ 12 ∷ 13 ∷ 10 ∷ 11 ∷ 8 ∷ 9 ∷ 6 ∷ 7 ∷ []) $
           all-freed ! mir.locals (l₀ ∷ l₁ ∷ l₂ ∷ l₃ ∷ l₄ ∷ l₅ ∷ l₆ ∷ l₇ ∷ l₈ ∷ l₉ ∷ l₁₀ ∷ l₁₁ ∷ l₁₂ ∷ l₁₃ ∷ l₁₄ ∷ l₁₅ ∷ l₁₆ ∷ l₁₇ ∷ l₁₈ ∷ l₁₉ ∷ l₂₀ ∷ l₂₁ ∷ l₂₂ ∷ l₂₃ ∷ l₂₄ ∷ l₂₅ ∷ l₂₆ ∷ l₂₇ ∷ l₂₈ ∷ l₂₉ ∷ l₃₀ ∷ l₃₁ ∷ l₃₂ ∷ l₃₃ ∷ l₃₄ ∷ l₃₅ ∷ l₃₆ ∷ l₃₇ ∷ l₃₈ ∷ l₃₉ ∷ l₄₀ ∷ l₄₁ ∷ l₄₂ ∷ l₄₃ ∷ l₄₄ ∷ l₄₅ ∷ l₄₆ ∷ l₄₇ ∷ l₄₈ ∷ l₄₉ ∷ l₅₀ ∷ l₅₁ ∷ l₅₂ ∷ l₅₃ ∷ []) (full _ ∷ full _ ∷ full _ ∷ full _ ∷ full _ ∷ full _ ∷ full _ ∷ full _ ∷ bare ∷ bare ∷ bare ∷ bare ∷ bare ∷ bare ∷ bare ∷ bare ∷ bare ∷ bare ∷ bare ∷ bare ∷ bare ∷ bare ∷ bare ∷ bare ∷ bare ∷ bare ∷ bare ∷ bare ∷ bare ∷ bare ∷ bare ∷ bare ∷ bare ∷ bare ∷ bare ∷ bare ∷ bare ∷ bare ∷ bare ∷ bare ∷ full _ ∷ full _ ∷ full _ ∷ full _ ∷ full _ ∷ full _ ∷ bare ∷ bare ∷ bare ∷ bare ∷ bare ∷ bare ∷ bare ∷ bare ∷ []) tt $
-          suffices ! _ (ends-at 𝓤 H A obey.ended stayed c W y _ (V₂₁) (V₂₂, (V₂₃, (ys″, (tt, (tt, tt))))) (sym ((refl ∙ sym (subst (λ (us : List Thread). length us ≡ length ys) (e₅₃ .1 .0) (ls₅₂ .0)))), (sym ((refl ∙ sym (subst (λ (us : List (List ℕ)). length us ≡ length ys′) (e₅₃ .1 .1) (ls₅₂ .1 .0)))), (sym refl, (tt, (tt, tt)))))) $ says ! (by-after (record { outcome = V₂₁; threads = V₂₂; cpus = V₂₃; nodes = ys″ }) (obeyDef ys ys′ ys″ (a .0) (a .1 .0)) ((no (leb ((a .1 .0) .kind) (4)) h₁ _ (no (eqb ((a .1 .0) .kind) (16)) h₂ _ (no (eqb ((a .1 .0) .kind) (17)) h₃ _ (no (eqb ((a .1 .0) .kind) (18)) h₄ _ (no (eqb ((a .1 .0) .kind) (19)) h₅ _ (no (eqb ((a .1 .0) .kind) (20)) h₆ _ (no (eqb ((a .1 .0) .kind) (21)) h₇ _ (no (eqb ((a .1 .0) .kind) (22)) h₈ _ (yes (eqb ((a .1 .0) .kind) (23)) h₉ _ (refl)))))))))))) $
-          leaves3 ! Answered° Ds a (V₂₁) are (is₅₄))))
+          suffices ! _ (ends-at 𝓤 H A obey.ended stayed c W y _ (V₁₁ .answer) (V₁₁ .memory .threads, (V₁₁ .memory .cpus, (ys″, (tt, (tt, tt))))) (sym ((refl ∙ sym (subst (λ (us : List Thread). length us ≡ length ys) (e₅₃ .1 .0) (ls₅₂ .0)))), (sym ((refl ∙ sym (subst (λ (us : List (List ℕ)). length us ≡ length ys′) (e₅₃ .1 .1) (ls₅₂ .1 .0)))), (sym refl, (tt, (tt, tt)))))) $ says ! (so {X = Left Answered Lent} (record { answer = (V₁₁ .answer); memory = record { threads = (V₁₁ .memory .threads); cpus = (V₁₁ .memory .cpus); nodes = ys″ } }) (obeyDef (a .0) (a .1 .0) (record { threads = ys; cpus = ys′; nodes = ys″ })) ((no (leb ((a .1 .0) .kind) (4)) h₁ _ (no (eqb ((a .1 .0) .kind) (16)) h₂ _ (no (eqb ((a .1 .0) .kind) (17)) h₃ _ (no (eqb ((a .1 .0) .kind) (18)) h₄ _ (no (eqb ((a .1 .0) .kind) (19)) h₅ _ (no (eqb ((a .1 .0) .kind) (20)) h₆ _ (no (eqb ((a .1 .0) .kind) (21)) h₇ _ (no (eqb ((a .1 .0) .kind) (22)) h₈ _ (yes (eqb ((a .1 .0) .kind) (23)) h₉ _ (refl)))))))))))) $
+          leaves3 ! Answered° Ds a (V₁₁ .answer) are (is₅₄))))
           (λ h₉.
           forget ! 98 refl $
           part-20 c₆ h₁ h₂ h₃ h₄ h₅ h₆ h₇ h₈ h₉)))
@@ -482,7 +439,7 @@ module _ {M : Type 1} (𝓤 : URA M) (H : Heap 𝓤) (𝓜 : Model 𝓤 H) (𝓖
           join ! $
           move ! (1 ∷ 0 ∷ []) $
           join ! $
-          call-slices Answered° (State° ∷ Call° ∷ []) ((a .0, (a .1 .0, tt))) (emp 𝓤) ((mutable Thread·.the-row ys b o n refl room) ∷ (mutable (Array u64 96) ys′ b′ o′ n′ refl room′) ∷ (shared (Array u64 32) ys″ b″ o″ n″ refl room″) ∷ []) ! fm (λ r ws. (r ≡ V₇) × ((ws .0 ≡ V₈) × (ws .1 .0 ≡ V₉))) ((are .0, (are .1 .0, tt))) (id⊢ 𝓤 (emp 𝓤))
+          call-left Answered° (State° ∷ Call° ∷ []) ((a .0, (a .1 .0, tt))) (emp 𝓤) ((mutable Thread·.the-row ys b o n refl room) ∷ (mutable (Array u64 96) ys′ b′ o′ n′ refl room′) ∷ (shared (Array u64 32) ys″ b″ o″ n″ refl room″) ∷ []) ! fm (λ r ws. (r ≡ (V₆ .answer)) × ((ws .0 ≡ (V₆ .memory .threads)) × (ws .1 .0 ≡ (V₆ .memory .cpus)))) (λ r ws. _≡_ {A = Left Answered Memory} (record { answer = r; memory = record { threads = ws .0; cpus = ws .1 .0 } }) V₆) (λ r ws e. (ap (λ (z : Left Answered Memory). z .answer) e, (ap (λ (z : Left Answered Memory). z .memory .threads) e, ap (λ (z : Left Answered Memory). z .memory .cpus) e))) ((are .0, (are .1 .0, tt))) (id⊢ 𝓤 (emp 𝓤))
           (λ νs. cited 𝓤 H (tripleOf 𝓤 H A fn-command-obey-schedule-thread.signature (fn-command-obey-schedule-thread.spec 𝓤 H A (𝓜 .mem) (𝓡 .run))) 𝓜 𝓡 code.env fn-command-obey-schedule-thread-def.name fn-command-obey-schedule-thread-def.routine code.calls-command·obey·schedule-thread (fn-command-obey-schedule-thread-thm.met 𝓤 H 𝓜 𝓖 𝓡) (((νs .0 .0 ∷ [], (νs .1 .0 .0 ∷ [], (νs .1 .1 .0 .0 ∷ [], tt))), (fullShare, (fullShare, (fullShare, tt))), tt, (lent-as b o (νs .0 .1) ys, (lent-as b′ o′ (νs .1 .0 .1) ys′, (lent-as b″ o″ (νs .1 .1 .0 .1) ys″, (a .0, (a .1 .0, tt))))), (slice-of b o ys ∷ [], (slice-of b′ o′ ys′ ∷ [], (slice-of b″ o″ ys″ ∷ [], spell (State° ∷ Call° ∷ []) ((a .0, (a .1 .0, tt))))))), tt))
           (λ k. and-then ! (load ! (from ! (stop !)) (look ! 80 refl)) (and-then ! (load ! (from ! (stop !)) (look ! 76 refl)) (and-then ! (load ! (from ! (stop !)) (look ! 72 refl)) (and-then ! (load ! (from ! (stop !)) (look ! 102 refl)) (and-then ! (load ! (from ! (stop !)) (look ! 100 refl)) (no-more !)))))) (λ r₁₉ ws₂₀ is₂₁ ls₂₂ e₂₃.
           split ! $
@@ -495,18 +452,18 @@ module _ {M : Type 1} (𝓤 : URA M) (H : Heap 𝓤) (𝓜 : Model 𝓤 H) (𝓖
           rewrite ! 2 (λ (us : List Thread). ‵ (row Thread·.the-row fullShare us b o)) (e₂₃ .1 .0) refl $
           rewrite ! 1 (λ (us : List (List ℕ)). ‵ (row (Array u64 96) fullShare us b′ o′)) (e₂₃ .1 .1) refl $
           told ! Answered° (e₂₃ .0) is₂₁ (λ is₂₄.
-          land ! (from ! (stop !)) (init ! 112 refl (Answered° .typed 𝓤 H A W (V₇) (is₂₄) .0)) $
+          land ! (from ! (stop !)) (init ! 112 refl (Answered° .typed 𝓤 H A W (V₆ .answer) (is₂₄) .0)) $
           move ! (0 ∷ 5 ∷ []) $
           closed ! tt (Array u64 32) ys″ (ys″) b″ o″ room″ (sym refl) $
           move ! (2 ∷ 5 ∷ []) $
-          closed ! tt (Array u64 96) ys′ (V₉) b′ o′ room′ (sym ((refl ∙ sym (subst (λ (us : List (List ℕ)). length us ≡ length ys′) (e₂₃ .1 .1) (ls₂₂ .1 .0))))) $
+          closed ! tt (Array u64 96) ys′ (V₆ .memory .cpus) b′ o′ room′ (sym ((refl ∙ sym (subst (λ (us : List (List ℕ)). length us ≡ length ys′) (e₂₃ .1 .1) (ls₂₂ .1 .0))))) $
           move ! (4 ∷ 5 ∷ []) $
-          closed ! tt Thread·.the-row ys (V₈) b o room (sym ((refl ∙ sym (subst (λ (us : List Thread). length us ≡ length ys) (e₂₃ .1 .0) (ls₂₂ .0))))) $
+          closed ! tt Thread·.the-row ys (V₆ .memory .threads) b o room (sym ((refl ∙ sym (subst (λ (us : List Thread). length us ≡ length ys) (e₂₃ .1 .0) (ls₂₂ .0))))) $
           returns-within ! Post refl (look ! 112 refl) $
           move ! (112 ∷ 113 ∷ 110 ∷ 111 ∷ 108 ∷ 109 ∷ 106 ∷ 107 ∷ 104 ∷ 105 ∷ 102 ∷ 103 ∷ 100 ∷ 101 ∷ 98 ∷ 99 ∷ 96 ∷ 97 ∷ 94 ∷ 95 ∷ 92 ∷ 93 ∷ 90 ∷ 91 ∷ 88 ∷ 89 ∷ 86 ∷ 87 ∷ 84 ∷ 85 ∷ 82 ∷ 83 ∷ 80 ∷ 81 ∷ 78 ∷ 79 ∷ 76 ∷ 77 ∷ 74 ∷ 75 ∷ 72 ∷ 73 ∷ 70 ∷ 71 ∷ 68 ∷ 69 ∷ 66 ∷ 67 ∷ 64 ∷ 65 ∷ 62 ∷ 63 ∷ 60 ∷ 61 ∷ 58 ∷ 59 ∷ 56 ∷ 57 ∷ 54 ∷ 55 ∷ 52 ∷ 53 ∷ 50 ∷ 51 ∷ 48 ∷ 49 ∷ 46 ∷ 47 ∷ 44 ∷ 45 ∷ 42 ∷ 43 ∷ 40 ∷ 41 ∷ 38 ∷ 39 ∷ 36 ∷ 37 ∷ 34 ∷ 35 ∷ 32 ∷ 33 ∷ 30 ∷ 31 ∷ 28 ∷ 29 ∷ 26 ∷ 27 ∷ 24 ∷ 25 ∷ 22 ∷ 23 ∷ 20 ∷ 21 ∷ 18 ∷ 19 ∷ 16 ∷ 17 ∷ 14 ∷ 15 ∷ 12 ∷ 13 ∷ 10 ∷ 11 ∷ 8 ∷ 9 ∷ 6 ∷ 7 ∷ []) $
           all-freed ! mir.locals (l₀ ∷ l₁ ∷ l₂ ∷ l₃ ∷ l₄ ∷ l₅ ∷ l₆ ∷ l₇ ∷ l₈ ∷ l₉ ∷ l₁₀ ∷ l₁₁ ∷ l₁₂ ∷ l₁₃ ∷ l₁₄ ∷ l₁₅ ∷ l₁₆ ∷ l₁₇ ∷ l₁₈ ∷ l₁₉ ∷ l₂₀ ∷ l₂₁ ∷ l₂₂ ∷ l₂₃ ∷ l₂₄ ∷ l₂₅ ∷ l₂₆ ∷ l₂₇ ∷ l₂₈ ∷ l₂₉ ∷ l₃₀ ∷ l₃₁ ∷ l₃₂ ∷ l₃₃ ∷ l₃₄ ∷ l₃₅ ∷ l₃₆ ∷ l₃₇ ∷ l₃₈ ∷ l₃₉ ∷ l₄₀ ∷ l₄₁ ∷ l₄₂ ∷ l₄₃ ∷ l₄₄ ∷ l₄₅ ∷ l₄₆ ∷ l₄₇ ∷ l₄₈ ∷ l₄₉ ∷ l₅₀ ∷ l₅₁ ∷ l₅₂ ∷ l₅₃ ∷ []) (full _ ∷ full _ ∷ full _ ∷ full _ ∷ full _ ∷ full _ ∷ full _ ∷ full _ ∷ bare ∷ bare ∷ bare ∷ bare ∷ bare ∷ bare ∷ full _ ∷ full _ ∷ full _ ∷ full _ ∷ full _ ∷ full _ ∷ bare ∷ bare ∷ bare ∷ bare ∷ bare ∷ bare ∷ bare ∷ bare ∷ bare ∷ bare ∷ bare ∷ bare ∷ bare ∷ bare ∷ bare ∷ bare ∷ bare ∷ bare ∷ bare ∷ bare ∷ bare ∷ bare ∷ bare ∷ bare ∷ bare ∷ bare ∷ bare ∷ bare ∷ bare ∷ bare ∷ bare ∷ bare ∷ bare ∷ bare ∷ []) tt $
-          suffices ! _ (ends-at 𝓤 H A obey.ended stayed c W y _ (V₇) (V₈, (V₉, (ys″, (tt, (tt, tt))))) (sym ((refl ∙ sym (subst (λ (us : List Thread). length us ≡ length ys) (e₂₃ .1 .0) (ls₂₂ .0)))), (sym ((refl ∙ sym (subst (λ (us : List (List ℕ)). length us ≡ length ys′) (e₂₃ .1 .1) (ls₂₂ .1 .0)))), (sym refl, (tt, (tt, tt)))))) $ says ! (by-after (record { outcome = V₇; threads = V₈; cpus = V₉; nodes = ys″ }) (obeyDef ys ys′ ys″ (a .0) (a .1 .0)) ((no (leb ((a .1 .0) .kind) (4)) h₁ _ (no (eqb ((a .1 .0) .kind) (16)) h₂ _ (no (eqb ((a .1 .0) .kind) (17)) h₃ _ (yes (eqb ((a .1 .0) .kind) (18)) h₄ _ (refl))))))) $
-          leaves3 ! Answered° Ds a (V₇) are (is₂₄))))
+          suffices ! _ (ends-at 𝓤 H A obey.ended stayed c W y _ (V₆ .answer) (V₆ .memory .threads, (V₆ .memory .cpus, (ys″, (tt, (tt, tt))))) (sym ((refl ∙ sym (subst (λ (us : List Thread). length us ≡ length ys) (e₂₃ .1 .0) (ls₂₂ .0)))), (sym ((refl ∙ sym (subst (λ (us : List (List ℕ)). length us ≡ length ys′) (e₂₃ .1 .1) (ls₂₂ .1 .0)))), (sym refl, (tt, (tt, tt)))))) $ says ! (so {X = Left Answered Lent} (record { answer = (V₆ .answer); memory = record { threads = (V₆ .memory .threads); cpus = (V₆ .memory .cpus); nodes = ys″ } }) (obeyDef (a .0) (a .1 .0) (record { threads = ys; cpus = ys′; nodes = ys″ })) ((no (leb ((a .1 .0) .kind) (4)) h₁ _ (no (eqb ((a .1 .0) .kind) (16)) h₂ _ (no (eqb ((a .1 .0) .kind) (17)) h₃ _ (yes (eqb ((a .1 .0) .kind) (18)) h₄ _ (refl))))))) $
+          leaves3 ! Answered° Ds a (V₆ .answer) are (is₂₄))))
           (λ h₄.
           assigns ! (bin ! (load ! (from ! (stop !)) (look ! 100 refl)) (lit ! tt) tt) (from ! (stop !)) (store ! 98 refl (tt, tt)) $
           guards ! (load ! (from ! (stop !)) (look ! 98 refl))
@@ -524,7 +481,7 @@ module _ {M : Type 1} (𝓤 : URA M) (H : Heap 𝓤) (𝓜 : Model 𝓤 H) (𝓖
           join ! $
           move ! (1 ∷ 0 ∷ []) $
           join ! $
-          call-slices Answered° (State° ∷ Call° ∷ []) ((a .0, (a .1 .0, tt))) (emp 𝓤) ((mutable Thread·.the-row ys b o n refl room) ∷ (mutable (Array u64 96) ys′ b′ o′ n′ refl room′) ∷ (shared (Array u64 32) ys″ b″ o″ n″ refl room″) ∷ []) ! fm (λ r ws. (r ≡ V₁₀) × ((ws .0 ≡ V₁₁) × (ws .1 .0 ≡ V₁₂))) ((are .0, (are .1 .0, tt))) (id⊢ 𝓤 (emp 𝓤))
+          call-left Answered° (State° ∷ Call° ∷ []) ((a .0, (a .1 .0, tt))) (emp 𝓤) ((mutable Thread·.the-row ys b o n refl room) ∷ (mutable (Array u64 96) ys′ b′ o′ n′ refl room′) ∷ (shared (Array u64 32) ys″ b″ o″ n″ refl room″) ∷ []) ! fm (λ r ws. (r ≡ (V₇ .answer)) × ((ws .0 ≡ (V₇ .memory .threads)) × (ws .1 .0 ≡ (V₇ .memory .cpus)))) (λ r ws. _≡_ {A = Left Answered Memory} (record { answer = r; memory = record { threads = ws .0; cpus = ws .1 .0 } }) V₇) (λ r ws e. (ap (λ (z : Left Answered Memory). z .answer) e, (ap (λ (z : Left Answered Memory). z .memory .threads) e, ap (λ (z : Left Answered Memory). z .memory .cpus) e))) ((are .0, (are .1 .0, tt))) (id⊢ 𝓤 (emp 𝓤))
           (λ νs. cited 𝓤 H (tripleOf 𝓤 H A fn-command-obey-schedule-on.signature (fn-command-obey-schedule-on.spec 𝓤 H A (𝓜 .mem) (𝓡 .run))) 𝓜 𝓡 code.env fn-command-obey-schedule-on-def.name fn-command-obey-schedule-on-def.routine code.calls-command·obey·schedule-on (fn-command-obey-schedule-on-thm.met 𝓤 H 𝓜 𝓖 𝓡) (((νs .0 .0 ∷ [], (νs .1 .0 .0 ∷ [], (νs .1 .1 .0 .0 ∷ [], tt))), (fullShare, (fullShare, (fullShare, tt))), tt, (lent-as b o (νs .0 .1) ys, (lent-as b′ o′ (νs .1 .0 .1) ys′, (lent-as b″ o″ (νs .1 .1 .0 .1) ys″, (a .0, (a .1 .0, tt))))), (slice-of b o ys ∷ [], (slice-of b′ o′ ys′ ∷ [], (slice-of b″ o″ ys″ ∷ [], spell (State° ∷ Call° ∷ []) ((a .0, (a .1 .0, tt))))))), tt))
           (λ k. and-then ! (load ! (from ! (stop !)) (look ! 68 refl)) (and-then ! (load ! (from ! (stop !)) (look ! 64 refl)) (and-then ! (load ! (from ! (stop !)) (look ! 60 refl)) (and-then ! (load ! (from ! (stop !)) (look ! 102 refl)) (and-then ! (load ! (from ! (stop !)) (look ! 100 refl)) (no-more !)))))) (λ r₂₅ ws₂₆ is₂₇ ls₂₈ e₂₉.
           split ! $
@@ -537,18 +494,18 @@ module _ {M : Type 1} (𝓤 : URA M) (H : Heap 𝓤) (𝓜 : Model 𝓤 H) (𝓖
           rewrite ! 2 (λ (us : List Thread). ‵ (row Thread·.the-row fullShare us b o)) (e₂₉ .1 .0) refl $
           rewrite ! 1 (λ (us : List (List ℕ)). ‵ (row (Array u64 96) fullShare us b′ o′)) (e₂₉ .1 .1) refl $
           told ! Answered° (e₂₉ .0) is₂₇ (λ is₃₀.
-          land ! (from ! (stop !)) (init ! 112 refl (Answered° .typed 𝓤 H A W (V₁₀) (is₃₀) .0)) $
+          land ! (from ! (stop !)) (init ! 112 refl (Answered° .typed 𝓤 H A W (V₇ .answer) (is₃₀) .0)) $
           move ! (0 ∷ 5 ∷ []) $
           closed ! tt (Array u64 32) ys″ (ys″) b″ o″ room″ (sym refl) $
           move ! (2 ∷ 5 ∷ []) $
-          closed ! tt (Array u64 96) ys′ (V₁₂) b′ o′ room′ (sym ((refl ∙ sym (subst (λ (us : List (List ℕ)). length us ≡ length ys′) (e₂₉ .1 .1) (ls₂₈ .1 .0))))) $
+          closed ! tt (Array u64 96) ys′ (V₇ .memory .cpus) b′ o′ room′ (sym ((refl ∙ sym (subst (λ (us : List (List ℕ)). length us ≡ length ys′) (e₂₉ .1 .1) (ls₂₈ .1 .0))))) $
           move ! (4 ∷ 5 ∷ []) $
-          closed ! tt Thread·.the-row ys (V₁₁) b o room (sym ((refl ∙ sym (subst (λ (us : List Thread). length us ≡ length ys) (e₂₉ .1 .0) (ls₂₈ .0))))) $
+          closed ! tt Thread·.the-row ys (V₇ .memory .threads) b o room (sym ((refl ∙ sym (subst (λ (us : List Thread). length us ≡ length ys) (e₂₉ .1 .0) (ls₂₈ .0))))) $
           returns-within ! Post refl (look ! 112 refl) $
           move ! (112 ∷ 113 ∷ 110 ∷ 111 ∷ 108 ∷ 109 ∷ 106 ∷ 107 ∷ 104 ∷ 105 ∷ 102 ∷ 103 ∷ 100 ∷ 101 ∷ 98 ∷ 99 ∷ 96 ∷ 97 ∷ 94 ∷ 95 ∷ 92 ∷ 93 ∷ 90 ∷ 91 ∷ 88 ∷ 89 ∷ 86 ∷ 87 ∷ 84 ∷ 85 ∷ 82 ∷ 83 ∷ 80 ∷ 81 ∷ 78 ∷ 79 ∷ 76 ∷ 77 ∷ 74 ∷ 75 ∷ 72 ∷ 73 ∷ 70 ∷ 71 ∷ 68 ∷ 69 ∷ 66 ∷ 67 ∷ 64 ∷ 65 ∷ 62 ∷ 63 ∷ 60 ∷ 61 ∷ 58 ∷ 59 ∷ 56 ∷ 57 ∷ 54 ∷ 55 ∷ 52 ∷ 53 ∷ 50 ∷ 51 ∷ 48 ∷ 49 ∷ 46 ∷ 47 ∷ 44 ∷ 45 ∷ 42 ∷ 43 ∷ 40 ∷ 41 ∷ 38 ∷ 39 ∷ 36 ∷ 37 ∷ 34 ∷ 35 ∷ 32 ∷ 33 ∷ 30 ∷ 31 ∷ 28 ∷ 29 ∷ 26 ∷ 27 ∷ 24 ∷ 25 ∷ 22 ∷ 23 ∷ 20 ∷ 21 ∷ 18 ∷ 19 ∷ 16 ∷ 17 ∷ 14 ∷ 15 ∷ 12 ∷ 13 ∷ 10 ∷ 11 ∷ 8 ∷ 9 ∷ 6 ∷ 7 ∷ []) $
           all-freed ! mir.locals (l₀ ∷ l₁ ∷ l₂ ∷ l₃ ∷ l₄ ∷ l₅ ∷ l₆ ∷ l₇ ∷ l₈ ∷ l₉ ∷ l₁₀ ∷ l₁₁ ∷ l₁₂ ∷ l₁₃ ∷ l₁₄ ∷ l₁₅ ∷ l₁₆ ∷ l₁₇ ∷ l₁₈ ∷ l₁₉ ∷ l₂₀ ∷ l₂₁ ∷ l₂₂ ∷ l₂₃ ∷ l₂₄ ∷ l₂₅ ∷ l₂₆ ∷ l₂₇ ∷ l₂₈ ∷ l₂₉ ∷ l₃₀ ∷ l₃₁ ∷ l₃₂ ∷ l₃₃ ∷ l₃₄ ∷ l₃₅ ∷ l₃₆ ∷ l₃₇ ∷ l₃₈ ∷ l₃₉ ∷ l₄₀ ∷ l₄₁ ∷ l₄₂ ∷ l₄₃ ∷ l₄₄ ∷ l₄₅ ∷ l₄₆ ∷ l₄₇ ∷ l₄₈ ∷ l₄₉ ∷ l₅₀ ∷ l₅₁ ∷ l₅₂ ∷ l₅₃ ∷ []) (full _ ∷ full _ ∷ full _ ∷ full _ ∷ full _ ∷ full _ ∷ full _ ∷ full _ ∷ bare ∷ bare ∷ bare ∷ bare ∷ bare ∷ bare ∷ bare ∷ bare ∷ bare ∷ bare ∷ bare ∷ bare ∷ full _ ∷ full _ ∷ full _ ∷ full _ ∷ full _ ∷ full _ ∷ bare ∷ bare ∷ bare ∷ bare ∷ bare ∷ bare ∷ bare ∷ bare ∷ bare ∷ bare ∷ bare ∷ bare ∷ bare ∷ bare ∷ bare ∷ bare ∷ bare ∷ bare ∷ bare ∷ bare ∷ bare ∷ bare ∷ bare ∷ bare ∷ bare ∷ bare ∷ bare ∷ bare ∷ []) tt $
-          suffices ! _ (ends-at 𝓤 H A obey.ended stayed c W y _ (V₁₀) (V₁₁, (V₁₂, (ys″, (tt, (tt, tt))))) (sym ((refl ∙ sym (subst (λ (us : List Thread). length us ≡ length ys) (e₂₉ .1 .0) (ls₂₈ .0)))), (sym ((refl ∙ sym (subst (λ (us : List (List ℕ)). length us ≡ length ys′) (e₂₉ .1 .1) (ls₂₈ .1 .0)))), (sym refl, (tt, (tt, tt)))))) $ says ! (by-after (record { outcome = V₁₀; threads = V₁₁; cpus = V₁₂; nodes = ys″ }) (obeyDef ys ys′ ys″ (a .0) (a .1 .0)) ((no (leb ((a .1 .0) .kind) (4)) h₁ _ (no (eqb ((a .1 .0) .kind) (16)) h₂ _ (no (eqb ((a .1 .0) .kind) (17)) h₃ _ (no (eqb ((a .1 .0) .kind) (18)) h₄ _ (yes (eqb ((a .1 .0) .kind) (19)) h₅ _ (refl)))))))) $
-          leaves3 ! Answered° Ds a (V₁₀) are (is₃₀))))
+          suffices ! _ (ends-at 𝓤 H A obey.ended stayed c W y _ (V₇ .answer) (V₇ .memory .threads, (V₇ .memory .cpus, (ys″, (tt, (tt, tt))))) (sym ((refl ∙ sym (subst (λ (us : List Thread). length us ≡ length ys) (e₂₉ .1 .0) (ls₂₈ .0)))), (sym ((refl ∙ sym (subst (λ (us : List (List ℕ)). length us ≡ length ys′) (e₂₉ .1 .1) (ls₂₈ .1 .0)))), (sym refl, (tt, (tt, tt)))))) $ says ! (so {X = Left Answered Lent} (record { answer = (V₇ .answer); memory = record { threads = (V₇ .memory .threads); cpus = (V₇ .memory .cpus); nodes = ys″ } }) (obeyDef (a .0) (a .1 .0) (record { threads = ys; cpus = ys′; nodes = ys″ })) ((no (leb ((a .1 .0) .kind) (4)) h₁ _ (no (eqb ((a .1 .0) .kind) (16)) h₂ _ (no (eqb ((a .1 .0) .kind) (17)) h₃ _ (no (eqb ((a .1 .0) .kind) (18)) h₄ _ (yes (eqb ((a .1 .0) .kind) (19)) h₅ _ (refl)))))))) $
+          leaves3 ! Answered° Ds a (V₇ .answer) are (is₃₀))))
           (λ h₅.
           assigns ! (bin ! (load ! (from ! (stop !)) (look ! 100 refl)) (lit ! tt) tt) (from ! (stop !)) (store ! 98 refl (tt, tt)) $
           guards ! (load ! (from ! (stop !)) (look ! 98 refl))
@@ -562,7 +519,7 @@ module _ {M : Type 1} (𝓤 : URA M) (H : Heap 𝓤) (𝓜 : Model 𝓤 H) (𝓖
           join ! $
           move ! (1 ∷ 0 ∷ []) $
           join ! $
-          call-slices Answered° (State° ∷ Call° ∷ []) ((a .0, (a .1 .0, tt))) (emp 𝓤) ((mutable Thread·.the-row ys b o n refl room) ∷ (mutable (Array u64 96) ys′ b′ o′ n′ refl room′) ∷ []) ! fm (λ r ws. (r ≡ V₁₃) × ((ws .0 ≡ V₁₄) × (ws .1 .0 ≡ V₁₅))) ((are .0, (are .1 .0, tt))) (id⊢ 𝓤 (emp 𝓤))
+          call-left Answered° (State° ∷ Call° ∷ []) ((a .0, (a .1 .0, tt))) (emp 𝓤) ((mutable Thread·.the-row ys b o n refl room) ∷ (mutable (Array u64 96) ys′ b′ o′ n′ refl room′) ∷ []) ! fm (λ r ws. (r ≡ (V₈ .answer)) × ((ws .0 ≡ (V₈ .memory .threads)) × (ws .1 .0 ≡ (V₈ .memory .cpus)))) (λ r ws. _≡_ {A = Left Answered Memory} (record { answer = r; memory = record { threads = ws .0; cpus = ws .1 .0 } }) V₈) (λ r ws e. (ap (λ (z : Left Answered Memory). z .answer) e, (ap (λ (z : Left Answered Memory). z .memory .threads) e, ap (λ (z : Left Answered Memory). z .memory .cpus) e))) ((are .0, (are .1 .0, tt))) (id⊢ 𝓤 (emp 𝓤))
           (λ νs. cited 𝓤 H (tripleOf 𝓤 H A fn-command-obey-hardtick.signature (fn-command-obey-hardtick.spec 𝓤 H A (𝓜 .mem) (𝓡 .run))) 𝓜 𝓡 code.env fn-command-obey-hardtick-def.name fn-command-obey-hardtick-def.routine code.calls-command·obey·hardtick (fn-command-obey-hardtick-thm.met 𝓤 H 𝓜 𝓖 𝓡) (((νs .0 .0 ∷ [], (νs .1 .0 .0 ∷ [], tt)), (fullShare, (fullShare, tt)), tt, (lent-as b o (νs .0 .1) ys, (lent-as b′ o′ (νs .1 .0 .1) ys′, (a .0, (a .1 .0, tt)))), (slice-of b o ys ∷ [], (slice-of b′ o′ ys′ ∷ [], spell (State° ∷ Call° ∷ []) ((a .0, (a .1 .0, tt)))))), tt))
           (λ k. and-then ! (load ! (from ! (stop !)) (look ! 57 refl)) (and-then ! (load ! (from ! (stop !)) (look ! 53 refl)) (and-then ! (load ! (from ! (stop !)) (look ! 103 refl)) (and-then ! (load ! (from ! (stop !)) (look ! 101 refl)) (no-more !))))) (λ r₃₁ ws₃₂ is₃₃ ls₃₄ e₃₅.
           split ! $
@@ -573,18 +530,18 @@ module _ {M : Type 1} (𝓤 : URA M) (H : Heap 𝓤) (𝓜 : Model 𝓤 H) (𝓖
           rewrite ! 1 (λ (us : List Thread). ‵ (row Thread·.the-row fullShare us b o)) (e₃₅ .1 .0) refl $
           rewrite ! 0 (λ (us : List (List ℕ)). ‵ (row (Array u64 96) fullShare us b′ o′)) (e₃₅ .1 .1) refl $
           told ! Answered° (e₃₅ .0) is₃₃ (λ is₃₆.
-          land ! (from ! (stop !)) (init ! 112 refl (Answered° .typed 𝓤 H A W (V₁₃) (is₃₆) .0)) $
+          land ! (from ! (stop !)) (init ! 112 refl (Answered° .typed 𝓤 H A W (V₈ .answer) (is₃₆) .0)) $
           move ! (4 ∷ 5 ∷ []) $
           closed ! tt (Array u64 32) ys″ (ys″) b″ o″ room″ (sym refl) $
           move ! (2 ∷ 5 ∷ []) $
-          closed ! tt (Array u64 96) ys′ (V₁₅) b′ o′ room′ (sym ((refl ∙ sym (subst (λ (us : List (List ℕ)). length us ≡ length ys′) (e₃₅ .1 .1) (ls₃₄ .1 .0))))) $
+          closed ! tt (Array u64 96) ys′ (V₈ .memory .cpus) b′ o′ room′ (sym ((refl ∙ sym (subst (λ (us : List (List ℕ)). length us ≡ length ys′) (e₃₅ .1 .1) (ls₃₄ .1 .0))))) $
           move ! (4 ∷ 5 ∷ []) $
-          closed ! tt Thread·.the-row ys (V₁₄) b o room (sym ((refl ∙ sym (subst (λ (us : List Thread). length us ≡ length ys) (e₃₅ .1 .0) (ls₃₄ .0))))) $
+          closed ! tt Thread·.the-row ys (V₈ .memory .threads) b o room (sym ((refl ∙ sym (subst (λ (us : List Thread). length us ≡ length ys) (e₃₅ .1 .0) (ls₃₄ .0))))) $
           returns-within ! Post refl (look ! 112 refl) $
           move ! (112 ∷ 113 ∷ 110 ∷ 111 ∷ 108 ∷ 109 ∷ 106 ∷ 107 ∷ 104 ∷ 105 ∷ 102 ∷ 103 ∷ 100 ∷ 101 ∷ 98 ∷ 99 ∷ 96 ∷ 97 ∷ 94 ∷ 95 ∷ 92 ∷ 93 ∷ 90 ∷ 91 ∷ 88 ∷ 89 ∷ 86 ∷ 87 ∷ 84 ∷ 85 ∷ 82 ∷ 83 ∷ 80 ∷ 81 ∷ 78 ∷ 79 ∷ 76 ∷ 77 ∷ 74 ∷ 75 ∷ 72 ∷ 73 ∷ 70 ∷ 71 ∷ 68 ∷ 69 ∷ 66 ∷ 67 ∷ 64 ∷ 65 ∷ 62 ∷ 63 ∷ 60 ∷ 61 ∷ 58 ∷ 59 ∷ 56 ∷ 57 ∷ 54 ∷ 55 ∷ 52 ∷ 53 ∷ 50 ∷ 51 ∷ 48 ∷ 49 ∷ 46 ∷ 47 ∷ 44 ∷ 45 ∷ 42 ∷ 43 ∷ 40 ∷ 41 ∷ 38 ∷ 39 ∷ 36 ∷ 37 ∷ 34 ∷ 35 ∷ 32 ∷ 33 ∷ 30 ∷ 31 ∷ 28 ∷ 29 ∷ 26 ∷ 27 ∷ 24 ∷ 25 ∷ 22 ∷ 23 ∷ 20 ∷ 21 ∷ 18 ∷ 19 ∷ 16 ∷ 17 ∷ 14 ∷ 15 ∷ 12 ∷ 13 ∷ 10 ∷ 11 ∷ 8 ∷ 9 ∷ 6 ∷ 7 ∷ []) $
           all-freed ! mir.locals (l₀ ∷ l₁ ∷ l₂ ∷ l₃ ∷ l₄ ∷ l₅ ∷ l₆ ∷ l₇ ∷ l₈ ∷ l₉ ∷ l₁₀ ∷ l₁₁ ∷ l₁₂ ∷ l₁₃ ∷ l₁₄ ∷ l₁₅ ∷ l₁₆ ∷ l₁₇ ∷ l₁₈ ∷ l₁₉ ∷ l₂₀ ∷ l₂₁ ∷ l₂₂ ∷ l₂₃ ∷ l₂₄ ∷ l₂₅ ∷ l₂₆ ∷ l₂₇ ∷ l₂₈ ∷ l₂₉ ∷ l₃₀ ∷ l₃₁ ∷ l₃₂ ∷ l₃₃ ∷ l₃₄ ∷ l₃₅ ∷ l₃₆ ∷ l₃₇ ∷ l₃₈ ∷ l₃₉ ∷ l₄₀ ∷ l₄₁ ∷ l₄₂ ∷ l₄₃ ∷ l₄₄ ∷ l₄₅ ∷ l₄₆ ∷ l₄₇ ∷ l₄₈ ∷ l₄₉ ∷ l₅₀ ∷ l₅₁ ∷ l₅₂ ∷ l₅₃ ∷ []) (full _ ∷ full _ ∷ full _ ∷ full _ ∷ full _ ∷ full _ ∷ full _ ∷ full _ ∷ bare ∷ bare ∷ bare ∷ bare ∷ bare ∷ bare ∷ bare ∷ bare ∷ bare ∷ bare ∷ bare ∷ bare ∷ bare ∷ bare ∷ bare ∷ bare ∷ bare ∷ bare ∷ full _ ∷ full _ ∷ full _ ∷ full _ ∷ bare ∷ bare ∷ bare ∷ bare ∷ bare ∷ bare ∷ bare ∷ bare ∷ bare ∷ bare ∷ bare ∷ bare ∷ bare ∷ bare ∷ bare ∷ bare ∷ bare ∷ bare ∷ bare ∷ bare ∷ bare ∷ bare ∷ bare ∷ bare ∷ []) tt $
-          suffices ! _ (ends-at 𝓤 H A obey.ended stayed c W y _ (V₁₃) (V₁₄, (V₁₅, (ys″, (tt, (tt, tt))))) (sym ((refl ∙ sym (subst (λ (us : List Thread). length us ≡ length ys) (e₃₅ .1 .0) (ls₃₄ .0)))), (sym ((refl ∙ sym (subst (λ (us : List (List ℕ)). length us ≡ length ys′) (e₃₅ .1 .1) (ls₃₄ .1 .0)))), (sym refl, (tt, (tt, tt)))))) $ says ! (by-after (record { outcome = V₁₃; threads = V₁₄; cpus = V₁₅; nodes = ys″ }) (obeyDef ys ys′ ys″ (a .0) (a .1 .0)) ((no (leb ((a .1 .0) .kind) (4)) h₁ _ (no (eqb ((a .1 .0) .kind) (16)) h₂ _ (no (eqb ((a .1 .0) .kind) (17)) h₃ _ (no (eqb ((a .1 .0) .kind) (18)) h₄ _ (no (eqb ((a .1 .0) .kind) (19)) h₅ _ (yes (eqb ((a .1 .0) .kind) (20)) h₆ _ (refl))))))))) $
-          leaves3 ! Answered° Ds a (V₁₃) are (is₃₆))))
+          suffices ! _ (ends-at 𝓤 H A obey.ended stayed c W y _ (V₈ .answer) (V₈ .memory .threads, (V₈ .memory .cpus, (ys″, (tt, (tt, tt))))) (sym ((refl ∙ sym (subst (λ (us : List Thread). length us ≡ length ys) (e₃₅ .1 .0) (ls₃₄ .0)))), (sym ((refl ∙ sym (subst (λ (us : List (List ℕ)). length us ≡ length ys′) (e₃₅ .1 .1) (ls₃₄ .1 .0)))), (sym refl, (tt, (tt, tt)))))) $ says ! (so {X = Left Answered Lent} (record { answer = (V₈ .answer); memory = record { threads = (V₈ .memory .threads); cpus = (V₈ .memory .cpus); nodes = ys″ } }) (obeyDef (a .0) (a .1 .0) (record { threads = ys; cpus = ys′; nodes = ys″ })) ((no (leb ((a .1 .0) .kind) (4)) h₁ _ (no (eqb ((a .1 .0) .kind) (16)) h₂ _ (no (eqb ((a .1 .0) .kind) (17)) h₃ _ (no (eqb ((a .1 .0) .kind) (18)) h₄ _ (no (eqb ((a .1 .0) .kind) (19)) h₅ _ (yes (eqb ((a .1 .0) .kind) (20)) h₆ _ (refl))))))))) $
+          leaves3 ! Answered° Ds a (V₈ .answer) are (is₃₆))))
           (λ h₆.
           forget ! 98 refl $
           part-14 c₆ h₁ h₂ h₃ h₄ h₅ h₆)))
@@ -615,7 +572,7 @@ module _ {M : Type 1} (𝓤 : URA M) (H : Heap 𝓤) (𝓜 : Model 𝓤 H) (𝓖
         move ! (3 ∷ 0 ∷ []) $
         join ! $
         call-slices Answered° (State° ∷ Call° ∷ []) ((a .0, (a .1 .0, tt))) (emp 𝓤) ((mutable (Array u64 96) ys′ b′ o′ n′ refl room′) ∷ (mutable (Array u64 32) ys″ b″ o″ n″ refl room″) ∷ []) ! fm (λ r ws. (r ≡ V₁) × ((ws .0 ≡ V₂) × (ws .1 .0 ≡ V₃))) ((are .0, (are .1 .0, tt))) (id⊢ 𝓤 (emp 𝓤))
-        (λ νs. cited 𝓤 H (tripleOf 𝓤 H A fn-command-prepare-prepare.signature (fn-command-prepare-prepare.spec 𝓤 H A (𝓜 .mem) (𝓡 .run))) 𝓜 𝓡 code.env fn-command-prepare-prepare-def.name fn-command-prepare-prepare-def.routine code.calls-command·prepare·prepare (fn-command-prepare-prepare-thm.met 𝓤 H 𝓜 𝓖 𝓡) (((νs .0 .0 ∷ [], (νs .1 .0 .0 ∷ [], tt)), (fullShare, (fullShare, tt)), tt, (lent-as b′ o′ (νs .0 .1) ys′, (lent-as b″ o″ (νs .1 .0 .1) ys″, (a .0, (a .1 .0, tt)))), (slice-of b′ o′ ys′ ∷ [], (slice-of b″ o″ ys″ ∷ [], spell (State° ∷ Call° ∷ []) ((a .0, (a .1 .0, tt)))))), tt))
+        (λ νs. cited 𝓤 H (tripleOf 𝓤 H A fn-outcome-prepare-prepare.signature (fn-outcome-prepare-prepare.spec 𝓤 H A (𝓜 .mem) (𝓡 .run))) 𝓜 𝓡 code.env fn-outcome-prepare-prepare-def.name fn-outcome-prepare-prepare-def.routine code.calls-outcome·prepare·prepare (fn-outcome-prepare-prepare-thm.met 𝓤 H 𝓜 𝓖 𝓡) (((νs .0 .0 ∷ [], (νs .1 .0 .0 ∷ [], tt)), (fullShare, (fullShare, tt)), tt, (lent-as b′ o′ (νs .0 .1) ys′, (lent-as b″ o″ (νs .1 .0 .1) ys″, (a .0, (a .1 .0, tt)))), (slice-of b′ o′ ys′ ∷ [], (slice-of b″ o″ ys″ ∷ [], spell (State° ∷ Call° ∷ []) ((a .0, (a .1 .0, tt)))))), tt))
         (λ k. and-then ! (load ! (from ! (stop !)) (look ! 93 refl)) (and-then ! (load ! (from ! (stop !)) (look ! 89 refl)) (and-then ! (load ! (from ! (stop !)) (look ! 103 refl)) (and-then ! (load ! (from ! (stop !)) (look ! 101 refl)) (no-more !))))) (λ r₁ ws₂ is₃ ls₄ e₅.
         split ! $
         move ! (1 ∷ []) $
@@ -635,7 +592,7 @@ module _ {M : Type 1} (𝓤 : URA M) (H : Heap 𝓤) (𝓜 : Model 𝓤 H) (𝓖
         returns-within ! Post refl (look ! 112 refl) $
         move ! (112 ∷ 113 ∷ 110 ∷ 111 ∷ 108 ∷ 109 ∷ 106 ∷ 107 ∷ 104 ∷ 105 ∷ 102 ∷ 103 ∷ 100 ∷ 101 ∷ 98 ∷ 99 ∷ 96 ∷ 97 ∷ 94 ∷ 95 ∷ 92 ∷ 93 ∷ 90 ∷ 91 ∷ 88 ∷ 89 ∷ 86 ∷ 87 ∷ 84 ∷ 85 ∷ 82 ∷ 83 ∷ 80 ∷ 81 ∷ 78 ∷ 79 ∷ 76 ∷ 77 ∷ 74 ∷ 75 ∷ 72 ∷ 73 ∷ 70 ∷ 71 ∷ 68 ∷ 69 ∷ 66 ∷ 67 ∷ 64 ∷ 65 ∷ 62 ∷ 63 ∷ 60 ∷ 61 ∷ 58 ∷ 59 ∷ 56 ∷ 57 ∷ 54 ∷ 55 ∷ 52 ∷ 53 ∷ 50 ∷ 51 ∷ 48 ∷ 49 ∷ 46 ∷ 47 ∷ 44 ∷ 45 ∷ 42 ∷ 43 ∷ 40 ∷ 41 ∷ 38 ∷ 39 ∷ 36 ∷ 37 ∷ 34 ∷ 35 ∷ 32 ∷ 33 ∷ 30 ∷ 31 ∷ 28 ∷ 29 ∷ 26 ∷ 27 ∷ 24 ∷ 25 ∷ 22 ∷ 23 ∷ 20 ∷ 21 ∷ 18 ∷ 19 ∷ 16 ∷ 17 ∷ 14 ∷ 15 ∷ 12 ∷ 13 ∷ 10 ∷ 11 ∷ 8 ∷ 9 ∷ 6 ∷ 7 ∷ []) $
         all-freed ! mir.locals (l₀ ∷ l₁ ∷ l₂ ∷ l₃ ∷ l₄ ∷ l₅ ∷ l₆ ∷ l₇ ∷ l₈ ∷ l₉ ∷ l₁₀ ∷ l₁₁ ∷ l₁₂ ∷ l₁₃ ∷ l₁₄ ∷ l₁₅ ∷ l₁₆ ∷ l₁₇ ∷ l₁₈ ∷ l₁₉ ∷ l₂₀ ∷ l₂₁ ∷ l₂₂ ∷ l₂₃ ∷ l₂₄ ∷ l₂₅ ∷ l₂₆ ∷ l₂₇ ∷ l₂₈ ∷ l₂₉ ∷ l₃₀ ∷ l₃₁ ∷ l₃₂ ∷ l₃₃ ∷ l₃₄ ∷ l₃₅ ∷ l₃₆ ∷ l₃₇ ∷ l₃₈ ∷ l₃₉ ∷ l₄₀ ∷ l₄₁ ∷ l₄₂ ∷ l₄₃ ∷ l₄₄ ∷ l₄₅ ∷ l₄₆ ∷ l₄₇ ∷ l₄₈ ∷ l₄₉ ∷ l₅₀ ∷ l₅₁ ∷ l₅₂ ∷ l₅₃ ∷ []) (full _ ∷ full _ ∷ full _ ∷ full _ ∷ full _ ∷ full _ ∷ full _ ∷ full _ ∷ full _ ∷ full _ ∷ full _ ∷ full _ ∷ bare ∷ bare ∷ bare ∷ bare ∷ bare ∷ bare ∷ bare ∷ bare ∷ bare ∷ bare ∷ bare ∷ bare ∷ bare ∷ bare ∷ bare ∷ bare ∷ bare ∷ bare ∷ bare ∷ bare ∷ bare ∷ bare ∷ bare ∷ bare ∷ bare ∷ bare ∷ bare ∷ bare ∷ bare ∷ bare ∷ bare ∷ bare ∷ bare ∷ bare ∷ bare ∷ bare ∷ bare ∷ bare ∷ bare ∷ bare ∷ bare ∷ bare ∷ []) tt $
-        suffices ! _ (ends-at 𝓤 H A obey.ended stayed c W y _ (V₁) (ys, (V₂, (V₃, (tt, (tt, tt))))) (sym refl, (sym ((refl ∙ sym (subst (λ (us : List (List ℕ)). length us ≡ length ys′) (e₅ .1 .0) (ls₄ .0)))), (sym ((refl ∙ sym (subst (λ (us : List (List ℕ)). length us ≡ length ys″) (e₅ .1 .1) (ls₄ .1 .0)))), (tt, (tt, tt)))))) $ says ! (by-after (record { outcome = V₁; threads = ys; cpus = V₂; nodes = V₃ }) (obeyDef ys ys′ ys″ (a .0) (a .1 .0)) ((yes (leb ((a .1 .0) .kind) (4)) h₁ _ (refl)))) $
+        suffices ! _ (ends-at 𝓤 H A obey.ended stayed c W y _ (V₁) (ys, (V₂, (V₃, (tt, (tt, tt))))) (sym refl, (sym ((refl ∙ sym (subst (λ (us : List (List ℕ)). length us ≡ length ys′) (e₅ .1 .0) (ls₄ .0)))), (sym ((refl ∙ sym (subst (λ (us : List (List ℕ)). length us ≡ length ys″) (e₅ .1 .1) (ls₄ .1 .0)))), (tt, (tt, tt)))))) $ says ! (so {X = Left Answered Lent} (record { answer = V₁; memory = record { threads = ys; cpus = V₂; nodes = V₃ } }) (obeyDef (a .0) (a .1 .0) (record { threads = ys; cpus = ys′; nodes = ys″ })) ((yes (leb ((a .1 .0) .kind) (4)) h₁ _ (refl)))) $
         leaves3 ! Answered° Ds a (V₁) are (is₆))))
         (λ h₁.
         assigns ! (bin ! (load ! (from ! (stop !)) (look ! 100 refl)) (lit ! tt) tt) (from ! (stop !)) (store ! 98 refl (tt, tt)) $
@@ -646,7 +603,7 @@ module _ {M : Type 1} (𝓤 : URA M) (H : Heap 𝓤) (𝓜 : Model 𝓤 H) (𝓖
         nothing ! $
         move ! (1 ∷ 0 ∷ []) $
         join ! $
-        call-slices Answered° (State° ∷ Call° ∷ []) ((a .0, (a .1 .0, tt))) (emp 𝓤) ((mutable Thread·.the-row ys b o n refl room) ∷ []) ! fm (λ r ws. (r ≡ V₄) × (ws .0 ≡ V₅)) ((are .0, (are .1 .0, tt))) (id⊢ 𝓤 (emp 𝓤))
+        call-left Answered° (State° ∷ Call° ∷ []) ((a .0, (a .1 .0, tt))) (emp 𝓤) ((mutable Thread·.the-row ys b o n refl room) ∷ []) ! fm (λ r ws. (r ≡ (V₄ .answer)) × (ws .0 ≡ (V₄ .memory))) (λ r ws. _≡_ {A = Left Answered (List Thread)} (record { answer = r; memory = ws .0 }) V₄) (λ r ws e. (ap (λ (z : Left Answered (List Thread)). z .answer) e, ap (λ (z : Left Answered (List Thread)). z .memory) e)) ((are .0, (are .1 .0, tt))) (id⊢ 𝓤 (emp 𝓤))
         (λ νs. cited 𝓤 H (tripleOf 𝓤 H A fn-command-obey-declare-thread.signature (fn-command-obey-declare-thread.spec 𝓤 H A (𝓜 .mem) (𝓡 .run))) 𝓜 𝓡 code.env fn-command-obey-declare-thread-def.name fn-command-obey-declare-thread-def.routine code.calls-command·obey·declare-thread (fn-command-obey-declare-thread-thm.met 𝓤 H 𝓜 𝓖 𝓡) (((νs .0 .0 ∷ [], tt), (fullShare, tt), tt, (lent-as b o (νs .0 .1) ys, (a .0, (a .1 .0, tt))), (slice-of b o ys ∷ [], spell (State° ∷ Call° ∷ []) ((a .0, (a .1 .0, tt))))), tt))
         (λ k. and-then ! (load ! (from ! (stop !)) (look ! 86 refl)) (and-then ! (load ! (from ! (stop !)) (look ! 104 refl)) (and-then ! (load ! (from ! (stop !)) (look ! 102 refl)) (no-more !)))) (λ r₇ ws₈ is₉ ls₁₀ e₁₁.
         split ! $
@@ -654,29 +611,29 @@ module _ {M : Type 1} (𝓤 : URA M) (H : Heap 𝓤) (𝓜 : Model 𝓤 H) (𝓖
         drop ! $
         rewrite ! 0 (λ (us : List Thread). ‵ (row Thread·.the-row fullShare us b o)) (e₁₁ .1) refl $
         told ! Answered° (e₁₁ .0) is₉ (λ is₁₂.
-        land ! (from ! (stop !)) (init ! 112 refl (Answered° .typed 𝓤 H A W (V₄) (is₁₂) .0)) $
+        land ! (from ! (stop !)) (init ! 112 refl (Answered° .typed 𝓤 H A W (V₄ .answer) (is₁₂) .0)) $
         move ! (4 ∷ 5 ∷ []) $
         closed ! tt (Array u64 32) ys″ (ys″) b″ o″ room″ (sym refl) $
         move ! (4 ∷ 5 ∷ []) $
         closed ! tt (Array u64 96) ys′ (ys′) b′ o′ room′ (sym refl) $
         move ! (4 ∷ 5 ∷ []) $
-        closed ! tt Thread·.the-row ys (V₅) b o room (sym ((refl ∙ sym (subst (λ (us : List Thread). length us ≡ length ys) (e₁₁ .1) (ls₁₀ .0))))) $
+        closed ! tt Thread·.the-row ys (V₄ .memory) b o room (sym ((refl ∙ sym (subst (λ (us : List Thread). length us ≡ length ys) (e₁₁ .1) (ls₁₀ .0))))) $
         returns-within ! Post refl (look ! 112 refl) $
         move ! (112 ∷ 113 ∷ 110 ∷ 111 ∷ 108 ∷ 109 ∷ 106 ∷ 107 ∷ 104 ∷ 105 ∷ 102 ∷ 103 ∷ 100 ∷ 101 ∷ 98 ∷ 99 ∷ 96 ∷ 97 ∷ 94 ∷ 95 ∷ 92 ∷ 93 ∷ 90 ∷ 91 ∷ 88 ∷ 89 ∷ 86 ∷ 87 ∷ 84 ∷ 85 ∷ 82 ∷ 83 ∷ 80 ∷ 81 ∷ 78 ∷ 79 ∷ 76 ∷ 77 ∷ 74 ∷ 75 ∷ 72 ∷ 73 ∷ 70 ∷ 71 ∷ 68 ∷ 69 ∷ 66 ∷ 67 ∷ 64 ∷ 65 ∷ 62 ∷ 63 ∷ 60 ∷ 61 ∷ 58 ∷ 59 ∷ 56 ∷ 57 ∷ 54 ∷ 55 ∷ 52 ∷ 53 ∷ 50 ∷ 51 ∷ 48 ∷ 49 ∷ 46 ∷ 47 ∷ 44 ∷ 45 ∷ 42 ∷ 43 ∷ 40 ∷ 41 ∷ 38 ∷ 39 ∷ 36 ∷ 37 ∷ 34 ∷ 35 ∷ 32 ∷ 33 ∷ 30 ∷ 31 ∷ 28 ∷ 29 ∷ 26 ∷ 27 ∷ 24 ∷ 25 ∷ 22 ∷ 23 ∷ 20 ∷ 21 ∷ 18 ∷ 19 ∷ 16 ∷ 17 ∷ 14 ∷ 15 ∷ 12 ∷ 13 ∷ 10 ∷ 11 ∷ 8 ∷ 9 ∷ 6 ∷ 7 ∷ []) $
         all-freed ! mir.locals (l₀ ∷ l₁ ∷ l₂ ∷ l₃ ∷ l₄ ∷ l₅ ∷ l₆ ∷ l₇ ∷ l₈ ∷ l₉ ∷ l₁₀ ∷ l₁₁ ∷ l₁₂ ∷ l₁₃ ∷ l₁₄ ∷ l₁₅ ∷ l₁₆ ∷ l₁₇ ∷ l₁₈ ∷ l₁₉ ∷ l₂₀ ∷ l₂₁ ∷ l₂₂ ∷ l₂₃ ∷ l₂₄ ∷ l₂₅ ∷ l₂₆ ∷ l₂₇ ∷ l₂₈ ∷ l₂₉ ∷ l₃₀ ∷ l₃₁ ∷ l₃₂ ∷ l₃₃ ∷ l₃₄ ∷ l₃₅ ∷ l₃₆ ∷ l₃₇ ∷ l₃₈ ∷ l₃₉ ∷ l₄₀ ∷ l₄₁ ∷ l₄₂ ∷ l₄₃ ∷ l₄₄ ∷ l₄₅ ∷ l₄₆ ∷ l₄₇ ∷ l₄₈ ∷ l₄₉ ∷ l₅₀ ∷ l₅₁ ∷ l₅₂ ∷ l₅₃ ∷ []) (full _ ∷ full _ ∷ full _ ∷ full _ ∷ full _ ∷ full _ ∷ full _ ∷ full _ ∷ bare ∷ bare ∷ bare ∷ bare ∷ full _ ∷ full _ ∷ bare ∷ bare ∷ bare ∷ bare ∷ bare ∷ bare ∷ bare ∷ bare ∷ bare ∷ bare ∷ bare ∷ bare ∷ bare ∷ bare ∷ bare ∷ bare ∷ bare ∷ bare ∷ bare ∷ bare ∷ bare ∷ bare ∷ bare ∷ bare ∷ bare ∷ bare ∷ bare ∷ bare ∷ bare ∷ bare ∷ bare ∷ bare ∷ bare ∷ bare ∷ bare ∷ bare ∷ bare ∷ bare ∷ bare ∷ bare ∷ []) tt $
-        suffices ! _ (ends-at 𝓤 H A obey.ended stayed c W y _ (V₄) (V₅, (ys′, (ys″, (tt, (tt, tt))))) (sym ((refl ∙ sym (subst (λ (us : List Thread). length us ≡ length ys) (e₁₁ .1) (ls₁₀ .0)))), (sym refl, (sym refl, (tt, (tt, tt)))))) $ says ! (by-after (record { outcome = V₄; threads = V₅; cpus = ys′; nodes = ys″ }) (obeyDef ys ys′ ys″ (a .0) (a .1 .0)) ((no (leb ((a .1 .0) .kind) (4)) h₁ _ (yes (eqb ((a .1 .0) .kind) (16)) h₂ _ (refl))))) $
-        leaves3 ! Answered° Ds a (V₄) are (is₁₂))))
+        suffices ! _ (ends-at 𝓤 H A obey.ended stayed c W y _ (V₄ .answer) (V₄ .memory, (ys′, (ys″, (tt, (tt, tt))))) (sym ((refl ∙ sym (subst (λ (us : List Thread). length us ≡ length ys) (e₁₁ .1) (ls₁₀ .0)))), (sym refl, (sym refl, (tt, (tt, tt)))))) $ says ! (so {X = Left Answered Lent} (record { answer = (V₄ .answer); memory = record { threads = (V₄ .memory); cpus = ys′; nodes = ys″ } }) (obeyDef (a .0) (a .1 .0) (record { threads = ys; cpus = ys′; nodes = ys″ })) ((no (leb ((a .1 .0) .kind) (4)) h₁ _ (yes (eqb ((a .1 .0) .kind) (16)) h₂ _ (refl))))) $
+        leaves3 ! Answered° Ds a (V₄ .answer) are (is₁₂))))
         (λ h₂.
         assigns ! (bin ! (load ! (from ! (stop !)) (look ! 100 refl)) (lit ! tt) tt) (from ! (stop !)) (store ! 98 refl (tt, tt)) $
         guards ! (load ! (from ! (stop !)) (look ! 98 refl))
         (λ h₃.
         nothing ! $
-        call-slices Answered° (State° ∷ Call° ∷ []) ((a .0, (a .1 .0, tt))) (emp 𝓤) ([]) ! fm (λ r ws. r ≡ V₆) ((are .0, (are .1 .0, tt))) (id⊢ 𝓤 (emp 𝓤))
+        call-slices Answered° (State° ∷ Call° ∷ []) ((a .0, (a .1 .0, tt))) (emp 𝓤) ([]) ! fm (λ r ws. r ≡ V₅) ((are .0, (are .1 .0, tt))) (id⊢ 𝓤 (emp 𝓤))
         (λ νs. cited 𝓤 H (tripleOf 𝓤 H A fn-command-obey-set-tick.signature (fn-command-obey-set-tick.spec 𝓤 H A (𝓜 .mem) (𝓡 .run))) 𝓜 𝓡 code.env fn-command-obey-set-tick-def.name fn-command-obey-set-tick-def.routine code.calls-command·obey·set-tick (fn-command-obey-set-tick-thm.met 𝓤 H 𝓜 𝓖 𝓡) ((tt, tt, tt, (a .0, (a .1 .0, tt)), spell (State° ∷ Call° ∷ []) ((a .0, (a .1 .0, tt)))), tt))
         (λ k. and-then ! (load ! (from ! (stop !)) (look ! 105 refl)) (and-then ! (load ! (from ! (stop !)) (look ! 103 refl)) (no-more !))) (λ r₁₃ ws₁₄ is₁₅ ls₁₆ e₁₇.
         drop ! $
         told ! Answered° (e₁₇) is₁₅ (λ is₁₈.
-        land ! (from ! (stop !)) (init ! 112 refl (Answered° .typed 𝓤 H A W (V₆) (is₁₈) .0)) $
+        land ! (from ! (stop !)) (init ! 112 refl (Answered° .typed 𝓤 H A W (V₅) (is₁₈) .0)) $
         move ! (4 ∷ 5 ∷ []) $
         closed ! tt (Array u64 32) ys″ (ys″) b″ o″ room″ (sym refl) $
         move ! (4 ∷ 5 ∷ []) $
@@ -686,8 +643,8 @@ module _ {M : Type 1} (𝓤 : URA M) (H : Heap 𝓤) (𝓜 : Model 𝓤 H) (𝓖
         returns-within ! Post refl (look ! 112 refl) $
         move ! (112 ∷ 113 ∷ 110 ∷ 111 ∷ 108 ∷ 109 ∷ 106 ∷ 107 ∷ 104 ∷ 105 ∷ 102 ∷ 103 ∷ 100 ∷ 101 ∷ 98 ∷ 99 ∷ 96 ∷ 97 ∷ 94 ∷ 95 ∷ 92 ∷ 93 ∷ 90 ∷ 91 ∷ 88 ∷ 89 ∷ 86 ∷ 87 ∷ 84 ∷ 85 ∷ 82 ∷ 83 ∷ 80 ∷ 81 ∷ 78 ∷ 79 ∷ 76 ∷ 77 ∷ 74 ∷ 75 ∷ 72 ∷ 73 ∷ 70 ∷ 71 ∷ 68 ∷ 69 ∷ 66 ∷ 67 ∷ 64 ∷ 65 ∷ 62 ∷ 63 ∷ 60 ∷ 61 ∷ 58 ∷ 59 ∷ 56 ∷ 57 ∷ 54 ∷ 55 ∷ 52 ∷ 53 ∷ 50 ∷ 51 ∷ 48 ∷ 49 ∷ 46 ∷ 47 ∷ 44 ∷ 45 ∷ 42 ∷ 43 ∷ 40 ∷ 41 ∷ 38 ∷ 39 ∷ 36 ∷ 37 ∷ 34 ∷ 35 ∷ 32 ∷ 33 ∷ 30 ∷ 31 ∷ 28 ∷ 29 ∷ 26 ∷ 27 ∷ 24 ∷ 25 ∷ 22 ∷ 23 ∷ 20 ∷ 21 ∷ 18 ∷ 19 ∷ 16 ∷ 17 ∷ 14 ∷ 15 ∷ 12 ∷ 13 ∷ 10 ∷ 11 ∷ 8 ∷ 9 ∷ 6 ∷ 7 ∷ []) $
         all-freed ! mir.locals (l₀ ∷ l₁ ∷ l₂ ∷ l₃ ∷ l₄ ∷ l₅ ∷ l₆ ∷ l₇ ∷ l₈ ∷ l₉ ∷ l₁₀ ∷ l₁₁ ∷ l₁₂ ∷ l₁₃ ∷ l₁₄ ∷ l₁₅ ∷ l₁₆ ∷ l₁₇ ∷ l₁₈ ∷ l₁₉ ∷ l₂₀ ∷ l₂₁ ∷ l₂₂ ∷ l₂₃ ∷ l₂₄ ∷ l₂₅ ∷ l₂₆ ∷ l₂₇ ∷ l₂₈ ∷ l₂₉ ∷ l₃₀ ∷ l₃₁ ∷ l₃₂ ∷ l₃₃ ∷ l₃₄ ∷ l₃₅ ∷ l₃₆ ∷ l₃₇ ∷ l₃₈ ∷ l₃₉ ∷ l₄₀ ∷ l₄₁ ∷ l₄₂ ∷ l₄₃ ∷ l₄₄ ∷ l₄₅ ∷ l₄₆ ∷ l₄₇ ∷ l₄₈ ∷ l₄₉ ∷ l₅₀ ∷ l₅₁ ∷ l₅₂ ∷ l₅₃ ∷ []) (full _ ∷ full _ ∷ full _ ∷ full _ ∷ full _ ∷ full _ ∷ full _ ∷ full _ ∷ bare ∷ bare ∷ bare ∷ bare ∷ bare ∷ bare ∷ bare ∷ bare ∷ bare ∷ bare ∷ bare ∷ bare ∷ bare ∷ bare ∷ bare ∷ bare ∷ bare ∷ bare ∷ bare ∷ bare ∷ bare ∷ bare ∷ bare ∷ bare ∷ bare ∷ bare ∷ bare ∷ bare ∷ bare ∷ bare ∷ bare ∷ bare ∷ bare ∷ bare ∷ bare ∷ bare ∷ bare ∷ bare ∷ bare ∷ bare ∷ bare ∷ bare ∷ bare ∷ bare ∷ bare ∷ bare ∷ []) tt $
-        suffices ! _ (ends-at 𝓤 H A obey.ended stayed c W y _ (V₆) (ys, (ys′, (ys″, (tt, (tt, tt))))) (sym refl, (sym refl, (sym refl, (tt, (tt, tt)))))) $ says ! (by-after (record { outcome = V₆; threads = ys; cpus = ys′; nodes = ys″ }) (obeyDef ys ys′ ys″ (a .0) (a .1 .0)) ((no (leb ((a .1 .0) .kind) (4)) h₁ _ (no (eqb ((a .1 .0) .kind) (16)) h₂ _ (yes (eqb ((a .1 .0) .kind) (17)) h₃ _ (refl)))))) $
-        leaves3 ! Answered° Ds a (V₆) are (is₁₈))))
+        suffices ! _ (ends-at 𝓤 H A obey.ended stayed c W y _ (V₅) (ys, (ys′, (ys″, (tt, (tt, tt))))) (sym refl, (sym refl, (sym refl, (tt, (tt, tt)))))) $ says ! (so {X = Left Answered Lent} (record { answer = V₅; memory = record { threads = ys; cpus = ys′; nodes = ys″ } }) (obeyDef (a .0) (a .1 .0) (record { threads = ys; cpus = ys′; nodes = ys″ })) ((no (leb ((a .1 .0) .kind) (4)) h₁ _ (no (eqb ((a .1 .0) .kind) (16)) h₂ _ (yes (eqb ((a .1 .0) .kind) (17)) h₃ _ (refl)))))) $
+        leaves3 ! Answered° Ds a (V₅) are (is₁₈))))
         (λ h₃.
         forget ! 98 refl $
         part-8 l₀ l₁ l₂ l₃ l₄ l₅ l₆ l₇ l₈ l₉ l₁₀ l₁₁ l₁₂ l₁₃ l₁₄ l₁₅ l₁₆ l₁₇ l₁₈ l₁₉ l₂₀ l₂₁ l₂₂ l₂₃ l₂₄ l₂₅ l₂₆ l₂₇ l₂₈ l₂₉ l₃₀ l₃₁ l₃₂ l₃₃ l₃₄ l₃₅ l₃₆ l₃₇ l₃₈ l₃₉ l₄₀ l₄₁ l₄₂ l₄₃ l₄₄ l₄₅ l₄₆ l₄₇ l₄₈ l₄₉ l₅₀ l₅₁ l₅₂ l₅₃ (LL.owed Call·.the-type Call·laws.the-laws (a .1 .0) _ (are .1 .0) .0) h₁ h₂ h₃)))))))))))))))))))))))))))))))))))))))))))))))))))))))))

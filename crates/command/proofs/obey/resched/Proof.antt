@@ -33,26 +33,27 @@ use denote.Triple.Clauses.{Clauses}
 use denote.Triple.Walked.{says, Stays, stay-none, stay-slice, stay-none-slice, walkOf, goes-none, goes-slice, goes-none-slice, ends-at}
 use denote.Exit.{yes as kept-yes}
 use Rattle.lent.proofs.Walk.{Datum, number, nil, struct, Dens, AreD, listed, spell, lent-as, slice-of, kept, opened, closed, full, told, proved}
-use Rattle.lent.proofs.Lent.{mutable, shared, passed, call-slices, all-freed, begins2, leaves2}
-use Rattle.sched.specs.Ticks.{scheduleResched}
-use Rattle.command.specs.Answer.{ran}
+use Rattle.lent.proofs.Lent.{mutable, shared, passed, call-slices, call-left, all-freed, so, begins2, leaves2}
 use Rattle.command.specs.Command.{reschedDef}
+use Rattle.lent.specs.Left.{Left}
+use Rattle.outcome.specs.Answer.{ran}
+use Rattle.sched_ticks.specs.Ticks.{scheduleResched}
 use denote.Struct.Laws as LL
-use Rattle.command.specs.declared.answer.Answered.{Answered}
-use Rattle.command.proofs.answer.Answered as Answered·
-use Rattle.command.proofs.answer.Answered.Laws as Answered·laws
-use Rattle.command.specs.declared.call.Call.{Call}
-use Rattle.command.proofs.call.Call as Call·
-use Rattle.command.proofs.call.Call.Laws as Call·laws
+use Rattle.outcome.specs.declared.answer.Answered.{Answered}
+use Rattle.outcome.proofs.answer.Answered as Answered·
+use Rattle.outcome.proofs.answer.Answered.Laws as Answered·laws
+use Rattle.outcome.specs.declared.call.Call.{Call}
+use Rattle.outcome.proofs.call.Call as Call·
+use Rattle.outcome.proofs.call.Call.Laws as Call·laws
 use Rattle.questions.specs.declared.state.State.{State}
 use Rattle.questions.proofs.state.State as State·
 use Rattle.questions.proofs.state.State.Laws as State·laws
 use Rattle.thread.specs.declared.Thread.{Thread}
 use Rattle.thread.proofs.Thread as Thread·
 use Rattle.thread.proofs.Thread.Laws as Thread·laws
-use Rattle.sched.proofs.ticks.schedule_resched as fn-sched-ticks-schedule-resched
-use Rattle.sched.proofs.ticks.schedule_resched.Symbol as fn-sched-ticks-schedule-resched-def
-use Rattle.sched.proofs.ticks.schedule_resched.Met as fn-sched-ticks-schedule-resched-thm
+use Rattle.sched_ticks.proofs.ticks.schedule_resched as fn-sched-ticks-ticks-schedule-resched
+use Rattle.sched_ticks.proofs.ticks.schedule_resched.Symbol as fn-sched-ticks-ticks-schedule-resched-def
+use Rattle.sched_ticks.proofs.ticks.schedule_resched.Met as fn-sched-ticks-ticks-schedule-resched-thm
 use Rattle.command.proofs.obey.ran_on as fn-command-obey-ran-on
 use Rattle.command.proofs.obey.ran_on.Symbol as fn-command-obey-ran-on-def
 use Rattle.command.proofs.obey.ran_on.Met as fn-command-obey-ran-on-thm
@@ -116,10 +117,10 @@ module _ {M : Type 1} (𝓤 : URA M) (H : Heap 𝓤) (𝓜 : Model 𝓤 H) (𝓖
     Post = walkOf 𝓤 H A resched.ended stayed c .post y
 
     abbrev V₁ : List (List ℕ)
-    V₁ = scheduleResched ys ys′ ((a .1 .0) .cpu)
+    V₁ = scheduleResched ((a .1 .0) .cpu) ys ys′
 
     abbrev V₂ : Answered
-    V₂ = ran V₁ (a .0) ((a .1 .0) .cpu) 0 ((a .1 .0) .used)
+    V₂ = ran (V₁) (a .0) ((a .1 .0) .cpu) 0 ((a .1 .0) .used)
 
     walk : ent 𝓤 (onEntry 𝓤 H A resched.signature (κ, (κ′, tt)) (q, (q′, tt)) ((lent-as b o γ ys, (lent-as b′ o′ γ′ ys′, a))) ((s ∷ [], (s′ ∷ [], spell Ds a)))) (WpFn 𝓤 H C Λ code.function (s ∷ s′ ∷ listed Ds a) Post)
     unfolding reschedDef
@@ -139,8 +140,8 @@ module _ {M : Type 1} (𝓤 : URA M) (H : Heap 𝓤) (𝓜 : Model 𝓤 H) (𝓖
         move ! (1 ∷ 2 ∷ []) $
         join ! $
         join ! $
-        call-slices nil (number w64 ∷ []) (((a .1 .0) .cpu, tt)) (emp 𝓤) ((passed Thread·.the-row ys b o κ q γ) ∷ (mutable (Array u64 96) ys′ b′ o′ n′ refl room′) ∷ []) ! fm (λ r ws. ws .1 .0 ≡ V₁) ((LL.owed Call·.the-type Call·laws.the-laws (a .1 .0) _ (are .1 .0) .1 .0, tt)) (id⊢ 𝓤 (emp 𝓤))
-        (λ νs. cited 𝓤 H (tripleOf 𝓤 H A fn-sched-ticks-schedule-resched.signature (fn-sched-ticks-schedule-resched.spec 𝓤 H A (𝓜 .mem) (𝓡 .run))) 𝓜 𝓡 code.env fn-sched-ticks-schedule-resched-def.name fn-sched-ticks-schedule-resched-def.routine code.calls-sched·ticks·schedule-resched (fn-sched-ticks-schedule-resched-thm.met 𝓤 H 𝓜 𝓖 𝓡) (((κ, (νs .1 .0 .0 ∷ [], tt)), (q, (fullShare, tt)), tt, (lent-as b o γ ys, (lent-as b′ o′ (νs .1 .0 .1) ys′, ((a .1 .0) .cpu, tt))), (slice-of b o ys ∷ [], (slice-of b′ o′ ys′ ∷ [], spell (number w64 ∷ []) (((a .1 .0) .cpu, tt))))), tt))
+        call-left nil (number w64 ∷ []) (((a .1 .0) .cpu, tt)) (emp 𝓤) ((passed Thread·.the-row ys b o κ q γ) ∷ (mutable (Array u64 96) ys′ b′ o′ n′ refl room′) ∷ []) ! fm (λ r ws. ws .1 .0 ≡ (V₁)) (λ r ws. _≡_ {A = List (List ℕ)} (ws .1 .0) V₁) (λ r ws e. e) ((LL.owed Call·.the-type Call·laws.the-laws (a .1 .0) _ (are .1 .0) .1 .0, tt)) (id⊢ 𝓤 (emp 𝓤))
+        (λ νs. cited 𝓤 H (tripleOf 𝓤 H A fn-sched-ticks-ticks-schedule-resched.signature (fn-sched-ticks-ticks-schedule-resched.spec 𝓤 H A (𝓜 .mem) (𝓡 .run))) 𝓜 𝓡 code.env fn-sched-ticks-ticks-schedule-resched-def.name fn-sched-ticks-ticks-schedule-resched-def.routine code.calls-sched-ticks·ticks·schedule-resched (fn-sched-ticks-ticks-schedule-resched-thm.met 𝓤 H 𝓜 𝓖 𝓡) (((κ, (νs .1 .0 .0 ∷ [], tt)), (q, (fullShare, tt)), tt, (lent-as b o γ ys, (lent-as b′ o′ (νs .1 .0 .1) ys′, ((a .1 .0) .cpu, tt))), (slice-of b o ys ∷ [], (slice-of b′ o′ ys′ ∷ [], spell (number w64 ∷ []) (((a .1 .0) .cpu, tt))))), tt))
         (λ k. and-then ! (load ! (from ! (stop !)) (look ! 20 refl)) (and-then ! (load ! (from ! (stop !)) (look ! 6 refl)) (and-then ! (load ! (from ! (stop !)) (look ! 12 refl)) (no-more !)))) (λ r₁ ws₂ is₃ ls₄ e₅.
         split ! $
         split ! $
@@ -155,8 +156,8 @@ module _ {M : Type 1} (𝓤 : URA M) (H : Heap 𝓤) (𝓜 : Model 𝓤 H) (𝓖
         nothing ! $
         move ! (1 ∷ 0 ∷ []) $
         join ! $
-        call-slices Answered° (State° ∷ Call° ∷ number w64 ∷ []) ((a .0, (a .1 .0, (0, tt)))) (emp 𝓤) ((shared (Array u64 96) V₁ b′ o′ n′ ((refl ∙ sym (subst (λ (us : List (List ℕ)). length us ≡ length ys′) (e₅) (ls₄ .1 .0)))) room′) ∷ []) ! fm (λ r ws. r ≡ V₂) ((are .0, (are .1 .0, ((refl, lit< tt), tt)))) (id⊢ 𝓤 (emp 𝓤))
-        (λ νs. cited 𝓤 H (tripleOf 𝓤 H A fn-command-obey-ran-on.signature (fn-command-obey-ran-on.spec 𝓤 H A (𝓜 .mem) (𝓡 .run))) 𝓜 𝓡 code.env fn-command-obey-ran-on-def.name fn-command-obey-ran-on-def.routine code.calls-command·obey·ran-on (fn-command-obey-ran-on-thm.met 𝓤 H 𝓜 𝓖 𝓡) (((νs .0 .0 ∷ [], tt), (fullShare, tt), tt, (lent-as b′ o′ (νs .0 .1) V₁, (a .0, (a .1 .0, (0, tt)))), (slice-of b′ o′ V₁ ∷ [], spell (State° ∷ Call° ∷ number w64 ∷ []) ((a .0, (a .1 .0, (0, tt)))))), tt))
+        call-slices Answered° (State° ∷ Call° ∷ number w64 ∷ []) ((a .0, (a .1 .0, (0, tt)))) (emp 𝓤) ((shared (Array u64 96) (V₁) b′ o′ n′ ((refl ∙ sym (subst (λ (us : List (List ℕ)). length us ≡ length ys′) (e₅) (ls₄ .1 .0)))) room′) ∷ []) ! fm (λ r ws. r ≡ V₂) ((are .0, (are .1 .0, ((refl, lit< tt), tt)))) (id⊢ 𝓤 (emp 𝓤))
+        (λ νs. cited 𝓤 H (tripleOf 𝓤 H A fn-command-obey-ran-on.signature (fn-command-obey-ran-on.spec 𝓤 H A (𝓜 .mem) (𝓡 .run))) 𝓜 𝓡 code.env fn-command-obey-ran-on-def.name fn-command-obey-ran-on-def.routine code.calls-command·obey·ran-on (fn-command-obey-ran-on-thm.met 𝓤 H 𝓜 𝓖 𝓡) (((νs .0 .0 ∷ [], tt), (fullShare, tt), tt, (lent-as b′ o′ (νs .0 .1) (V₁), (a .0, (a .1 .0, (0, tt)))), (slice-of b′ o′ (V₁) ∷ [], spell (State° ∷ Call° ∷ number w64 ∷ []) ((a .0, (a .1 .0, (0, tt)))))), tt))
         (λ k. and-then ! (load ! (from ! (stop !)) (look ! 4 refl)) (and-then ! (load ! (from ! (stop !)) (look ! 18 refl)) (and-then ! (load ! (from ! (stop !)) (look ! 16 refl)) (and-then ! (lit ! tt) (no-more !))))) (λ r₆ ws₇ is₈ ls₉ e₁₀.
         split ! $
         move ! (1 ∷ []) $
@@ -169,7 +170,7 @@ module _ {M : Type 1} (𝓤 : URA M) (H : Heap 𝓤) (𝓜 : Model 𝓤 H) (𝓖
         returns ! (look ! 24 refl) $
         move ! (24 ∷ 25 ∷ 22 ∷ 23 ∷ 20 ∷ 21 ∷ 18 ∷ 19 ∷ 16 ∷ 17 ∷ 14 ∷ 15 ∷ 12 ∷ 13 ∷ 10 ∷ 11 ∷ 8 ∷ 9 ∷ 6 ∷ 7 ∷ 4 ∷ 5 ∷ []) $
         all-freed ! mir.locals (l₀ ∷ l₁ ∷ l₂ ∷ l₃ ∷ l₄ ∷ l₅ ∷ l₆ ∷ l₇ ∷ l₈ ∷ l₉ ∷ l₁₀ ∷ []) (full _ ∷ full _ ∷ full _ ∷ full _ ∷ full _ ∷ full _ ∷ full _ ∷ full _ ∷ full _ ∷ full _ ∷ full _ ∷ []) tt $
-        suffices ! _ (ends-at 𝓤 H A resched.ended stayed c W y _ (V₂) (tt, (V₁, (tt, (tt, tt)))) (tt, (sym ((refl ∙ sym (subst (λ (us : List (List ℕ)). length us ≡ length ys′) (e₅) (ls₄ .1 .0)))), (tt, (tt, tt))))) $ says ! (refl, refl) $
+        suffices ! _ (ends-at 𝓤 H A resched.ended stayed c W y _ (V₂) (tt, (V₁, (tt, (tt, tt)))) (tt, (sym ((refl ∙ sym (subst (λ (us : List (List ℕ)). length us ≡ length ys′) (e₅) (ls₄ .1 .0)))), (tt, (tt, tt))))) $ says ! (so {X = Left Answered (List (List ℕ))} (record { answer = V₂; memory = (V₁) }) (reschedDef (a .0) (a .1 .0) ys ys′) (refl)) $
         leaves2 ! Answered° Ds a (V₂) are (is₁₁)))))))))))))))
 
 pub resched-spec : {M : Type 1} → stated.statement M

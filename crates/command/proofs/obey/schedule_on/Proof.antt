@@ -1,5 +1,5 @@
 -- `command::obey::schedule_on` meets its contract: a walk of its MIR, written by tools/entrygen.py.
-use mathlib.Core.Path.{_≡_, refl, sym, subst, _∙_}
+use mathlib.Core.Path.{_≡_, refl, sym, ap, subst, _∙_}
 use Prim.Native.Nat.{ℕ}
 use mathlib.Core.List.{[], _∷_, List}
 use lib.ListN.{length}
@@ -33,36 +33,37 @@ use denote.Triple.Clauses.{Clauses}
 use denote.Triple.Walked.{says, Stays, stay-none, stay-slice, stay-none-slice, walkOf, goes-none, goes-slice, goes-none-slice, ends-at}
 use denote.Exit.{yes as kept-yes}
 use Rattle.lent.proofs.Walk.{Datum, number, struct, Dens, AreD, listed, spell, lent-as, slice-of, kept, opened, closed, full, told, proved}
-use Rattle.lent.proofs.Lent.{mutable, shared, passed, call-slices, all-freed, begins3, leaves3}
-use Rattle.sched.specs.Schedule.{scheduleDef}
-use Rattle.command.specs.Answer.{ran}
-use Rattle.command.specs.Call.{context-of, flags-in}
+use Rattle.lent.proofs.Lent.{mutable, shared, passed, call-slices, call-left, all-freed, so, begins3, leaves3}
 use Rattle.command.specs.Command.{scheduleCommand}
+use Rattle.lent.specs.Left.{Memory, Left}
+use Rattle.outcome.specs.Answer.{ran}
+use Rattle.outcome.specs.Call.{context-of, flags-in}
+use Rattle.sched.specs.Schedule.{scheduleDef}
 use denote.Struct.Laws as LL
-use Rattle.command.specs.declared.answer.Answered.{Answered}
-use Rattle.command.proofs.answer.Answered as Answered·
-use Rattle.command.proofs.answer.Answered.Laws as Answered·laws
-use Rattle.command.specs.declared.call.Call.{Call}
-use Rattle.command.proofs.call.Call as Call·
-use Rattle.command.proofs.call.Call.Laws as Call·laws
-use Rattle.sched.specs.declared.context.Context.{Context}
-use Rattle.sched.proofs.context.Context as Context·
-use Rattle.sched.proofs.context.Context.Laws as Context·laws
-use Rattle.sched.specs.declared.context.SchedFlags.{SchedFlags}
-use Rattle.sched.proofs.context.SchedFlags as SchedFlags·
-use Rattle.sched.proofs.context.SchedFlags.Laws as SchedFlags·laws
+use Rattle.outcome.specs.declared.answer.Answered.{Answered}
+use Rattle.outcome.proofs.answer.Answered as Answered·
+use Rattle.outcome.proofs.answer.Answered.Laws as Answered·laws
+use Rattle.outcome.specs.declared.call.Call.{Call}
+use Rattle.outcome.proofs.call.Call as Call·
+use Rattle.outcome.proofs.call.Call.Laws as Call·laws
+use Rattle.step.specs.declared.context.Context.{Context}
+use Rattle.step.proofs.context.Context as Context·
+use Rattle.step.proofs.context.Context.Laws as Context·laws
+use Rattle.step.specs.declared.context.SchedFlags.{SchedFlags}
+use Rattle.step.proofs.context.SchedFlags as SchedFlags·
+use Rattle.step.proofs.context.SchedFlags.Laws as SchedFlags·laws
 use Rattle.questions.specs.declared.state.State.{State}
 use Rattle.questions.proofs.state.State as State·
 use Rattle.questions.proofs.state.State.Laws as State·laws
 use Rattle.thread.specs.declared.Thread.{Thread}
 use Rattle.thread.proofs.Thread as Thread·
 use Rattle.thread.proofs.Thread.Laws as Thread·laws
-use Rattle.command.proofs.call.context_of as fn-command-call-context-of
-use Rattle.command.proofs.call.context_of.Symbol as fn-command-call-context-of-def
-use Rattle.command.proofs.call.context_of.Met as fn-command-call-context-of-thm
-use Rattle.command.proofs.call.flags_in as fn-command-call-flags-in
-use Rattle.command.proofs.call.flags_in.Symbol as fn-command-call-flags-in-def
-use Rattle.command.proofs.call.flags_in.Met as fn-command-call-flags-in-thm
+use Rattle.outcome.proofs.call.context_of as fn-outcome-call-context-of
+use Rattle.outcome.proofs.call.context_of.Symbol as fn-outcome-call-context-of-def
+use Rattle.outcome.proofs.call.context_of.Met as fn-outcome-call-context-of-thm
+use Rattle.outcome.proofs.call.flags_in as fn-outcome-call-flags-in
+use Rattle.outcome.proofs.call.flags_in.Symbol as fn-outcome-call-flags-in-def
+use Rattle.outcome.proofs.call.flags_in.Met as fn-outcome-call-flags-in-thm
 use Rattle.sched.proofs.schedule.schedule as fn-sched-schedule-schedule
 use Rattle.sched.proofs.schedule.schedule.Symbol as fn-sched-schedule-schedule-def
 use Rattle.sched.proofs.schedule.schedule.Met as fn-sched-schedule-schedule-thm
@@ -143,17 +144,11 @@ module _ {M : Type 1} (𝓤 : URA M) (H : Heap 𝓤) (𝓜 : Model 𝓤 H) (𝓖
     abbrev V₁ : Context
     V₁ = context-of (a .0) (a .1 .0)
 
-    abbrev V₂ : ℕ
-    V₂ = scheduleDef ys ys′ ys″ V₁ (flags-in (a .1 .0)) 0 .wakeups
+    abbrev V₂ : Left ℕ Memory
+    V₂ = scheduleDef V₁ (flags-in (a .1 .0)) 0 ys″ (record { threads = ys; cpus = ys′ })
 
-    abbrev V₃ : List Thread
-    V₃ = scheduleDef ys ys′ ys″ V₁ (flags-in (a .1 .0)) 0 .threads
-
-    abbrev V₄ : List (List ℕ)
-    V₄ = scheduleDef ys ys′ ys″ V₁ (flags-in (a .1 .0)) 0 .cpus
-
-    abbrev V₅ : Answered
-    V₅ = ran V₄ (a .0) ((a .1 .0) .cpu) V₂ ((a .1 .0) .used)
+    abbrev V₃ : Answered
+    V₃ = ran (V₂ .memory .cpus) (a .0) ((a .1 .0) .cpu) (V₂ .answer) ((a .1 .0) .used)
 
     walk : ent 𝓤 (onEntry 𝓤 H A schedule-on.signature (κ, (κ′, (κ″, tt))) (q, (q′, (q″, tt))) ((lent-as b o γ ys, (lent-as b′ o′ γ′ ys′, (lent-as b″ o″ γ″ ys″, a)))) ((s ∷ [], (s′ ∷ [], (s″ ∷ [], spell Ds a))))) (WpFn 𝓤 H C Λ code.function (s ∷ s′ ∷ s″ ∷ listed Ds a) Post)
     unfolding scheduleCommand
@@ -168,14 +163,14 @@ module _ {M : Type 1} (𝓤 : URA M) (H : Heap 𝓤) (𝓜 : Model 𝓤 H) (𝓖
         opened ! tt Thread·.the-row γ ys b o $
         nothing ! $
         call-slices Context° (State° ∷ Call° ∷ []) ((a .0, (a .1 .0, tt))) (emp 𝓤) ([]) ! fm (λ r ws. r ≡ V₁) ((are .0, (are .1 .0, tt))) (id⊢ 𝓤 (emp 𝓤))
-        (λ νs. cited 𝓤 H (tripleOf 𝓤 H A fn-command-call-context-of.signature (fn-command-call-context-of.spec 𝓤 H A (𝓜 .mem) (𝓡 .run))) 𝓜 𝓡 code.env fn-command-call-context-of-def.name fn-command-call-context-of-def.routine code.calls-command·call·context-of (fn-command-call-context-of-thm.met 𝓤 H 𝓜 𝓖 𝓡) ((tt, tt, tt, (a .0, (a .1 .0, tt)), spell (State° ∷ Call° ∷ []) ((a .0, (a .1 .0, tt)))), tt))
+        (λ νs. cited 𝓤 H (tripleOf 𝓤 H A fn-outcome-call-context-of.signature (fn-outcome-call-context-of.spec 𝓤 H A (𝓜 .mem) (𝓡 .run))) 𝓜 𝓡 code.env fn-outcome-call-context-of-def.name fn-outcome-call-context-of-def.routine code.calls-outcome·call·context-of (fn-outcome-call-context-of-thm.met 𝓤 H 𝓜 𝓖 𝓡) ((tt, tt, tt, (a .0, (a .1 .0, tt)), spell (State° ∷ Call° ∷ []) ((a .0, (a .1 .0, tt)))), tt))
         (λ k. and-then ! (load ! (from ! (stop !)) (look ! 27 refl)) (and-then ! (load ! (from ! (stop !)) (look ! 25 refl)) (no-more !))) (λ r₁ ws₂ is₃ ls₄ e₅.
         drop ! $
         told ! Context° (e₅) is₃ (λ is₆.
         land ! (from ! (stop !)) (init ! 22 refl (Context° .typed 𝓤 H A W (V₁) (is₆) .0)) $
         nothing ! $
         call-slices SchedFlags° (Call° ∷ []) ((a .1 .0, tt)) (emp 𝓤) ([]) ! fm (λ r ws. r ≡ (flags-in (a .1 .0))) ((are .1 .0, tt)) (id⊢ 𝓤 (emp 𝓤))
-        (λ νs. cited 𝓤 H (tripleOf 𝓤 H A fn-command-call-flags-in.signature (fn-command-call-flags-in.spec 𝓤 H A (𝓜 .mem) (𝓡 .run))) 𝓜 𝓡 code.env fn-command-call-flags-in-def.name fn-command-call-flags-in-def.routine code.calls-command·call·flags-in (fn-command-call-flags-in-thm.met 𝓤 H 𝓜 𝓖 𝓡) ((tt, tt, tt, (a .1 .0, tt), spell (Call° ∷ []) ((a .1 .0, tt))), tt))
+        (λ νs. cited 𝓤 H (tripleOf 𝓤 H A fn-outcome-call-flags-in.signature (fn-outcome-call-flags-in.spec 𝓤 H A (𝓜 .mem) (𝓡 .run))) 𝓜 𝓡 code.env fn-outcome-call-flags-in-def.name fn-outcome-call-flags-in-def.routine code.calls-outcome·call·flags-in (fn-outcome-call-flags-in-thm.met 𝓤 H 𝓜 𝓖 𝓡) ((tt, tt, tt, (a .1 .0, tt), spell (Call° ∷ []) ((a .1 .0, tt))), tt))
         (λ k. and-then ! (load ! (from ! (stop !)) (look ! 25 refl)) (no-more !)) (λ r₇ ws₈ is₉ ls₁₀ e₁₁.
         drop ! $
         told ! SchedFlags° (e₁₁) is₉ (λ is₁₂.
@@ -192,7 +187,7 @@ module _ {M : Type 1} (𝓤 : URA M) (H : Heap 𝓤) (𝓜 : Model 𝓤 H) (𝓖
         join ! $
         move ! (1 ∷ 0 ∷ []) $
         join ! $
-        call-slices (number w64) (Context° ∷ SchedFlags° ∷ number w64 ∷ []) ((V₁, (flags-in (a .1 .0), (0, tt)))) (emp 𝓤) ((mutable Thread·.the-row ys b o n refl room) ∷ (mutable (Array u64 96) ys′ b′ o′ n′ refl room′) ∷ (passed (Array u64 32) ys″ b″ o″ κ″ q″ γ″) ∷ []) ! fm (λ r ws. (r ≡ V₂) × ((ws .0 ≡ V₃) × (ws .1 .0 ≡ V₄))) ((is₆, (is₁₂, ((refl, lit< tt), tt)))) (id⊢ 𝓤 (emp 𝓤))
+        call-left (number w64) (Context° ∷ SchedFlags° ∷ number w64 ∷ []) ((V₁, (flags-in (a .1 .0), (0, tt)))) (emp 𝓤) ((mutable Thread·.the-row ys b o n refl room) ∷ (mutable (Array u64 96) ys′ b′ o′ n′ refl room′) ∷ (passed (Array u64 32) ys″ b″ o″ κ″ q″ γ″) ∷ []) ! fm (λ r ws. (r ≡ (V₂ .answer)) × ((ws .0 ≡ (V₂ .memory .threads)) × (ws .1 .0 ≡ (V₂ .memory .cpus)))) (λ r ws. _≡_ {A = Left ℕ Memory} (record { answer = r; memory = record { threads = ws .0; cpus = ws .1 .0 } }) V₂) (λ r ws e. (ap (λ (z : Left ℕ Memory). z .answer) e, (ap (λ (z : Left ℕ Memory). z .memory .threads) e, ap (λ (z : Left ℕ Memory). z .memory .cpus) e))) ((is₆, (is₁₂, ((refl, lit< tt), tt)))) (id⊢ 𝓤 (emp 𝓤))
         (λ νs. cited 𝓤 H (tripleOf 𝓤 H A fn-sched-schedule-schedule.signature (fn-sched-schedule-schedule.spec 𝓤 H A (𝓜 .mem) (𝓡 .run))) 𝓜 𝓡 code.env fn-sched-schedule-schedule-def.name fn-sched-schedule-schedule-def.routine code.calls-sched·schedule·schedule (fn-sched-schedule-schedule-thm.met 𝓤 H 𝓜 𝓖 𝓡) (((νs .0 .0 ∷ [], (νs .1 .0 .0 ∷ [], (κ″, tt))), (fullShare, (fullShare, (q″, tt))), tt, (lent-as b o (νs .0 .1) ys, (lent-as b′ o′ (νs .1 .0 .1) ys′, (lent-as b″ o″ γ″ ys″, (V₁, (flags-in (a .1 .0), (0, tt)))))), (slice-of b o ys ∷ [], (slice-of b′ o′ ys′ ∷ [], (slice-of b″ o″ ys″ ∷ [], spell (Context° ∷ SchedFlags° ∷ number w64 ∷ []) ((V₁, (flags-in (a .1 .0), (0, tt)))))))), tt))
         (λ k. and-then ! (load ! (from ! (stop !)) (look ! 11 refl)) (and-then ! (load ! (from ! (stop !)) (look ! 7 refl)) (and-then ! (load ! (from ! (stop !)) (look ! 25 refl)) (and-then ! (load ! (from ! (stop !)) (look ! 19 refl)) (and-then ! (load ! (from ! (stop !)) (look ! 17 refl)) (and-then ! (lit ! tt) (no-more !))))))) (λ r₁₃ ws₁₄ is₁₅ ls₁₆ e₁₇.
         split ! $
@@ -206,30 +201,30 @@ module _ {M : Type 1} (𝓤 : URA M) (H : Heap 𝓤) (𝓜 : Model 𝓤 H) (𝓖
         rewrite ! 3 (λ (us : List Thread). ‵ (row Thread·.the-row fullShare us b o)) (e₁₇ .1 .0) refl $
         rewrite ! 2 (λ (us : List (List ℕ)). ‵ (row (Array u64 96) fullShare us b′ o′)) (e₁₇ .1 .1) refl $
         told ! (number w64) (e₁₇ .0) is₁₅ (λ is₁₈.
-        land ! (from ! (stop !)) (init ! 18 refl ((number w64) .typed 𝓤 H A W (V₂) (is₁₈) .0)) $
+        land ! (from ! (stop !)) (init ! 18 refl ((number w64) .typed 𝓤 H A W (V₂ .answer) (is₁₈) .0)) $
         assigns ! (addr ! (from ! (fld ! refl (hop ! (look-in ! 30 (sub ! 0 refl (whole !))) (stop !))))) (from ! (stop !)) (init ! 8 refl (tt, tt)) $
         assigns ! (agg ! (and-then ! (load ! (from ! (stop !)) (look ! 8 refl)) (and-then ! (load ! (from ! (fld ! refl (stop !))) (look-in ! 30 (sub ! 1 refl (whole !)))) (no-more !)))) (from ! (stop !)) (init ! 6 refl (tt, (tt, (record { fits = room′ .0 }, tt)))) $
         nothing ! $
         move ! (3 ∷ 0 ∷ []) $
         join ! $
-        call-slices Answered° (State° ∷ Call° ∷ number w64 ∷ []) ((a .0, (a .1 .0, (V₂, tt)))) (emp 𝓤) ((shared (Array u64 96) V₄ b′ o′ n′ ((refl ∙ sym (subst (λ (us : List (List ℕ)). length us ≡ length ys′) (e₁₇ .1 .1) (ls₁₆ .1 .0)))) room′) ∷ []) ! fm (λ r ws. r ≡ V₅) ((are .0, (are .1 .0, (is₁₈, tt)))) (id⊢ 𝓤 (emp 𝓤))
-        (λ νs. cited 𝓤 H (tripleOf 𝓤 H A fn-command-obey-ran-on.signature (fn-command-obey-ran-on.spec 𝓤 H A (𝓜 .mem) (𝓡 .run))) 𝓜 𝓡 code.env fn-command-obey-ran-on-def.name fn-command-obey-ran-on-def.routine code.calls-command·obey·ran-on (fn-command-obey-ran-on-thm.met 𝓤 H 𝓜 𝓖 𝓡) (((νs .0 .0 ∷ [], tt), (fullShare, tt), tt, (lent-as b′ o′ (νs .0 .1) V₄, (a .0, (a .1 .0, (V₂, tt)))), (slice-of b′ o′ V₄ ∷ [], spell (State° ∷ Call° ∷ number w64 ∷ []) ((a .0, (a .1 .0, (V₂, tt)))))), tt))
+        call-slices Answered° (State° ∷ Call° ∷ number w64 ∷ []) ((a .0, (a .1 .0, (V₂ .answer, tt)))) (emp 𝓤) ((shared (Array u64 96) (V₂ .memory .cpus) b′ o′ n′ ((refl ∙ sym (subst (λ (us : List (List ℕ)). length us ≡ length ys′) (e₁₇ .1 .1) (ls₁₆ .1 .0)))) room′) ∷ []) ! fm (λ r ws. r ≡ V₃) ((are .0, (are .1 .0, (is₁₈, tt)))) (id⊢ 𝓤 (emp 𝓤))
+        (λ νs. cited 𝓤 H (tripleOf 𝓤 H A fn-command-obey-ran-on.signature (fn-command-obey-ran-on.spec 𝓤 H A (𝓜 .mem) (𝓡 .run))) 𝓜 𝓡 code.env fn-command-obey-ran-on-def.name fn-command-obey-ran-on-def.routine code.calls-command·obey·ran-on (fn-command-obey-ran-on-thm.met 𝓤 H 𝓜 𝓖 𝓡) (((νs .0 .0 ∷ [], tt), (fullShare, tt), tt, (lent-as b′ o′ (νs .0 .1) (V₂ .memory .cpus), (a .0, (a .1 .0, (V₂ .answer, tt)))), (slice-of b′ o′ (V₂ .memory .cpus) ∷ [], spell (State° ∷ Call° ∷ number w64 ∷ []) ((a .0, (a .1 .0, (V₂ .answer, tt)))))), tt))
         (λ k. and-then ! (load ! (from ! (stop !)) (look ! 6 refl)) (and-then ! (load ! (from ! (stop !)) (look ! 26 refl)) (and-then ! (load ! (from ! (stop !)) (look ! 24 refl)) (and-then ! (load ! (from ! (stop !)) (look ! 18 refl)) (no-more !))))) (λ r₁₉ ws₂₀ is₂₁ ls₂₂ e₂₃.
         split ! $
         move ! (1 ∷ []) $
         drop ! $
         told ! Answered° (e₂₃) is₂₁ (λ is₂₄.
-        land ! (from ! (stop !)) (init ! 34 refl (Answered° .typed 𝓤 H A W (V₅) (is₂₄) .0)) $
+        land ! (from ! (stop !)) (init ! 34 refl (Answered° .typed 𝓤 H A W (V₃) (is₂₄) .0)) $
         move ! (1 ∷ 2 ∷ []) $
         move ! (2 ∷ 5 ∷ []) $
-        closed ! tt (Array u64 96) ys′ (V₄) b′ o′ room′ (sym ((refl ∙ sym (subst (λ (us : List (List ℕ)). length us ≡ length ys′) (e₁₇ .1 .1) (ls₁₆ .1 .0))))) $
+        closed ! tt (Array u64 96) ys′ (V₂ .memory .cpus) b′ o′ room′ (sym ((refl ∙ sym (subst (λ (us : List (List ℕ)). length us ≡ length ys′) (e₁₇ .1 .1) (ls₁₆ .1 .0))))) $
         move ! (4 ∷ 5 ∷ []) $
-        closed ! tt Thread·.the-row ys (V₃) b o room (sym ((refl ∙ sym (subst (λ (us : List Thread). length us ≡ length ys) (e₁₇ .1 .0) (ls₁₆ .0))))) $
+        closed ! tt Thread·.the-row ys (V₂ .memory .threads) b o room (sym ((refl ∙ sym (subst (λ (us : List Thread). length us ≡ length ys) (e₁₇ .1 .0) (ls₁₆ .0))))) $
         returns ! (look ! 34 refl) $
         move ! (34 ∷ 35 ∷ 32 ∷ 33 ∷ 30 ∷ 31 ∷ 28 ∷ 29 ∷ 26 ∷ 27 ∷ 24 ∷ 25 ∷ 22 ∷ 23 ∷ 20 ∷ 21 ∷ 18 ∷ 19 ∷ 16 ∷ 17 ∷ 14 ∷ 15 ∷ 12 ∷ 13 ∷ 10 ∷ 11 ∷ 8 ∷ 9 ∷ 6 ∷ 7 ∷ []) $
         all-freed ! mir.locals (l₀ ∷ l₁ ∷ l₂ ∷ l₃ ∷ l₄ ∷ l₅ ∷ l₆ ∷ l₇ ∷ l₈ ∷ l₉ ∷ l₁₀ ∷ l₁₁ ∷ l₁₂ ∷ l₁₃ ∷ l₁₄ ∷ []) (full _ ∷ full _ ∷ full _ ∷ full _ ∷ full _ ∷ full _ ∷ full _ ∷ full _ ∷ full _ ∷ full _ ∷ full _ ∷ full _ ∷ full _ ∷ full _ ∷ full _ ∷ []) tt $
-        suffices ! _ (ends-at 𝓤 H A schedule-on.ended stayed c W y _ (V₅) (V₃, (V₄, (tt, (tt, (tt, tt))))) (sym ((refl ∙ sym (subst (λ (us : List Thread). length us ≡ length ys) (e₁₇ .1 .0) (ls₁₆ .0)))), (sym ((refl ∙ sym (subst (λ (us : List (List ℕ)). length us ≡ length ys′) (e₁₇ .1 .1) (ls₁₆ .1 .0)))), (tt, (tt, (tt, tt)))))) $ says ! (refl, (refl, refl)) $
-        leaves3 ! Answered° Ds a (V₅) are (is₂₄))))))))))))))))))))))))
+        suffices ! _ (ends-at 𝓤 H A schedule-on.ended stayed c W y _ (V₃) (V₂ .memory .threads, (V₂ .memory .cpus, (tt, (tt, (tt, tt))))) (sym ((refl ∙ sym (subst (λ (us : List Thread). length us ≡ length ys) (e₁₇ .1 .0) (ls₁₆ .0)))), (sym ((refl ∙ sym (subst (λ (us : List (List ℕ)). length us ≡ length ys′) (e₁₇ .1 .1) (ls₁₆ .1 .0)))), (tt, (tt, (tt, tt)))))) $ says ! (so {X = Left Answered Memory} (record { answer = V₃; memory = record { threads = (V₂ .memory .threads); cpus = (V₂ .memory .cpus) } }) (scheduleCommand (a .0) (a .1 .0) ys″ (record { threads = ys; cpus = ys′ })) (refl)) $
+        leaves3 ! Answered° Ds a (V₃) are (is₂₄))))))))))))))))))))))))
 
 pub schedule-on-spec : {M : Type 1} → stated.statement M
 unfolding code.routine

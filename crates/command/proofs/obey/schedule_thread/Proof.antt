@@ -1,5 +1,5 @@
 -- `command::obey::schedule_thread` meets its contract: a walk of its MIR, written by tools/entrygen.py.
-use mathlib.Core.Path.{_≡_, refl, sym, subst, _∙_}
+use mathlib.Core.Path.{_≡_, refl, sym, ap, subst, _∙_}
 use Prim.Native.Nat.{ℕ}
 use mathlib.Core.List.{[], _∷_, List}
 use lib.ListN.{length}
@@ -32,39 +32,40 @@ use denote.Triple.Clauses.{Clauses}
 use denote.Triple.Walked.{says, Stays, stay-none, stay-slice, stay-none-slice, walkOf, goes-none, goes-slice, goes-none-slice, ends-at}
 use denote.Exit.{yes as kept-yes}
 use Rattle.lent.proofs.Walk.{Datum, number, struct, Dens, AreD, listed, spell, lent-as, slice-of, kept, opened, closed, full, told, proved}
-use Rattle.lent.proofs.Lent.{mutable, shared, passed, call-slices, all-freed, begins3, leaves3}
-use Rattle.sched.specs.Schedule.{scheduleThread}
-use Rattle.command.specs.Answer.{ran}
-use Rattle.command.specs.Call.{context-of}
+use Rattle.lent.proofs.Lent.{mutable, shared, passed, call-slices, call-left, all-freed, so, begins3, leaves3}
 use Rattle.command.specs.Command.{scheduleThreadDef}
+use Rattle.lent.specs.Left.{Memory, Left}
+use Rattle.outcome.specs.Answer.{ran}
+use Rattle.outcome.specs.Call.{context-of}
+use Rattle.sched.specs.Schedule.{scheduleThread}
 use denote.Struct.Laws as LL
-use Rattle.command.specs.declared.answer.Answered.{Answered}
-use Rattle.command.proofs.answer.Answered as Answered·
-use Rattle.command.proofs.answer.Answered.Laws as Answered·laws
-use Rattle.command.specs.declared.call.Call.{Call}
-use Rattle.command.proofs.call.Call as Call·
-use Rattle.command.proofs.call.Call.Laws as Call·laws
-use Rattle.sched.specs.declared.context.Context.{Context}
-use Rattle.sched.proofs.context.Context as Context·
-use Rattle.sched.proofs.context.Context.Laws as Context·laws
-use Rattle.sched.specs.declared.context.Scheduled.{Scheduled}
-use Rattle.sched.proofs.context.Scheduled as Scheduled·
-use Rattle.sched.proofs.context.Scheduled.Laws as Scheduled·laws
+use Rattle.outcome.specs.declared.answer.Answered.{Answered}
+use Rattle.outcome.proofs.answer.Answered as Answered·
+use Rattle.outcome.proofs.answer.Answered.Laws as Answered·laws
+use Rattle.outcome.specs.declared.call.Call.{Call}
+use Rattle.outcome.proofs.call.Call as Call·
+use Rattle.outcome.proofs.call.Call.Laws as Call·laws
+use Rattle.step.specs.declared.context.Context.{Context}
+use Rattle.step.proofs.context.Context as Context·
+use Rattle.step.proofs.context.Context.Laws as Context·laws
+use Rattle.step.specs.declared.context.Scheduled.{Scheduled}
+use Rattle.step.proofs.context.Scheduled as Scheduled·
+use Rattle.step.proofs.context.Scheduled.Laws as Scheduled·laws
 use Rattle.questions.specs.declared.state.State.{State}
 use Rattle.questions.proofs.state.State as State·
 use Rattle.questions.proofs.state.State.Laws as State·laws
 use Rattle.thread.specs.declared.Thread.{Thread}
 use Rattle.thread.proofs.Thread as Thread·
 use Rattle.thread.proofs.Thread.Laws as Thread·laws
-use Rattle.command.proofs.call.context_of as fn-command-call-context-of
-use Rattle.command.proofs.call.context_of.Symbol as fn-command-call-context-of-def
-use Rattle.command.proofs.call.context_of.Met as fn-command-call-context-of-thm
+use Rattle.outcome.proofs.call.context_of as fn-outcome-call-context-of
+use Rattle.outcome.proofs.call.context_of.Symbol as fn-outcome-call-context-of-def
+use Rattle.outcome.proofs.call.context_of.Met as fn-outcome-call-context-of-thm
 use Rattle.sched.proofs.schedule.schedule_thread as fn-sched-schedule-schedule-thread
 use Rattle.sched.proofs.schedule.schedule_thread.Symbol as fn-sched-schedule-schedule-thread-def
 use Rattle.sched.proofs.schedule.schedule_thread.Met as fn-sched-schedule-schedule-thread-thm
-use Rattle.command.proofs.answer.ran as fn-command-answer-ran
-use Rattle.command.proofs.answer.ran.Symbol as fn-command-answer-ran-def
-use Rattle.command.proofs.answer.ran.Met as fn-command-answer-ran-thm
+use Rattle.outcome.proofs.answer.ran as fn-outcome-answer-ran
+use Rattle.outcome.proofs.answer.ran.Symbol as fn-outcome-answer-ran-def
+use Rattle.outcome.proofs.answer.ran.Met as fn-outcome-answer-ran-thm
 use Rattle.command.proofs.obey.schedule_thread.Key.{name as #schedule-thread}
 use Rattle.command.proofs.obey.schedule_thread as schedule-thread
 use Rattle.command.proofs.obey.schedule_thread.Statement as stated
@@ -139,17 +140,11 @@ module _ {M : Type 1} (𝓤 : URA M) (H : Heap 𝓤) (𝓜 : Model 𝓤 H) (𝓖
     abbrev V₁ : Context
     V₁ = context-of (a .0) (a .1 .0)
 
-    abbrev V₂ : Scheduled
-    V₂ = scheduleThread ys ys′ ys″ V₁ ((a .1 .0) .thread) .answer
+    abbrev V₂ : Left Scheduled Memory
+    V₂ = scheduleThread V₁ ((a .1 .0) .thread) ys″ (record { threads = ys; cpus = ys′ })
 
-    abbrev V₃ : List Thread
-    V₃ = scheduleThread ys ys′ ys″ V₁ ((a .1 .0) .thread) .threads
-
-    abbrev V₄ : List (List ℕ)
-    V₄ = scheduleThread ys ys′ ys″ V₁ ((a .1 .0) .thread) .cpus
-
-    abbrev V₅ : Answered
-    V₅ = ran V₄ (a .0) ((V₂) .cpu) ((V₂) .wakeups) ((a .1 .0) .used)
+    abbrev V₃ : Answered
+    V₃ = ran (V₂ .memory .cpus) (a .0) ((V₂ .answer) .cpu) ((V₂ .answer) .wakeups) ((a .1 .0) .used)
 
     walk : ent 𝓤 (onEntry 𝓤 H A schedule-thread.signature (κ, (κ′, (κ″, tt))) (q, (q′, (q″, tt))) ((lent-as b o γ ys, (lent-as b′ o′ γ′ ys′, (lent-as b″ o″ γ″ ys″, a)))) ((s ∷ [], (s′ ∷ [], (s″ ∷ [], spell Ds a))))) (WpFn 𝓤 H C Λ code.function (s ∷ s′ ∷ s″ ∷ listed Ds a) Post)
     unfolding scheduleThreadDef
@@ -164,7 +159,7 @@ module _ {M : Type 1} (𝓤 : URA M) (H : Heap 𝓤) (𝓜 : Model 𝓤 H) (𝓖
         opened ! tt Thread·.the-row γ ys b o $
         nothing ! $
         call-slices Context° (State° ∷ Call° ∷ []) ((a .0, (a .1 .0, tt))) (emp 𝓤) ([]) ! fm (λ r ws. r ≡ V₁) ((are .0, (are .1 .0, tt))) (id⊢ 𝓤 (emp 𝓤))
-        (λ νs. cited 𝓤 H (tripleOf 𝓤 H A fn-command-call-context-of.signature (fn-command-call-context-of.spec 𝓤 H A (𝓜 .mem) (𝓡 .run))) 𝓜 𝓡 code.env fn-command-call-context-of-def.name fn-command-call-context-of-def.routine code.calls-command·call·context-of (fn-command-call-context-of-thm.met 𝓤 H 𝓜 𝓖 𝓡) ((tt, tt, tt, (a .0, (a .1 .0, tt)), spell (State° ∷ Call° ∷ []) ((a .0, (a .1 .0, tt)))), tt))
+        (λ νs. cited 𝓤 H (tripleOf 𝓤 H A fn-outcome-call-context-of.signature (fn-outcome-call-context-of.spec 𝓤 H A (𝓜 .mem) (𝓡 .run))) 𝓜 𝓡 code.env fn-outcome-call-context-of-def.name fn-outcome-call-context-of-def.routine code.calls-outcome·call·context-of (fn-outcome-call-context-of-thm.met 𝓤 H 𝓜 𝓖 𝓡) ((tt, tt, tt, (a .0, (a .1 .0, tt)), spell (State° ∷ Call° ∷ []) ((a .0, (a .1 .0, tt)))), tt))
         (λ k. and-then ! (load ! (from ! (stop !)) (look ! 33 refl)) (and-then ! (load ! (from ! (stop !)) (look ! 31 refl)) (no-more !))) (λ r₁ ws₂ is₃ ls₄ e₅.
         drop ! $
         told ! Context° (e₅) is₃ (λ is₆.
@@ -183,7 +178,7 @@ module _ {M : Type 1} (𝓤 : URA M) (H : Heap 𝓤) (𝓜 : Model 𝓤 H) (𝓖
         join ! $
         move ! (1 ∷ 0 ∷ []) $
         join ! $
-        call-slices Scheduled° (Context° ∷ number w64 ∷ []) ((V₁, ((a .1 .0) .thread, tt))) (emp 𝓤) ((mutable Thread·.the-row ys b o n refl room) ∷ (mutable (Array u64 96) ys′ b′ o′ n′ refl room′) ∷ (passed (Array u64 32) ys″ b″ o″ κ″ q″ γ″) ∷ []) ! fm (λ r ws. (r ≡ V₂) × ((ws .0 ≡ V₃) × (ws .1 .0 ≡ V₄))) ((is₆, (LL.owed Call·.the-type Call·laws.the-laws (a .1 .0) _ (are .1 .0) .1 .1 .0, tt))) (id⊢ 𝓤 (emp 𝓤))
+        call-left Scheduled° (Context° ∷ number w64 ∷ []) ((V₁, ((a .1 .0) .thread, tt))) (emp 𝓤) ((mutable Thread·.the-row ys b o n refl room) ∷ (mutable (Array u64 96) ys′ b′ o′ n′ refl room′) ∷ (passed (Array u64 32) ys″ b″ o″ κ″ q″ γ″) ∷ []) ! fm (λ r ws. (r ≡ (V₂ .answer)) × ((ws .0 ≡ (V₂ .memory .threads)) × (ws .1 .0 ≡ (V₂ .memory .cpus)))) (λ r ws. _≡_ {A = Left Scheduled Memory} (record { answer = r; memory = record { threads = ws .0; cpus = ws .1 .0 } }) V₂) (λ r ws e. (ap (λ (z : Left Scheduled Memory). z .answer) e, (ap (λ (z : Left Scheduled Memory). z .memory .threads) e, ap (λ (z : Left Scheduled Memory). z .memory .cpus) e))) ((is₆, (LL.owed Call·.the-type Call·laws.the-laws (a .1 .0) _ (are .1 .0) .1 .1 .0, tt))) (id⊢ 𝓤 (emp 𝓤))
         (λ νs. cited 𝓤 H (tripleOf 𝓤 H A fn-sched-schedule-schedule-thread.signature (fn-sched-schedule-schedule-thread.spec 𝓤 H A (𝓜 .mem) (𝓡 .run))) 𝓜 𝓡 code.env fn-sched-schedule-schedule-thread-def.name fn-sched-schedule-schedule-thread-def.routine code.calls-sched·schedule·schedule-thread (fn-sched-schedule-schedule-thread-thm.met 𝓤 H 𝓜 𝓖 𝓡) (((νs .0 .0 ∷ [], (νs .1 .0 .0 ∷ [], (κ″, tt))), (fullShare, (fullShare, (q″, tt))), tt, (lent-as b o (νs .0 .1) ys, (lent-as b′ o′ (νs .1 .0 .1) ys′, (lent-as b″ o″ γ″ ys″, (V₁, ((a .1 .0) .thread, tt))))), (slice-of b o ys ∷ [], (slice-of b′ o′ ys′ ∷ [], (slice-of b″ o″ ys″ ∷ [], spell (Context° ∷ number w64 ∷ []) ((V₁, ((a .1 .0) .thread, tt))))))), tt))
         (λ k. and-then ! (load ! (from ! (stop !)) (look ! 11 refl)) (and-then ! (load ! (from ! (stop !)) (look ! 7 refl)) (and-then ! (load ! (from ! (stop !)) (look ! 31 refl)) (and-then ! (load ! (from ! (stop !)) (look ! 25 refl)) (and-then ! (load ! (from ! (stop !)) (look ! 23 refl)) (no-more !)))))) (λ r₇ ws₈ is₉ ls₁₀ e₁₁.
         split ! $
@@ -197,32 +192,32 @@ module _ {M : Type 1} (𝓤 : URA M) (H : Heap 𝓤) (𝓜 : Model 𝓤 H) (𝓖
         rewrite ! 3 (λ (us : List Thread). ‵ (row Thread·.the-row fullShare us b o)) (e₁₁ .1 .0) refl $
         rewrite ! 2 (λ (us : List (List ℕ)). ‵ (row (Array u64 96) fullShare us b′ o′)) (e₁₁ .1 .1) refl $
         told ! Scheduled° (e₁₁ .0) is₉ (λ is₁₂.
-        land ! (from ! (stop !)) (init ! 22 refl (Scheduled° .typed 𝓤 H A W (V₂) (is₁₂) .0)) $
-        assigns ! (of-opd ! (load ! (from ! (fld ! refl (stop !))) (look-in ! 22 (sub ! 0 refl (whole !))))) (from ! (stop !)) (init ! 20 refl ((number w64) .typed 𝓤 H A W ((V₂) .cpu) (LL.owed Scheduled·.the-type Scheduled·laws.the-laws (V₂) _ (is₁₂) .0) .0)) $
-        assigns ! (of-opd ! (load ! (from ! (fld ! refl (stop !))) (look-in ! 22 (sub ! 1 refl (whole !))))) (from ! (stop !)) (init ! 18 refl ((number w64) .typed 𝓤 H A W ((V₂) .wakeups) (LL.owed Scheduled·.the-type Scheduled·laws.the-laws (V₂) _ (is₁₂) .1 .0) .0)) $
+        land ! (from ! (stop !)) (init ! 22 refl (Scheduled° .typed 𝓤 H A W (V₂ .answer) (is₁₂) .0)) $
+        assigns ! (of-opd ! (load ! (from ! (fld ! refl (stop !))) (look-in ! 22 (sub ! 0 refl (whole !))))) (from ! (stop !)) (init ! 20 refl ((number w64) .typed 𝓤 H A W ((V₂ .answer) .cpu) (LL.owed Scheduled·.the-type Scheduled·laws.the-laws (V₂ .answer) _ (is₁₂) .0) .0)) $
+        assigns ! (of-opd ! (load ! (from ! (fld ! refl (stop !))) (look-in ! 22 (sub ! 1 refl (whole !))))) (from ! (stop !)) (init ! 18 refl ((number w64) .typed 𝓤 H A W ((V₂ .answer) .wakeups) (LL.owed Scheduled·.the-type Scheduled·laws.the-laws (V₂ .answer) _ (is₁₂) .1 .0) .0)) $
         assigns ! (addr ! (from ! (fld ! refl (hop ! (look-in ! 36 (sub ! 0 refl (whole !))) (stop !))))) (from ! (stop !)) (init ! 8 refl (tt, tt)) $
         assigns ! (agg ! (and-then ! (load ! (from ! (stop !)) (look ! 8 refl)) (and-then ! (load ! (from ! (fld ! refl (stop !))) (look-in ! 36 (sub ! 1 refl (whole !)))) (no-more !)))) (from ! (stop !)) (init ! 6 refl (tt, (tt, (record { fits = room′ .0 }, tt)))) $
         nothing ! $
         move ! (3 ∷ 0 ∷ []) $
         join ! $
-        call-slices Answered° (State° ∷ number w64 ∷ number w64 ∷ number w64 ∷ []) ((a .0, ((V₂) .cpu, ((V₂) .wakeups, ((a .1 .0) .used, tt))))) (emp 𝓤) ((shared (Array u64 96) V₄ b′ o′ n′ ((refl ∙ sym (subst (λ (us : List (List ℕ)). length us ≡ length ys′) (e₁₁ .1 .1) (ls₁₀ .1 .0)))) room′) ∷ []) ! fm (λ r ws. r ≡ V₅) ((are .0, (LL.owed Scheduled·.the-type Scheduled·laws.the-laws (V₂) _ (is₁₂) .0, (LL.owed Scheduled·.the-type Scheduled·laws.the-laws (V₂) _ (is₁₂) .1 .0, (LL.owed Call·.the-type Call·laws.the-laws (a .1 .0) _ (are .1 .0) .1 .1 .1 .1 .1 .1 .1 .1 .0, tt))))) (id⊢ 𝓤 (emp 𝓤))
-        (λ νs. cited 𝓤 H (tripleOf 𝓤 H A fn-command-answer-ran.signature (fn-command-answer-ran.spec 𝓤 H A (𝓜 .mem) (𝓡 .run))) 𝓜 𝓡 code.env fn-command-answer-ran-def.name fn-command-answer-ran-def.routine code.calls-command·answer·ran (fn-command-answer-ran-thm.met 𝓤 H 𝓜 𝓖 𝓡) (((νs .0 .0 ∷ [], tt), (fullShare, tt), tt, (lent-as b′ o′ (νs .0 .1) V₄, (a .0, ((V₂) .cpu, ((V₂) .wakeups, ((a .1 .0) .used, tt))))), (slice-of b′ o′ V₄ ∷ [], spell (State° ∷ number w64 ∷ number w64 ∷ number w64 ∷ []) ((a .0, ((V₂) .cpu, ((V₂) .wakeups, ((a .1 .0) .used, tt))))))), tt))
+        call-slices Answered° (State° ∷ number w64 ∷ number w64 ∷ number w64 ∷ []) ((a .0, ((V₂ .answer) .cpu, ((V₂ .answer) .wakeups, ((a .1 .0) .used, tt))))) (emp 𝓤) ((shared (Array u64 96) (V₂ .memory .cpus) b′ o′ n′ ((refl ∙ sym (subst (λ (us : List (List ℕ)). length us ≡ length ys′) (e₁₁ .1 .1) (ls₁₀ .1 .0)))) room′) ∷ []) ! fm (λ r ws. r ≡ V₃) ((are .0, (LL.owed Scheduled·.the-type Scheduled·laws.the-laws (V₂ .answer) _ (is₁₂) .0, (LL.owed Scheduled·.the-type Scheduled·laws.the-laws (V₂ .answer) _ (is₁₂) .1 .0, (LL.owed Call·.the-type Call·laws.the-laws (a .1 .0) _ (are .1 .0) .1 .1 .1 .1 .1 .1 .1 .1 .0, tt))))) (id⊢ 𝓤 (emp 𝓤))
+        (λ νs. cited 𝓤 H (tripleOf 𝓤 H A fn-outcome-answer-ran.signature (fn-outcome-answer-ran.spec 𝓤 H A (𝓜 .mem) (𝓡 .run))) 𝓜 𝓡 code.env fn-outcome-answer-ran-def.name fn-outcome-answer-ran-def.routine code.calls-outcome·answer·ran (fn-outcome-answer-ran-thm.met 𝓤 H 𝓜 𝓖 𝓡) (((νs .0 .0 ∷ [], tt), (fullShare, tt), tt, (lent-as b′ o′ (νs .0 .1) (V₂ .memory .cpus), (a .0, ((V₂ .answer) .cpu, ((V₂ .answer) .wakeups, ((a .1 .0) .used, tt))))), (slice-of b′ o′ (V₂ .memory .cpus) ∷ [], spell (State° ∷ number w64 ∷ number w64 ∷ number w64 ∷ []) ((a .0, ((V₂ .answer) .cpu, ((V₂ .answer) .wakeups, ((a .1 .0) .used, tt))))))), tt))
         (λ k. and-then ! (load ! (from ! (stop !)) (look ! 6 refl)) (and-then ! (load ! (from ! (stop !)) (look ! 32 refl)) (and-then ! (load ! (from ! (stop !)) (look ! 20 refl)) (and-then ! (load ! (from ! (stop !)) (look ! 18 refl)) (and-then ! (load ! (from ! (stop !)) (look ! 24 refl)) (no-more !)))))) (λ r₁₃ ws₁₄ is₁₅ ls₁₆ e₁₇.
         split ! $
         move ! (1 ∷ []) $
         drop ! $
         told ! Answered° (e₁₇) is₁₅ (λ is₁₈.
-        land ! (from ! (stop !)) (init ! 40 refl (Answered° .typed 𝓤 H A W (V₅) (is₁₈) .0)) $
+        land ! (from ! (stop !)) (init ! 40 refl (Answered° .typed 𝓤 H A W (V₃) (is₁₈) .0)) $
         move ! (1 ∷ 2 ∷ []) $
         move ! (2 ∷ 5 ∷ []) $
-        closed ! tt (Array u64 96) ys′ (V₄) b′ o′ room′ (sym ((refl ∙ sym (subst (λ (us : List (List ℕ)). length us ≡ length ys′) (e₁₁ .1 .1) (ls₁₀ .1 .0))))) $
+        closed ! tt (Array u64 96) ys′ (V₂ .memory .cpus) b′ o′ room′ (sym ((refl ∙ sym (subst (λ (us : List (List ℕ)). length us ≡ length ys′) (e₁₁ .1 .1) (ls₁₀ .1 .0))))) $
         move ! (4 ∷ 5 ∷ []) $
-        closed ! tt Thread·.the-row ys (V₃) b o room (sym ((refl ∙ sym (subst (λ (us : List Thread). length us ≡ length ys) (e₁₁ .1 .0) (ls₁₀ .0))))) $
+        closed ! tt Thread·.the-row ys (V₂ .memory .threads) b o room (sym ((refl ∙ sym (subst (λ (us : List Thread). length us ≡ length ys) (e₁₁ .1 .0) (ls₁₀ .0))))) $
         returns ! (look ! 40 refl) $
         move ! (40 ∷ 41 ∷ 38 ∷ 39 ∷ 36 ∷ 37 ∷ 34 ∷ 35 ∷ 32 ∷ 33 ∷ 30 ∷ 31 ∷ 28 ∷ 29 ∷ 26 ∷ 27 ∷ 24 ∷ 25 ∷ 22 ∷ 23 ∷ 20 ∷ 21 ∷ 18 ∷ 19 ∷ 16 ∷ 17 ∷ 14 ∷ 15 ∷ 12 ∷ 13 ∷ 10 ∷ 11 ∷ 8 ∷ 9 ∷ 6 ∷ 7 ∷ []) $
         all-freed ! mir.locals (l₀ ∷ l₁ ∷ l₂ ∷ l₃ ∷ l₄ ∷ l₅ ∷ l₆ ∷ l₇ ∷ l₈ ∷ l₉ ∷ l₁₀ ∷ l₁₁ ∷ l₁₂ ∷ l₁₃ ∷ l₁₄ ∷ l₁₅ ∷ l₁₆ ∷ l₁₇ ∷ []) (full _ ∷ full _ ∷ full _ ∷ full _ ∷ full _ ∷ full _ ∷ full _ ∷ full _ ∷ full _ ∷ full _ ∷ full _ ∷ full _ ∷ full _ ∷ full _ ∷ full _ ∷ full _ ∷ full _ ∷ full _ ∷ []) tt $
-        suffices ! _ (ends-at 𝓤 H A schedule-thread.ended stayed c W y _ (V₅) (V₃, (V₄, (tt, (tt, (tt, tt))))) (sym ((refl ∙ sym (subst (λ (us : List Thread). length us ≡ length ys) (e₁₁ .1 .0) (ls₁₀ .0)))), (sym ((refl ∙ sym (subst (λ (us : List (List ℕ)). length us ≡ length ys′) (e₁₁ .1 .1) (ls₁₀ .1 .0)))), (tt, (tt, (tt, tt)))))) $ says ! (refl, (refl, refl)) $
-        leaves3 ! Answered° Ds a (V₅) are (is₁₈)))))))))))))))))))))))))
+        suffices ! _ (ends-at 𝓤 H A schedule-thread.ended stayed c W y _ (V₃) (V₂ .memory .threads, (V₂ .memory .cpus, (tt, (tt, (tt, tt))))) (sym ((refl ∙ sym (subst (λ (us : List Thread). length us ≡ length ys) (e₁₁ .1 .0) (ls₁₀ .0)))), (sym ((refl ∙ sym (subst (λ (us : List (List ℕ)). length us ≡ length ys′) (e₁₁ .1 .1) (ls₁₀ .1 .0)))), (tt, (tt, (tt, tt)))))) $ says ! (so {X = Left Answered Memory} (record { answer = V₃; memory = record { threads = (V₂ .memory .threads); cpus = (V₂ .memory .cpus) } }) (scheduleThreadDef (a .0) (a .1 .0) ys″ (record { threads = ys; cpus = ys′ })) (refl)) $
+        leaves3 ! Answered° Ds a (V₃) are (is₁₈)))))))))))))))))))))))))
 
 pub schedule-thread-spec : {M : Type 1} → stated.statement M
 unfolding code.routine

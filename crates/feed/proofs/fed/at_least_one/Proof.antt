@@ -4,15 +4,11 @@ use borrow.Author.Tests.{eq-eqb}
 use borrow.Author.Needs.{needs}
 use Rattle.feed.proofs.fed.at_least_one.Statement.{statement}
 use Rattle.feed.proofs.fed.at_least_one.Tie as tie
-use Rattle.feed.proofs.fed.at_least_one.Reads as reads
-use Rattle.feed.proofs.fed.at_least_one.Lts as lts
 
--- src/fed.rt:118:9
 returns : tie.Need-returns
 unfolding atLeastOne
 returns c = simp (eq-eqb _ _ (c .if1 .taken))
 
--- src/fed.rt:114:1
 returns-2 : tie.Need-returns-2
 unfolding atLeastOne
 returns-2 c = simp (ne-eqb _ _ (c .if1 .left))

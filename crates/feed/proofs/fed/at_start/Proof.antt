@@ -2,10 +2,7 @@ use borrow.Author.Needs.{needs}
 use Rattle.feed.specs.Fed.{atStart}
 use Rattle.feed.proofs.fed.at_start.Statement.{statement}
 use Rattle.feed.proofs.fed.at_start.Tie as tie
-use Rattle.feed.proofs.fed.at_start.Reads as reads
-use Rattle.feed.proofs.fed.at_start.Lts as lts
 
--- src/fed.rt:186:1
 returns : tie.Need-returns
 unfolding atStart
 returns c = search needs

@@ -2,10 +2,7 @@ use borrow.Author.Needs.{needs}
 use Rattle.feed.specs.Fed.{begin}
 use Rattle.feed.proofs.fed.begin.Statement.{statement}
 use Rattle.feed.proofs.fed.begin.Tie as tie
-use Rattle.feed.proofs.fed.begin.Reads as reads
-use Rattle.feed.proofs.fed.begin.Lts as lts
 
--- src/fed.rt:40:1
 returns : tie.Need-returns
 unfolding begin
 returns c = search needs

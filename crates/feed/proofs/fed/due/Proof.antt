@@ -4,25 +4,19 @@ use borrow.Author.Tests.{eq-eqb}
 use borrow.Author.Needs.{needs}
 use Rattle.feed.proofs.fed.due.Statement.{statement}
 use Rattle.feed.proofs.fed.due.Tie as tie
-use Rattle.feed.proofs.fed.due.Reads as reads
-use Rattle.feed.proofs.fed.due.Lts as lts
 
--- src/fed.rt:213:9
 returns : tie.Need-returns
 unfolding due
 returns c = simp (eq-eqb _ _ (c .if1 .taken))
 
--- src/fed.rt:217:13
 returns-2 : tie.Need-returns-2
 unfolding due
 returns-2 c = rw (ne-eqb _ _ (c .before .before .before .before .if1 .left), eq-eqb _ _ (c .before .before .if2 .taken), c .before .if3 .taken)
 
--- src/fed.rt:209:1
 returns-3 : tie.Need-returns-3
 unfolding due
 returns-3 c = rw (ne-eqb _ _ (c .before .before .before .if1 .left), eq-eqb _ _ (c .before .if2 .taken), c .if3 .left)
 
--- src/fed.rt:209:1
 returns-4 : tie.Need-returns-4
 unfolding due
 returns-4 c = rw (ne-eqb _ _ (c .before .before .if1 .left), ne-eqb _ _ (c .if2 .left))

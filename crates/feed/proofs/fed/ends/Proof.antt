@@ -5,20 +5,15 @@ use borrow.Author.Tests.{eq-eqb}
 use borrow.Author.Needs.{needs}
 use Rattle.feed.proofs.fed.ends.Statement.{statement}
 use Rattle.feed.proofs.fed.ends.Tie as tie
-use Rattle.feed.proofs.fed.ends.Reads as reads
-use Rattle.feed.proofs.fed.ends.Lts as lts
 
--- src/fed.rt:97:9
 returns : tie.Need-returns
 unfolding endsBy last-number
 returns c = rw (eq-eqb _ _ (c .if1 .taken))
 
--- src/fed.rt:100:9
 returns-2 : tie.Need-returns-2
 unfolding endsBy last-number
 returns-2 c = rw (ne-eqb _ _ (c .before .if1 .left), eq-eqb _ _ (c .if2 .taken))
 
--- src/fed.rt:93:1
 returns-3 : tie.Need-returns-3
 unfolding endsBy last-number
 returns-3 c = rw (ne-eqb _ _ (c .before .if1 .left), ne-eqb _ _ (c .if2 .left))

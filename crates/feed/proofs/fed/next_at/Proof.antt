@@ -7,38 +7,28 @@ use Rattle.feed.specs.Fed.{nextAt}
 use borrow.Author.Needs.{needs}
 use Rattle.feed.proofs.fed.next_at.Statement.{statement}
 use Rattle.feed.proofs.fed.next_at.Tie as tie
-use Rattle.feed.proofs.fed.next_at.Reads as reads
-use Rattle.feed.proofs.fed.next_at.Lts as lts
-use Rattle.feed.proofs.fed.at_least_one.Reads as at-least-one-reads
 
--- src/fed.rt:128:9
 returns : tie.Need-returns
 unfolding nextAt
 returns c = search needs
 
--- src/fed.rt:130:9
 at-least-one-requires : tie.Need-at-least-one-requires
 at-least-one-requires c κs = search needs
 
--- src/fed.rt:132:19
 sub-if3 : tie.Need-sub-if3
 sub-if3 c = search needs
 
--- src/fed.rt:133:20
 add-result : tie.Need-add-result
 add-result c = search needs
 
--- src/fed.rt:133:13
 returns-2 : tie.Need-returns-2
 unfolding nextAt
 returns-2 c = rw (c .before .before .before .if1 .left, ← c .before .before .at-least-one .ensures, lt-ltb _ _ (c .if3 .taken))
 
--- src/fed.rt:135:9
 returns-3 : tie.Need-returns-3
 unfolding nextAt
 returns-3 c = rw (c .before .before .before .if1 .left, ← c .before .before .at-least-one .ensures, le-ltb _ _ (c .if3 .left))
 
--- src/fed.rt:124:1
 returns-4 : tie.Need-returns-4
 unfolding nextAt
 returns-4 c = rw (c .before .before .if1 .left, le-ltb (atLeastOne (c .before .before .before .args .used)) (c .before .before .before .args .n - c .before .before .before .args .at) (omega (arith, c .if2 .left)))

@@ -4,15 +4,11 @@ use borrow.Author.Tests.{eq-eqb}
 use borrow.Author.Needs.{needs}
 use Rattle.feed.proofs.fed.one_if.Statement.{statement}
 use Rattle.feed.proofs.fed.one_if.Tie as tie
-use Rattle.feed.proofs.fed.one_if.Reads as reads
-use Rattle.feed.proofs.fed.one_if.Lts as lts
 
--- src/fed.rt:144:9
 returns : tie.Need-returns
 unfolding oneIf
 returns c = simp (eq-eqb _ _ (c .if1 .taken))
 
--- src/fed.rt:140:1
 returns-2 : tie.Need-returns-2
 unfolding oneIf
 returns-2 c = simp (ne-eqb _ _ (c .if1 .left))

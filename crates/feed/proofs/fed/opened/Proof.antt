@@ -6,53 +6,36 @@ use borrow.Author.Tests.{eq-eqb}
 use borrow.Author.Needs.{needs}
 use Rattle.feed.proofs.fed.opened.Statement.{statement}
 use Rattle.feed.proofs.fed.opened.Tie as tie
-use Rattle.feed.proofs.fed.opened.Reads as reads
-use Rattle.feed.proofs.fed.opened.Lts as lts
-use Rattle.feed.proofs.fed.at_start.Reads as at-start-reads
-use Rattle.feed.proofs.fed.with_output.Reads as with-output-reads
-use Rattle.feed.proofs.fed.written.Reads as written-reads
-use Rattle.lines.proofs.has_room.Reads as has-room-reads
-use Rattle.lines.proofs.render_header.Reads as render-header-reads
 
--- src/fed.rt:198:9
 at-start-requires : tie.Need-at-start-requires
 at-start-requires c κs = search needs
 
--- src/fed.rt:200:12
 has-room-requires : tie.Need-has-room-requires
 has-room-requires c κs = search needs
 
--- src/fed.rt:201:17
 render-header-requires : tie.Need-render-header-requires
 render-header-requires c κs = search needs
 
--- src/fed.rt:202:35
 written-requires : tie.Need-written-requires
 written-requires c κs = search needs
 
--- src/fed.rt:202:13
 with-output-requires : tie.Need-with-output-requires
 with-output-requires c κs = search needs
 
--- src/fed.rt:202:13
 same-length : tie.Need-same-length
 same-length c = search needs
 
--- src/fed.rt:202:13
 returns : tie.Need-returns
 unfolding openedFed openedOut
 returns c = rw (eq-eqb _ _ (c .before .before .before .before .before .before .before .before .before .if1 .taken), ← c .before .before .before .before .before .before .before .has-room .ensures, c .before .before .before .before .before .before .if2 .taken) (rw (c .before .before .before .before .before .before .before .before .before .before .before .at-start .ensures, c .before .written .ensures, c .before .before .before .before .render-header .ensures .0) at (c .with-output .ensures), c .before .before .before .before .render-header .ensures .1)
 
--- src/fed.rt:195:1
 same-length-2 : tie.Need-same-length-2
 same-length-2 c = search needs
 
--- src/fed.rt:195:1
 returns-2 : tie.Need-returns-2
 unfolding openedFed openedOut
 returns-2 c = rw (eq-eqb _ _ (c .before .before .before .if1 .taken), ← c .before .has-room .ensures, c .if2 .left) (c .before .before .before .before .before .at-start .ensures, refl)
 
--- src/fed.rt:195:1
 returns-3 : tie.Need-returns-3
 unfolding openedFed openedOut
 returns-3 c = rw (ne-eqb _ _ (c .if1 .left)) (c .before .before .at-start .ensures, refl)

@@ -2,15 +2,11 @@ use borrow.Author.Needs.{needs}
 use Rattle.feed.specs.Fed.{phaseAfter}
 use Rattle.feed.proofs.fed.phase_after.Statement.{statement}
 use Rattle.feed.proofs.fed.phase_after.Tie as tie
-use Rattle.feed.proofs.fed.phase_after.Reads as reads
-use Rattle.feed.proofs.fed.phase_after.Lts as lts
 
--- src/fed.rt:109:9
 returns : tie.Need-returns
 unfolding phaseAfter
 returns c = search needs
 
--- src/fed.rt:105:1
 returns-2 : tie.Need-returns-2
 unfolding phaseAfter
 returns-2 c = search needs

@@ -2,37 +2,27 @@ use Rattle.feed.specs.Fed.{not-cut, whole}
 use borrow.Author.Needs.{needs}
 use Rattle.feed.proofs.fed.whole.Statement.{statement}
 use Rattle.feed.proofs.fed.whole.Tie as tie
-use Rattle.feed.proofs.fed.whole.Reads as reads
-use Rattle.feed.proofs.fed.whole.Lts as lts
-use Rattle.command.proofs.call.asked.Reads as asked-reads
 
--- src/fed.rt:57:9
 asked-requires : tie.Need-asked-requires
 asked-requires c κs = search needs
 
--- src/fed.rt:59:29
 enum-told : tie.Need-enum-told
 enum-told c = search needs
 
--- src/fed.rt:60:30
 enum-told-2 : tie.Need-enum-told-2
 enum-told-2 c = search needs
 
--- src/fed.rt:61:33
 enum-told-3 : tie.Need-enum-told-3
 enum-told-3 c = search needs
 
--- src/fed.rt:54:1
 returns : tie.Need-returns
 unfolding whole not-cut
 returns c = rw (← c .before .before .asked .ensures, c .enum-told .given .1)
 
--- src/fed.rt:54:1
 returns-2 : tie.Need-returns-2
 unfolding whole not-cut
 returns-2 c = rw (← c .before .before .asked .ensures, c .enum-told2 .given .1)
 
--- src/fed.rt:54:1
 returns-3 : tie.Need-returns-3
 unfolding whole not-cut
 returns-3 c = rw (← c .before .before .asked .ensures, c .enum-told3 .given .1)

@@ -2,23 +2,17 @@ use Rattle.feed.specs.Fed.{written}
 use borrow.Author.Needs.{needs}
 use Rattle.feed.proofs.fed.written.Statement.{statement}
 use Rattle.feed.proofs.fed.written.Tie as tie
-use Rattle.feed.proofs.fed.written.Reads as reads
-use Rattle.feed.proofs.fed.written.Lts as lts
 
--- src/fed.rt:87:27
 enum-known-rendered : tie.Need-enum-known-rendered
 enum-known-rendered c = search needs
 
--- src/fed.rt:88:33
 enum-told : tie.Need-enum-told
 enum-told c = search needs
 
--- src/fed.rt:83:1
 returns : tie.Need-returns
 unfolding written
 returns c = search needs
 
--- src/fed.rt:83:1
 returns-2 : tie.Need-returns-2
 unfolding written
 returns-2 c = search needs

@@ -1,5 +1,5 @@
 -- `feed::feed::feed` meets its contract: a walk of its MIR, written by tools/entrygen.py.
-use mathlib.Core.Path.{_≡_, refl, sym, subst, _∙_}
+use mathlib.Core.Path.{_≡_, refl, sym, ap, subst, _∙_}
 use Prim.Native.Nat.{ℕ}
 use mathlib.Core.List.{[], _∷_, List}
 use lib.ListN.{length}
@@ -32,9 +32,9 @@ use denote.Triple.Clauses.{Clauses}
 use denote.Triple.Walked.{says, Stays, stay-none, stay-slice, stay-none-slice, walkOf, goes-none, goes-slice, goes-none-slice, ends-at}
 use denote.Exit.{yes as kept-yes}
 use Rattle.lent.proofs.Walk.{Datum, number, truth, struct, Dens, AreD, listed, spell, lent-as, slice-of, kept, opened, closed, full, told, proved}
-use Rattle.lent.proofs.Lent.{mutable, passed, call-slices, all-freed, begins5, leaves5}
+use Rattle.lent.proofs.Lent.{mutable, passed, call-slices, call-left, all-freed, so, begins5, leaves5}
 use Rattle.feed.specs.Fed.{openedFed, openedOut, closedFed, closedOut}
-use Rattle.feed.specs.Feed.{worldOf, runDef, feedDef}
+use Rattle.feed.specs.Feed.{feedDef, runDef, World}
 use denote.Struct.Laws as LL
 use Rattle.feed.specs.declared.fed.Fed.{Fed}
 use Rattle.feed.proofs.fed.Fed as Fed·
@@ -128,26 +128,14 @@ module _ {M : Type 1} (𝓤 : URA M) (H : Heap 𝓤) (𝓜 : Model 𝓤 H) (𝓖
     abbrev V₂ : List ℕ
     V₂ = openedOut ys⁗ (a .1 .1 .0)
 
-    abbrev V₃ : Fed
-    V₃ = runDef (a .0) ys‴ (a .0) (a .1 .0) (worldOf ys ys′ ys″ V₂ V₁) .fed
+    abbrev V₃ : World
+    V₃ = runDef (a .0) ys‴ (a .0) (a .1 .0) (record { threads = ys; cpus = ys′; nodes = ys″; output = V₂; fed = V₁ })
 
-    abbrev V₄ : List Thread
-    V₄ = runDef (a .0) ys‴ (a .0) (a .1 .0) (worldOf ys ys′ ys″ V₂ V₁) .threads
+    abbrev V₄ : Fed
+    V₄ = closedFed (V₃ .output) (a .0) (a .1 .0) (V₃ .fed)
 
-    abbrev V₅ : List (List ℕ)
-    V₅ = runDef (a .0) ys‴ (a .0) (a .1 .0) (worldOf ys ys′ ys″ V₂ V₁) .cpus
-
-    abbrev V₆ : List (List ℕ)
-    V₆ = runDef (a .0) ys‴ (a .0) (a .1 .0) (worldOf ys ys′ ys″ V₂ V₁) .nodes
-
-    abbrev V₇ : List ℕ
-    V₇ = runDef (a .0) ys‴ (a .0) (a .1 .0) (worldOf ys ys′ ys″ V₂ V₁) .output
-
-    abbrev V₈ : Fed
-    V₈ = closedFed V₇ (a .0) (a .1 .0) V₃
-
-    abbrev V₉ : List ℕ
-    V₉ = closedOut V₇ (a .0) (a .1 .0) V₃
+    abbrev V₅ : List ℕ
+    V₅ = closedOut (V₃ .output) (a .0) (a .1 .0) (V₃ .fed)
 
     walk : ent 𝓤 (onEntry 𝓤 H A feed.signature (κ, (κ′, (κ″, (κ‴, (κ⁗, tt))))) (q, (q′, (q″, (q‴, (q⁗, tt))))) ((lent-as b o γ ys, (lent-as b′ o′ γ′ ys′, (lent-as b″ o″ γ″ ys″, (lent-as b‴ o‴ γ‴ ys‴, (lent-as b⁗ o⁗ γ⁗ ys⁗, a)))))) ((s ∷ [], (s′ ∷ [], (s″ ∷ [], (s‴ ∷ [], (s⁗ ∷ [], spell Ds a))))))) (WpFn 𝓤 H C Λ code.function (s ∷ s′ ∷ s″ ∷ s‴ ∷ s⁗ ∷ listed Ds a) Post)
     unfolding feedDef
@@ -198,7 +186,7 @@ module _ {M : Type 1} (𝓤 : URA M) (H : Heap 𝓤) (𝓜 : Model 𝓤 H) (𝓖
         join ! $
         move ! (1 ∷ 0 ∷ []) $
         join ! $
-        call-slices Fed° (number w64 ∷ truth ∷ Fed° ∷ []) ((a .0, (a .1 .0, (V₁, tt)))) (emp 𝓤) ((mutable Thread·.the-row ys b o n refl room) ∷ (mutable (Array u64 96) ys′ b′ o′ n′ refl room′) ∷ (mutable (Array u64 32) ys″ b″ o″ n″ refl room″) ∷ (passed u8 ys‴ b‴ o‴ κ‴ q‴ γ‴) ∷ (mutable u8 V₂ b⁗ o⁗ n⁗ ((refl ∙ sym (subst (λ (us : List ℕ). length us ≡ length ys⁗) (e₅ .1) (ls₄ .0)))) room⁗) ∷ []) ! fm (λ r ws. (r ≡ V₃) × ((ws .0 ≡ V₄) × ((ws .1 .0 ≡ V₅) × ((ws .1 .1 .0 ≡ V₆) × (ws .1 .1 .1 .1 .0 ≡ V₇))))) ((are .0, (are .1 .0, (is₆, tt)))) (id⊢ 𝓤 (emp 𝓤))
+        call-left Fed° (number w64 ∷ truth ∷ Fed° ∷ []) ((a .0, (a .1 .0, (V₁, tt)))) (emp 𝓤) ((mutable Thread·.the-row ys b o n refl room) ∷ (mutable (Array u64 96) ys′ b′ o′ n′ refl room′) ∷ (mutable (Array u64 32) ys″ b″ o″ n″ refl room″) ∷ (passed u8 ys‴ b‴ o‴ κ‴ q‴ γ‴) ∷ (mutable u8 V₂ b⁗ o⁗ n⁗ ((refl ∙ sym (subst (λ (us : List ℕ). length us ≡ length ys⁗) (e₅ .1) (ls₄ .0)))) room⁗) ∷ []) ! fm (λ r ws. (r ≡ (V₃ .fed)) × ((ws .0 ≡ (V₃ .threads)) × ((ws .1 .0 ≡ (V₃ .cpus)) × ((ws .1 .1 .0 ≡ (V₃ .nodes)) × (ws .1 .1 .1 .1 .0 ≡ (V₃ .output)))))) (λ r ws. _≡_ {A = World} (record { threads = ws .0; cpus = ws .1 .0; nodes = ws .1 .1 .0; output = ws .1 .1 .1 .1 .0; fed = r }) V₃) (λ r ws e. (ap (λ (z : World). z .fed) e, (ap (λ (z : World). z .threads) e, (ap (λ (z : World). z .cpus) e, (ap (λ (z : World). z .nodes) e, ap (λ (z : World). z .output) e))))) ((are .0, (are .1 .0, (is₆, tt)))) (id⊢ 𝓤 (emp 𝓤))
         (λ νs. cited 𝓤 H (tripleOf 𝓤 H A fn-feed-feed-run.signature (fn-feed-feed-run.spec 𝓤 H A (𝓜 .mem) (𝓡 .run))) 𝓜 𝓡 code.env fn-feed-feed-run-def.name fn-feed-feed-run-def.routine code.calls-feed·feed·run (fn-feed-feed-run-thm.met 𝓤 H 𝓜 𝓖 𝓡) (((νs .0 .0 ∷ [], (νs .1 .0 .0 ∷ [], (νs .1 .1 .0 .0 ∷ [], (κ‴, (νs .1 .1 .1 .1 .0 .0 ∷ [], tt))))), (fullShare, (fullShare, (fullShare, (q‴, (fullShare, tt))))), tt, (lent-as b o (νs .0 .1) ys, (lent-as b′ o′ (νs .1 .0 .1) ys′, (lent-as b″ o″ (νs .1 .1 .0 .1) ys″, (lent-as b‴ o‴ γ‴ ys‴, (lent-as b⁗ o⁗ (νs .1 .1 .1 .1 .0 .1) V₂, (a .0, (a .1 .0, (V₁, tt)))))))), (slice-of b o ys ∷ [], (slice-of b′ o′ ys′ ∷ [], (slice-of b″ o″ ys″ ∷ [], (slice-of b‴ o‴ ys‴ ∷ [], (slice-of b⁗ o⁗ V₂ ∷ [], spell (number w64 ∷ truth ∷ Fed° ∷ []) ((a .0, (a .1 .0, (V₁, tt)))))))))), tt))
         (λ k. and-then ! (load ! (from ! (stop !)) (look ! 21 refl)) (and-then ! (load ! (from ! (stop !)) (look ! 17 refl)) (and-then ! (load ! (from ! (stop !)) (look ! 13 refl)) (and-then ! (load ! (from ! (stop !)) (look ! 41 refl)) (and-then ! (load ! (from ! (stop !)) (look ! 9 refl)) (and-then ! (load ! (from ! (stop !)) (look ! 37 refl)) (and-then ! (load ! (from ! (stop !)) (look ! 35 refl)) (and-then ! (load ! (from ! (stop !)) (look ! 31 refl)) (no-more !))))))))) (λ r₇ ws₈ is₉ ls₁₀ e₁₁.
         split ! $
@@ -218,35 +206,35 @@ module _ {M : Type 1} (𝓤 : URA M) (H : Heap 𝓤) (𝓜 : Model 𝓤 H) (𝓖
         rewrite ! 3 (λ (us : List (List ℕ)). ‵ (row (Array u64 32) fullShare us b″ o″)) (e₁₁ .1 .1 .1 .0) refl $
         rewrite ! 0 (λ (us : List ℕ). ‵ (row u8 fullShare us b⁗ o⁗)) (e₁₁ .1 .1 .1 .1) refl $
         told ! Fed° (e₁₁ .0) is₉ (λ is₁₂.
-        land ! (from ! (stop !)) (init ! 34 refl (Fed° .typed 𝓤 H A W (V₃) (is₁₂) .0)) $
+        land ! (from ! (stop !)) (init ! 34 refl (Fed° .typed 𝓤 H A W (V₃ .fed) (is₁₂) .0)) $
         assigns ! (addr ! (from ! (fld ! refl (hop ! (look-in ! 44 (sub ! 0 refl (whole !))) (stop !))))) (from ! (stop !)) (init ! 12 refl (tt, tt)) $
         assigns ! (agg ! (and-then ! (load ! (from ! (stop !)) (look ! 12 refl)) (and-then ! (load ! (from ! (fld ! refl (stop !))) (look-in ! 44 (sub ! 1 refl (whole !)))) (no-more !)))) (from ! (stop !)) (init ! 10 refl (tt, (tt, (record { fits = room⁗ .0 }, tt)))) $
         nothing ! $
         move ! (1 ∷ 0 ∷ []) $
         join ! $
-        call-slices Fed° (number w64 ∷ truth ∷ Fed° ∷ []) ((a .0, (a .1 .0, (V₃, tt)))) (emp 𝓤) ((mutable u8 V₇ b⁗ o⁗ n⁗ (((refl ∙ sym (subst (λ (us : List ℕ). length us ≡ length ys⁗) (e₅ .1) (ls₄ .0))) ∙ sym (subst (λ (us : List ℕ). length us ≡ length V₂) (e₁₁ .1 .1 .1 .1) (ls₁₀ .1 .1 .1 .1 .0)))) room⁗) ∷ []) ! fm (λ r ws. (r ≡ V₈) × (ws .0 ≡ V₉)) ((are .0, (are .1 .0, (is₁₂, tt)))) (id⊢ 𝓤 (emp 𝓤))
-        (λ νs. cited 𝓤 H (tripleOf 𝓤 H A fn-feed-fed-closed.signature (fn-feed-fed-closed.spec 𝓤 H A (𝓜 .mem) (𝓡 .run))) 𝓜 𝓡 code.env fn-feed-fed-closed-def.name fn-feed-fed-closed-def.routine code.calls-feed·fed·closed (fn-feed-fed-closed-thm.met 𝓤 H 𝓜 𝓖 𝓡) (((νs .0 .0 ∷ [], tt), (fullShare, tt), tt, (lent-as b⁗ o⁗ (νs .0 .1) V₇, (a .0, (a .1 .0, (V₃, tt)))), (slice-of b⁗ o⁗ V₇ ∷ [], spell (number w64 ∷ truth ∷ Fed° ∷ []) ((a .0, (a .1 .0, (V₃, tt)))))), tt))
+        call-slices Fed° (number w64 ∷ truth ∷ Fed° ∷ []) ((a .0, (a .1 .0, (V₃ .fed, tt)))) (emp 𝓤) ((mutable u8 (V₃ .output) b⁗ o⁗ n⁗ (((refl ∙ sym (subst (λ (us : List ℕ). length us ≡ length ys⁗) (e₅ .1) (ls₄ .0))) ∙ sym (subst (λ (us : List ℕ). length us ≡ length V₂) (e₁₁ .1 .1 .1 .1) (ls₁₀ .1 .1 .1 .1 .0)))) room⁗) ∷ []) ! fm (λ r ws. (r ≡ V₄) × (ws .0 ≡ V₅)) ((are .0, (are .1 .0, (is₁₂, tt)))) (id⊢ 𝓤 (emp 𝓤))
+        (λ νs. cited 𝓤 H (tripleOf 𝓤 H A fn-feed-fed-closed.signature (fn-feed-fed-closed.spec 𝓤 H A (𝓜 .mem) (𝓡 .run))) 𝓜 𝓡 code.env fn-feed-fed-closed-def.name fn-feed-fed-closed-def.routine code.calls-feed·fed·closed (fn-feed-fed-closed-thm.met 𝓤 H 𝓜 𝓖 𝓡) (((νs .0 .0 ∷ [], tt), (fullShare, tt), tt, (lent-as b⁗ o⁗ (νs .0 .1) (V₃ .output), (a .0, (a .1 .0, (V₃ .fed, tt)))), (slice-of b⁗ o⁗ (V₃ .output) ∷ [], spell (number w64 ∷ truth ∷ Fed° ∷ []) ((a .0, (a .1 .0, (V₃ .fed, tt)))))), tt))
         (λ k. and-then ! (load ! (from ! (stop !)) (look ! 10 refl)) (and-then ! (load ! (from ! (stop !)) (look ! 42 refl)) (and-then ! (load ! (from ! (stop !)) (look ! 40 refl)) (and-then ! (load ! (from ! (stop !)) (look ! 34 refl)) (no-more !))))) (λ r₁₃ ws₁₄ is₁₅ ls₁₆ e₁₇.
         split ! $
         move ! (1 ∷ []) $
         drop ! $
         rewrite ! 0 (λ (us : List ℕ). ‵ (row u8 fullShare us b⁗ o⁗)) (e₁₇ .1) refl $
         told ! Fed° (e₁₇ .0) is₁₅ (λ is₁₈.
-        land ! (from ! (stop !)) (init ! 54 refl (Fed° .typed 𝓤 H A W (V₈) (is₁₈) .0)) $
+        land ! (from ! (stop !)) (init ! 54 refl (Fed° .typed 𝓤 H A W (V₄) (is₁₈) .0)) $
         move ! (0 ∷ 9 ∷ []) $
-        closed ! tt u8 ys⁗ (V₉) b⁗ o⁗ room⁗ (sym ((((refl ∙ sym (subst (λ (us : List ℕ). length us ≡ length ys⁗) (e₅ .1) (ls₄ .0))) ∙ sym (subst (λ (us : List ℕ). length us ≡ length V₂) (e₁₁ .1 .1 .1 .1) (ls₁₀ .1 .1 .1 .1 .0))) ∙ sym (subst (λ (us : List ℕ). length us ≡ length V₇) (e₁₇ .1) (ls₁₆ .0))))) $
+        closed ! tt u8 ys⁗ (V₅) b⁗ o⁗ room⁗ (sym ((((refl ∙ sym (subst (λ (us : List ℕ). length us ≡ length ys⁗) (e₅ .1) (ls₄ .0))) ∙ sym (subst (λ (us : List ℕ). length us ≡ length V₂) (e₁₁ .1 .1 .1 .1) (ls₁₀ .1 .1 .1 .1 .0))) ∙ sym (subst (λ (us : List ℕ). length us ≡ length (V₃ .output)) (e₁₇ .1) (ls₁₆ .0))))) $
         move ! (2 ∷ 3 ∷ []) $
         move ! (4 ∷ 9 ∷ []) $
-        closed ! tt (Array u64 32) ys″ (V₆) b″ o″ room″ (sym ((refl ∙ sym (subst (λ (us : List (List ℕ)). length us ≡ length ys″) (e₁₁ .1 .1 .1 .0) (ls₁₀ .1 .1 .0))))) $
+        closed ! tt (Array u64 32) ys″ (V₃ .nodes) b″ o″ room″ (sym ((refl ∙ sym (subst (λ (us : List (List ℕ)). length us ≡ length ys″) (e₁₁ .1 .1 .1 .0) (ls₁₀ .1 .1 .0))))) $
         move ! (6 ∷ 9 ∷ []) $
-        closed ! tt (Array u64 96) ys′ (V₅) b′ o′ room′ (sym ((refl ∙ sym (subst (λ (us : List (List ℕ)). length us ≡ length ys′) (e₁₁ .1 .1 .0) (ls₁₀ .1 .0))))) $
+        closed ! tt (Array u64 96) ys′ (V₃ .cpus) b′ o′ room′ (sym ((refl ∙ sym (subst (λ (us : List (List ℕ)). length us ≡ length ys′) (e₁₁ .1 .1 .0) (ls₁₀ .1 .0))))) $
         move ! (8 ∷ 9 ∷ []) $
-        closed ! tt Thread·.the-row ys (V₄) b o room (sym ((refl ∙ sym (subst (λ (us : List Thread). length us ≡ length ys) (e₁₁ .1 .0) (ls₁₀ .0))))) $
+        closed ! tt Thread·.the-row ys (V₃ .threads) b o room (sym ((refl ∙ sym (subst (λ (us : List Thread). length us ≡ length ys) (e₁₁ .1 .0) (ls₁₀ .0))))) $
         returns ! (look ! 54 refl) $
         move ! (54 ∷ 55 ∷ 52 ∷ 53 ∷ 50 ∷ 51 ∷ 48 ∷ 49 ∷ 46 ∷ 47 ∷ 44 ∷ 45 ∷ 42 ∷ 43 ∷ 40 ∷ 41 ∷ 38 ∷ 39 ∷ 36 ∷ 37 ∷ 34 ∷ 35 ∷ 32 ∷ 33 ∷ 30 ∷ 31 ∷ 28 ∷ 29 ∷ 26 ∷ 27 ∷ 24 ∷ 25 ∷ 22 ∷ 23 ∷ 20 ∷ 21 ∷ 18 ∷ 19 ∷ 16 ∷ 17 ∷ 14 ∷ 15 ∷ 12 ∷ 13 ∷ 10 ∷ 11 ∷ []) $
         all-freed ! mir.locals (l₀ ∷ l₁ ∷ l₂ ∷ l₃ ∷ l₄ ∷ l₅ ∷ l₆ ∷ l₇ ∷ l₈ ∷ l₉ ∷ l₁₀ ∷ l₁₁ ∷ l₁₂ ∷ l₁₃ ∷ l₁₄ ∷ l₁₅ ∷ l₁₆ ∷ l₁₇ ∷ l₁₈ ∷ l₁₉ ∷ l₂₀ ∷ l₂₁ ∷ l₂₂ ∷ []) (full _ ∷ full _ ∷ full _ ∷ full _ ∷ full _ ∷ full _ ∷ full _ ∷ full _ ∷ full _ ∷ full _ ∷ full _ ∷ full _ ∷ full _ ∷ full _ ∷ full _ ∷ full _ ∷ full _ ∷ full _ ∷ full _ ∷ full _ ∷ full _ ∷ full _ ∷ full _ ∷ []) tt $
-        suffices ! _ (ends-at 𝓤 H A feed.ended stayed c W y _ (V₈) (V₄, (V₅, (V₆, (tt, (V₉, (tt, (tt, (tt, tt)))))))) (sym ((refl ∙ sym (subst (λ (us : List Thread). length us ≡ length ys) (e₁₁ .1 .0) (ls₁₀ .0)))), (sym ((refl ∙ sym (subst (λ (us : List (List ℕ)). length us ≡ length ys′) (e₁₁ .1 .1 .0) (ls₁₀ .1 .0)))), (sym ((refl ∙ sym (subst (λ (us : List (List ℕ)). length us ≡ length ys″) (e₁₁ .1 .1 .1 .0) (ls₁₀ .1 .1 .0)))), (tt, (sym ((((refl ∙ sym (subst (λ (us : List ℕ). length us ≡ length ys⁗) (e₅ .1) (ls₄ .0))) ∙ sym (subst (λ (us : List ℕ). length us ≡ length V₂) (e₁₁ .1 .1 .1 .1) (ls₁₀ .1 .1 .1 .1 .0))) ∙ sym (subst (λ (us : List ℕ). length us ≡ length V₇) (e₁₇ .1) (ls₁₆ .0)))), (tt, (tt, (tt, tt))))))))) $ says ! (refl, (refl, (refl, (refl, refl)))) $
-        leaves5 ! Fed° Ds a (V₈) are (is₁₈))))))))))))))))))))))))))))))
+        suffices ! _ (ends-at 𝓤 H A feed.ended stayed c W y _ (V₄) (V₃ .threads, (V₃ .cpus, (V₃ .nodes, (tt, (V₅, (tt, (tt, (tt, tt)))))))) (sym ((refl ∙ sym (subst (λ (us : List Thread). length us ≡ length ys) (e₁₁ .1 .0) (ls₁₀ .0)))), (sym ((refl ∙ sym (subst (λ (us : List (List ℕ)). length us ≡ length ys′) (e₁₁ .1 .1 .0) (ls₁₀ .1 .0)))), (sym ((refl ∙ sym (subst (λ (us : List (List ℕ)). length us ≡ length ys″) (e₁₁ .1 .1 .1 .0) (ls₁₀ .1 .1 .0)))), (tt, (sym ((((refl ∙ sym (subst (λ (us : List ℕ). length us ≡ length ys⁗) (e₅ .1) (ls₄ .0))) ∙ sym (subst (λ (us : List ℕ). length us ≡ length V₂) (e₁₁ .1 .1 .1 .1) (ls₁₀ .1 .1 .1 .1 .0))) ∙ sym (subst (λ (us : List ℕ). length us ≡ length (V₃ .output)) (e₁₇ .1) (ls₁₆ .0)))), (tt, (tt, (tt, tt))))))))) $ says ! (so {X = World} (record { threads = (V₃ .threads); cpus = (V₃ .cpus); nodes = (V₃ .nodes); output = V₅; fed = V₄ }) (feedDef ys‴ (a .0) (a .1 .0) (record { threads = ys; cpus = ys′; nodes = ys″; output = ys⁗; fed = (a .1 .1 .0) })) (refl)) $
+        leaves5 ! Fed° Ds a (V₄) are (is₁₈))))))))))))))))))))))))))))))
 
 pub feed-spec : {M : Type 1} → stated.statement M
 unfolding code.routine

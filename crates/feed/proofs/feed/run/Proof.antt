@@ -1,5 +1,5 @@
 -- `feed::feed::run` meets its contract: a walk of its MIR, written by tools/entrygen.py.
-use mathlib.Core.Path.{_≡_, refl, sym, subst, _∙_}
+use mathlib.Core.Path.{_≡_, refl, sym, ap, subst, _∙_}
 use Prim.Native.Nat.{ℕ, _<_, _-_}
 use mathlib.Core.Bool.{Bool}
 use mathlib.Core.List.{[], _∷_, List}
@@ -36,16 +36,19 @@ use denote.Triple.Clauses.{Clauses}
 use denote.Triple.Walked.{says, Stays, stay-none, stay-slice, stay-none-slice, walkOf, goes-none, goes-slice, goes-none-slice, ends-at}
 use denote.Exit.{yes as kept-yes}
 use Rattle.lent.proofs.Walk.{Datum, number, truth, struct, Dens, AreD, listed, spell, lent-as, slice-of, shared-as, kept, opened, closed, whiles, env-of, standing, bare, full, told, proved}
-use Rattle.lent.proofs.Lent.{mutable, shared, passed, call-slices, all-freed, begins5, leaves5}
-use Rattle.lines.specs.Lines.{buffer-with}
+use Rattle.lent.proofs.Lent.{mutable, shared, passed, call-slices, call-left, all-freed, so, begins5, leaves5}
 use Rattle.command.specs.Command.{commandDef}
-use Rattle.feed.specs.Fed.{more, lineOf, answeredFed}
-use Rattle.feed.specs.Feed.{worldOf}
-use Rattle.feed.proofs.Feeding.{Inv, inv-start, inv-next, inv-near, inv-end, by-world}
+use Rattle.command.specs.Lent.{Lent}
+use Rattle.feed.proofs.Feeding.{Inv, inv-start, inv-next, inv-near, inv-end}
+use Rattle.feed.specs.Fed.{more, answeredFed}
+use Rattle.feed.specs.Feed.{runDef, World, worldOf}
+use Rattle.lent.specs.Left.{Left}
+use Rattle.lines.specs.Lines.{answer-of, buffer-with}
+use Rattle.rules.specs.Lines.{line}
 use denote.Struct.Laws as LL
-use Rattle.command.specs.declared.answer.Answered.{Answered}
-use Rattle.command.proofs.answer.Answered as Answered·
-use Rattle.command.proofs.answer.Answered.Laws as Answered·laws
+use Rattle.outcome.specs.declared.answer.Answered.{Answered}
+use Rattle.outcome.proofs.answer.Answered as Answered·
+use Rattle.outcome.proofs.answer.Answered.Laws as Answered·laws
 use Rattle.feed.specs.declared.fed.Fed.{Fed}
 use Rattle.feed.proofs.fed.Fed as Fed·
 use Rattle.feed.proofs.fed.Fed.Laws as Fed·laws
@@ -147,23 +150,14 @@ module _ {M : Type 1} (𝓤 : URA M) (H : Heap 𝓤) (𝓜 : Model 𝓤 H) (𝓖
     abbrev V₁ : Z → Bool
     V₁ z = more ys‴ (z .1 .1 .1 .0) (a .0) (a .1 .0) (z .1 .1 .1 .1)
 
-    abbrev V₂ : Z → Answered
-    V₂ z = commandDef (z .0) (z .1 .0) (z .1 .1 .0) ys‴ (a .0) ((z .1 .1 .1 .1) .at) ((z .1 .1 .1 .1) .state) .outcome
+    abbrev V₂ : Z → Left Answered Lent
+    V₂ z = commandDef (a .0) ((z .1 .1 .1 .1) .at) ((z .1 .1 .1 .1) .state) ys‴ (record { threads = z .0; cpus = z .1 .0; nodes = z .1 .1 .0 })
 
-    abbrev V₃ : Z → List Thread
-    V₃ z = commandDef (z .0) (z .1 .0) (z .1 .1 .0) ys‴ (a .0) ((z .1 .1 .1 .1) .at) ((z .1 .1 .1 .1) .state) .threads
+    abbrev V₃ : Z → Fed
+    V₃ z = answeredFed (z .1 .1 .1 .0) (a .0) ((V₂ z) .answer) (z .1 .1 .1 .1)
 
-    abbrev V₄ : Z → List (List ℕ)
-    V₄ z = commandDef (z .0) (z .1 .0) (z .1 .1 .0) ys‴ (a .0) ((z .1 .1 .1 .1) .at) ((z .1 .1 .1 .1) .state) .cpus
-
-    abbrev V₅ : Z → List (List ℕ)
-    V₅ z = commandDef (z .0) (z .1 .0) (z .1 .1 .0) ys‴ (a .0) ((z .1 .1 .1 .1) .at) ((z .1 .1 .1 .1) .state) .nodes
-
-    abbrev V₆ : Z → Fed
-    V₆ z = answeredFed (z .1 .1 .1 .0) (a .0) (V₂ z) (z .1 .1 .1 .1)
-
-    abbrev V₇ : Z → List ℕ
-    V₇ z = buffer-with (z .1 .1 .1 .0) ((z .1 .1 .1 .1) .done) (lineOf (V₂ z) (z .1 .1 .1 .1))
+    abbrev V₄ : Z → List ℕ
+    V₄ z = buffer-with (z .1 .1 .1 .0) ((z .1 .1 .1 .1) .done) (line ((z .1 .1 .1 .1) .number) (answer-of (((V₂ z) .answer) .answer)))
 
     abbrev μ : Z → ℕ
     μ z = a .0 - (z .1 .1 .1 .1) .at
@@ -184,10 +178,10 @@ module _ {M : Type 1} (𝓤 : URA M) (H : Heap 𝓤) (𝓜 : Model 𝓤 H) (𝓖
       abbrev I : X → List (Item 𝓤)
       I t = ‵ (row Thread·.the-row fullShare (t .0 .0) b o) ∷ ‵ (kept Thread·.the-row κ q γ b o ys) ∷ ‵ (row (Array u64 96) fullShare (t .0 .1 .0) b′ o′) ∷ ‵ (kept (Array u64 96) κ′ q′ γ′ b′ o′ ys′) ∷ ‵ (row (Array u64 32) fullShare (t .0 .1 .1 .0) b″ o″) ∷ ‵ (kept (Array u64 32) κ″ q″ γ″ b″ o″ ys″) ∷ ‵ (shared-as u8 κ‴ γ‴ b‴ o‴ ys‴) ∷ ‵ (flft κ‴ q‴) ∷ ‵ (row u8 fullShare (t .0 .1 .1 .1 .0) b⁗ o⁗) ∷ ‵ (kept u8 κ⁗ q⁗ γ⁗ b⁗ o⁗ ys⁗) ∷ standing 𝓤 mir.locals (l₀ ∷ l₁ ∷ l₂ ∷ l₃ ∷ l₄ ∷ l₅ ∷ l₆ ∷ l₇ ∷ l₈ ∷ l₉ ∷ l₁₀ ∷ l₁₁ ∷ l₁₂ ∷ l₁₃ ∷ l₁₄ ∷ l₁₅ ∷ l₁₆ ∷ l₁₇ ∷ l₁₈ ∷ l₁₉ ∷ l₂₀ ∷ l₂₁ ∷ l₂₂ ∷ []) (bare ∷ full s ∷ full s′ ∷ full s″ ∷ full s‴ ∷ full s⁗ ∷ full ((number w64) .val (a .0)) ∷ full (truth .val (a .1 .0)) ∷ full (Fed° .val (a .1 .1 .0)) ∷ full (Fed° .val (t .0 .1 .1 .1 .1)) ∷ bare ∷ bare ∷ bare ∷ bare ∷ bare ∷ bare ∷ bare ∷ bare ∷ bare ∷ bare ∷ bare ∷ bare ∷ bare ∷ []) []
 
-      abbrev Left : Outcome → SProp 𝓤
-      Left = afterBlock 𝓤 H (afterSeq 𝓤 H (Wp 𝓤 H C Λ En mir.t-3 (atReturn 𝓤 H En Post)) (atReturn 𝓤 H En Post))
+      abbrev Rest : Outcome → SProp 𝓤
+      Rest = afterBlock 𝓤 H (afterSeq 𝓤 H (Wp 𝓤 H C Λ En mir.t-3 (atReturn 𝓤 H En Post)) (atReturn 𝓤 H En Post))
 
-      turn : (z : Z) (w : Facts z) → Sq W (I (z, w)) (runs C Λ En mir.turn-1 (anyQ (afterTurn 𝓤 H (Below 𝓤 H A nearer I (z, w)) Left)))
+      turn : (z : Z) (w : Facts z) → Sq W (I (z, w)) (runs C Λ En mir.turn-1 (anyQ (afterTurn 𝓤 H (Below 𝓤 H A nearer I (z, w)) Rest)))
       unfolding afterTurn
       turn z w =
           assigns ! (addr ! (from ! (fld ! refl (hop ! (look-in ! 44 (sub ! 0 refl (whole !))) (stop !))))) (from ! (stop !)) (init ! 28 refl (tt, tt)) $
@@ -227,7 +221,7 @@ module _ {M : Type 1} (𝓤 : URA M) (H : Heap 𝓤) (𝓜 : Model 𝓤 H) (𝓖
           join ! $
           move ! (2 ∷ 0 ∷ []) $
           join ! $
-          call-slices Answered° (number w64 ∷ number w64 ∷ State° ∷ []) ((a .0, ((z .1 .1 .1 .1) .at, ((z .1 .1 .1 .1) .state, tt)))) (emp 𝓤) ((mutable Thread·.the-row (z .0) b o n (w .0) room) ∷ (mutable (Array u64 96) (z .1 .0) b′ o′ n′ (w .1 .0) room′) ∷ (mutable (Array u64 32) (z .1 .1 .0) b″ o″ n″ (w .1 .1 .0) room″) ∷ (passed u8 ys‴ b‴ o‴ κ‴ q‴ γ‴) ∷ []) ! fm (λ r ws. (r ≡ (V₂ z)) × ((ws .0 ≡ (V₃ z)) × ((ws .1 .0 ≡ (V₄ z)) × (ws .1 .1 .0 ≡ (V₅ z))))) ((are .0, (LL.owed Fed·.the-type Fed·laws.the-laws (z .1 .1 .1 .1) _ (w .1 .1 .1 .1 .0) .0, (LL.owed Fed·.the-type Fed·laws.the-laws (z .1 .1 .1 .1) _ (w .1 .1 .1 .1 .0) .1 .1 .1 .1 .1 .0, tt)))) (id⊢ 𝓤 (emp 𝓤))
+          call-left Answered° (number w64 ∷ number w64 ∷ State° ∷ []) ((a .0, ((z .1 .1 .1 .1) .at, ((z .1 .1 .1 .1) .state, tt)))) (emp 𝓤) ((mutable Thread·.the-row (z .0) b o n (w .0) room) ∷ (mutable (Array u64 96) (z .1 .0) b′ o′ n′ (w .1 .0) room′) ∷ (mutable (Array u64 32) (z .1 .1 .0) b″ o″ n″ (w .1 .1 .0) room″) ∷ (passed u8 ys‴ b‴ o‴ κ‴ q‴ γ‴) ∷ []) ! fm (λ r ws. (r ≡ ((V₂ z) .answer)) × ((ws .0 ≡ ((V₂ z) .memory .threads)) × ((ws .1 .0 ≡ ((V₂ z) .memory .cpus)) × (ws .1 .1 .0 ≡ ((V₂ z) .memory .nodes))))) (λ r ws. _≡_ {A = Left Answered Lent} (record { answer = r; memory = record { threads = ws .0; cpus = ws .1 .0; nodes = ws .1 .1 .0 } }) (V₂ z)) (λ r ws e. (ap (λ (z : Left Answered Lent). z .answer) e, (ap (λ (z : Left Answered Lent). z .memory .threads) e, (ap (λ (z : Left Answered Lent). z .memory .cpus) e, ap (λ (z : Left Answered Lent). z .memory .nodes) e)))) ((are .0, (LL.owed Fed·.the-type Fed·laws.the-laws (z .1 .1 .1 .1) _ (w .1 .1 .1 .1 .0) .0, (LL.owed Fed·.the-type Fed·laws.the-laws (z .1 .1 .1 .1) _ (w .1 .1 .1 .1 .0) .1 .1 .1 .1 .1 .0, tt)))) (id⊢ 𝓤 (emp 𝓤))
           (λ νs. cited 𝓤 H (tripleOf 𝓤 H A fn-command-obey-command-at.signature (fn-command-obey-command-at.spec 𝓤 H A (𝓜 .mem) (𝓡 .run))) 𝓜 𝓡 code.env fn-command-obey-command-at-def.name fn-command-obey-command-at-def.routine code.calls-command·obey·command-at (fn-command-obey-command-at-thm.met 𝓤 H 𝓜 𝓖 𝓡) (((νs .0 .0 ∷ [], (νs .1 .0 .0 ∷ [], (νs .1 .1 .0 .0 ∷ [], (κ‴, tt)))), (fullShare, (fullShare, (fullShare, (q‴, tt)))), tt, (lent-as b o (νs .0 .1) (z .0), (lent-as b′ o′ (νs .1 .0 .1) (z .1 .0), (lent-as b″ o″ (νs .1 .1 .0 .1) (z .1 .1 .0), (lent-as b‴ o‴ γ‴ ys‴, (a .0, ((z .1 .1 .1 .1) .at, ((z .1 .1 .1 .1) .state, tt))))))), (slice-of b o (z .0) ∷ [], (slice-of b′ o′ (z .1 .0) ∷ [], (slice-of b″ o″ (z .1 .1 .0) ∷ [], (slice-of b‴ o‴ ys‴ ∷ [], spell (number w64 ∷ number w64 ∷ State° ∷ []) ((a .0, ((z .1 .1 .1 .1) .at, ((z .1 .1 .1 .1) .state, tt))))))))), tt))
           (λ k. and-then ! (load ! (from ! (stop !)) (look ! 18 refl)) (and-then ! (load ! (from ! (stop !)) (look ! 14 refl)) (and-then ! (load ! (from ! (stop !)) (look ! 10 refl)) (and-then ! (load ! (from ! (stop !)) (look ! 42 refl)) (and-then ! (load ! (from ! (stop !)) (look ! 38 refl)) (and-then ! (load ! (from ! (fld ! refl (stop !))) (look-in ! 32 (sub ! 0 refl (whole !)))) (and-then ! (load ! (from ! (fld ! refl (stop !))) (look-in ! 32 (sub ! 5 refl (whole !)))) (no-more !)))))))) (λ r₇ ws₈ is₉ ls₁₀ e₁₁.
           split ! $
@@ -244,22 +238,22 @@ module _ {M : Type 1} (𝓤 : URA M) (H : Heap 𝓤) (𝓜 : Model 𝓤 H) (𝓖
           rewrite ! 3 (λ (us : List (List ℕ)). ‵ (row (Array u64 96) fullShare us b′ o′)) (e₁₁ .1 .1 .0) refl $
           rewrite ! 2 (λ (us : List (List ℕ)). ‵ (row (Array u64 32) fullShare us b″ o″)) (e₁₁ .1 .1 .1) refl $
           told ! Answered° (e₁₁ .0) is₉ (λ is₁₂.
-          land ! (from ! (stop !)) (init ! 34 refl (Answered° .typed 𝓤 H A W (V₂ z) (is₁₂) .0)) $
+          land ! (from ! (stop !)) (init ! 34 refl (Answered° .typed 𝓤 H A W ((V₂ z) .answer) (is₁₂) .0)) $
           assigns ! (addr ! (from ! (fld ! refl (hop ! (look-in ! 44 (sub ! 0 refl (whole !))) (stop !))))) (from ! (stop !)) (init ! 12 refl (tt, tt)) $
           assigns ! (agg ! (and-then ! (load ! (from ! (stop !)) (look ! 12 refl)) (and-then ! (load ! (from ! (fld ! refl (stop !))) (look-in ! 44 (sub ! 1 refl (whole !)))) (no-more !)))) (from ! (stop !)) (init ! 10 refl (tt, (tt, (record { fits = room⁗ .0 }, tt)))) $
           nothing ! $
           move ! (6 ∷ 0 ∷ []) $
           join ! $
-          call-slices Fed° (number w64 ∷ Answered° ∷ Fed° ∷ []) ((a .0, (V₂ z, (z .1 .1 .1 .1, tt)))) (emp 𝓤) ((mutable u8 (z .1 .1 .1 .0) b⁗ o⁗ n⁗ (w .1 .1 .1 .0) room⁗) ∷ []) ! fm (λ r ws. (r ≡ (V₆ z)) × (ws .0 ≡ (V₇ z))) ((are .0, (is₁₂, (w .1 .1 .1 .1 .0, tt)))) (id⊢ 𝓤 (emp 𝓤))
-          (λ νs. cited 𝓤 H (tripleOf 𝓤 H A fn-feed-fed-answered.signature (fn-feed-fed-answered.spec 𝓤 H A (𝓜 .mem) (𝓡 .run))) 𝓜 𝓡 code.env fn-feed-fed-answered-def.name fn-feed-fed-answered-def.routine code.calls-feed·fed·answered (fn-feed-fed-answered-thm.met 𝓤 H 𝓜 𝓖 𝓡) (((νs .0 .0 ∷ [], tt), (fullShare, tt), tt, (lent-as b⁗ o⁗ (νs .0 .1) (z .1 .1 .1 .0), (a .0, (V₂ z, (z .1 .1 .1 .1, tt)))), (slice-of b⁗ o⁗ (z .1 .1 .1 .0) ∷ [], spell (number w64 ∷ Answered° ∷ Fed° ∷ []) ((a .0, (V₂ z, (z .1 .1 .1 .1, tt)))))), tt))
+          call-slices Fed° (number w64 ∷ Answered° ∷ Fed° ∷ []) ((a .0, ((V₂ z) .answer, (z .1 .1 .1 .1, tt)))) (emp 𝓤) ((mutable u8 (z .1 .1 .1 .0) b⁗ o⁗ n⁗ (w .1 .1 .1 .0) room⁗) ∷ []) ! fm (λ r ws. (r ≡ (V₃ z)) × (ws .0 ≡ (V₄ z))) ((are .0, (is₁₂, (w .1 .1 .1 .1 .0, tt)))) (id⊢ 𝓤 (emp 𝓤))
+          (λ νs. cited 𝓤 H (tripleOf 𝓤 H A fn-feed-fed-answered.signature (fn-feed-fed-answered.spec 𝓤 H A (𝓜 .mem) (𝓡 .run))) 𝓜 𝓡 code.env fn-feed-fed-answered-def.name fn-feed-fed-answered-def.routine code.calls-feed·fed·answered (fn-feed-fed-answered-thm.met 𝓤 H 𝓜 𝓖 𝓡) (((νs .0 .0 ∷ [], tt), (fullShare, tt), tt, (lent-as b⁗ o⁗ (νs .0 .1) (z .1 .1 .1 .0), (a .0, ((V₂ z) .answer, (z .1 .1 .1 .1, tt)))), (slice-of b⁗ o⁗ (z .1 .1 .1 .0) ∷ [], spell (number w64 ∷ Answered° ∷ Fed° ∷ []) ((a .0, ((V₂ z) .answer, (z .1 .1 .1 .1, tt)))))), tt))
           (λ k. and-then ! (load ! (from ! (stop !)) (look ! 10 refl)) (and-then ! (load ! (from ! (stop !)) (look ! 42 refl)) (and-then ! (load ! (from ! (stop !)) (look ! 34 refl)) (and-then ! (load ! (from ! (stop !)) (look ! 36 refl)) (no-more !))))) (λ r₁₃ ws₁₄ is₁₅ ls₁₆ e₁₇.
           split ! $
           move ! (1 ∷ []) $
           drop ! $
           rewrite ! 0 (λ (us : List ℕ). ‵ (row u8 fullShare us b⁗ o⁗)) (e₁₇ .1) refl $
           told ! Fed° (e₁₇ .0) is₁₅ (λ is₁₈.
-          land ! (from ! (stop !)) (init ! 32 refl (Fed° .typed 𝓤 H A W (V₆ z) (is₁₈) .0)) $
-          assigns-last ! (of-opd ! (load ! (from ! (stop !)) (look ! 32 refl))) (from ! (stop !)) (store ! 36 refl (Fed° .typed 𝓤 H A W (V₆ z) (is₁₈) .0)) $
+          land ! (from ! (stop !)) (init ! 32 refl (Fed° .typed 𝓤 H A W (V₃ z) (is₁₈) .0)) $
+          assigns-last ! (of-opd ! (load ! (from ! (stop !)) (look ! 32 refl))) (from ! (stop !)) (store ! 36 refl (Fed° .typed 𝓤 H A W (V₃ z) (is₁₈) .0)) $
           forget ! 34 refl $
           forget ! 32 refl $
           forget ! 30 refl $
@@ -274,7 +268,7 @@ module _ {M : Type 1} (𝓤 : URA M) (H : Heap 𝓤) (𝓜 : Model 𝓤 H) (𝓖
           forget ! 12 refl $
           forget ! 10 refl $
           move ! (5 ∷ 6 ∷ 4 ∷ 7 ∷ 3 ∷ 8 ∷ 1 ∷ 2 ∷ 0 ∷ 9 ∷ 10 ∷ 11 ∷ 12 ∷ 13 ∷ 14 ∷ 15 ∷ 16 ∷ 17 ∷ 18 ∷ 19 ∷ 20 ∷ 21 ∷ 22 ∷ 23 ∷ 24 ∷ 25 ∷ 26 ∷ 27 ∷ 28 ∷ 29 ∷ 30 ∷ 31 ∷ 32 ∷ 33 ∷ 34 ∷ 35 ∷ 36 ∷ 37 ∷ 38 ∷ 39 ∷ 40 ∷ 41 ∷ 42 ∷ 43 ∷ 44 ∷ 45 ∷ 46 ∷ 47 ∷ 48 ∷ 49 ∷ 50 ∷ 51 ∷ 52 ∷ 53 ∷ 54 ∷ 55 ∷ []) $
-          again ! nearer I (z, w) ((V₃ z, (V₄ z, (V₅ z, (V₇ z, V₆ z)))), ((w .0 ∙ sym (subst (λ (us : List Thread). length us ≡ length (z .0)) (e₁₁ .1 .0) (ls₁₀ .0))), ((w .1 .0 ∙ sym (subst (λ (us : List (List ℕ)). length us ≡ length (z .1 .0)) (e₁₁ .1 .1 .0) (ls₁₀ .1 .0))), ((w .1 .1 .0 ∙ sym (subst (λ (us : List (List ℕ)). length us ≡ length (z .1 .1 .0)) (e₁₁ .1 .1 .1) (ls₁₀ .1 .1 .0))), ((w .1 .1 .1 .0 ∙ sym (subst (λ (us : List ℕ). length us ≡ length (z .1 .1 .1 .0)) (e₁₇ .1) (ls₁₆ .0))), (is₁₈, (inv-next (a .0) ys‴ (a .0) (a .1 .0) (worldOf ys ys′ ys″ ys⁗ (a .1 .1 .0)) (worldOf (z .0) (z .1 .0) (z .1 .1 .0) (z .1 .1 .1 .0) (z .1 .1 .1 .1)) (w .1 .1 .1 .1 .1) h₁))))))) (inv-near ys‴ (a .0) (a .1 .0) (worldOf (z .0) (z .1 .0) (z .1 .1 .0) (z .1 .1 .1 .0) (z .1 .1 .1 .1)) h₁))))))
+          again ! nearer I (z, w) (((V₂ z) .memory .threads, ((V₂ z) .memory .cpus, ((V₂ z) .memory .nodes, (V₄ z, V₃ z)))), ((w .0 ∙ sym (subst (λ (us : List Thread). length us ≡ length (z .0)) (e₁₁ .1 .0) (ls₁₀ .0))), ((w .1 .0 ∙ sym (subst (λ (us : List (List ℕ)). length us ≡ length (z .1 .0)) (e₁₁ .1 .1 .0) (ls₁₀ .1 .0))), ((w .1 .1 .0 ∙ sym (subst (λ (us : List (List ℕ)). length us ≡ length (z .1 .1 .0)) (e₁₁ .1 .1 .1) (ls₁₀ .1 .1 .0))), ((w .1 .1 .1 .0 ∙ sym (subst (λ (us : List ℕ). length us ≡ length (z .1 .1 .1 .0)) (e₁₇ .1) (ls₁₆ .0))), (is₁₈, (inv-next (a .0) ys‴ (a .0) (a .1 .0) (worldOf ys ys′ ys″ ys⁗ (a .1 .1 .0)) (worldOf (z .0) (z .1 .0) (z .1 .1 .0) (z .1 .1 .1 .0) (z .1 .1 .1 .1)) (w .1 .1 .1 .1 .1) h₁))))))) (inv-near ys‴ (a .0) (a .1 .0) (worldOf (z .0) (z .1 .0) (z .1 .1 .0) (z .1 .1 .1 .0) (z .1 .1 .1 .1)) h₁))))))
           (λ h₁. exec ! C Λ En mir.t-3 (atRet En Post) $
           assigns ! (of-opd ! (load ! (from ! (stop !)) (look ! 36 refl))) (from ! (stop !)) (init ! 54 refl (Fed° .typed 𝓤 H A W (z .1 .1 .1 .1) (w .1 .1 .1 .1 .0) .0)) $
           move ! (0 ∷ 9 ∷ []) $
@@ -289,7 +283,7 @@ module _ {M : Type 1} (𝓤 : URA M) (H : Heap 𝓤) (𝓜 : Model 𝓤 H) (𝓖
           returns ! (look ! 54 refl) $
           move ! (54 ∷ 55 ∷ 52 ∷ 53 ∷ 50 ∷ 51 ∷ 48 ∷ 49 ∷ 46 ∷ 47 ∷ 44 ∷ 45 ∷ 42 ∷ 43 ∷ 40 ∷ 41 ∷ 38 ∷ 39 ∷ 36 ∷ 37 ∷ 34 ∷ 35 ∷ 32 ∷ 33 ∷ 30 ∷ 31 ∷ 28 ∷ 29 ∷ 26 ∷ 27 ∷ 24 ∷ 25 ∷ 22 ∷ 23 ∷ 20 ∷ 21 ∷ 18 ∷ 19 ∷ 16 ∷ 17 ∷ 14 ∷ 15 ∷ 12 ∷ 13 ∷ 10 ∷ 11 ∷ []) $
           all-freed ! mir.locals (l₀ ∷ l₁ ∷ l₂ ∷ l₃ ∷ l₄ ∷ l₅ ∷ l₆ ∷ l₇ ∷ l₈ ∷ l₉ ∷ l₁₀ ∷ l₁₁ ∷ l₁₂ ∷ l₁₃ ∷ l₁₄ ∷ l₁₅ ∷ l₁₆ ∷ l₁₇ ∷ l₁₈ ∷ l₁₉ ∷ l₂₀ ∷ l₂₁ ∷ l₂₂ ∷ []) (full _ ∷ full _ ∷ full _ ∷ full _ ∷ full _ ∷ full _ ∷ full _ ∷ full _ ∷ full _ ∷ full _ ∷ bare ∷ bare ∷ full _ ∷ full _ ∷ full _ ∷ bare ∷ bare ∷ bare ∷ bare ∷ bare ∷ bare ∷ bare ∷ bare ∷ []) tt $
-          suffices ! _ (ends-at 𝓤 H A run.ended stayed c W y _ (z .1 .1 .1 .1) (z .0, (z .1 .0, (z .1 .1 .0, (tt, (z .1 .1 .1 .0, (tt, (tt, (tt, tt)))))))) (sym (w .0), (sym (w .1 .0), (sym (w .1 .1 .0), (tt, (sym (w .1 .1 .1 .0), (tt, (tt, (tt, tt))))))))) $ says ! (by-world (worldOf (z .0) (z .1 .0) (z .1 .1 .0) (z .1 .1 .1 .0) (z .1 .1 .1 .1)) _ (inv-end (a .0) ys‴ (a .0) (a .1 .0) (worldOf ys ys′ ys″ ys⁗ (a .1 .1 .0)) (worldOf (z .0) (z .1 .0) (z .1 .1 .0) (z .1 .1 .1 .0) (z .1 .1 .1 .1)) (w .1 .1 .1 .1 .1) h₁)) $
+          suffices ! _ (ends-at 𝓤 H A run.ended stayed c W y _ (z .1 .1 .1 .1) (z .0, (z .1 .0, (z .1 .1 .0, (tt, (z .1 .1 .1 .0, (tt, (tt, (tt, tt)))))))) (sym (w .0), (sym (w .1 .0), (sym (w .1 .1 .0), (tt, (sym (w .1 .1 .1 .0), (tt, (tt, (tt, tt))))))))) $ says ! (so {X = World} (record { threads = (z .0); cpus = (z .1 .0); nodes = (z .1 .1 .0); output = (z .1 .1 .1 .0); fed = (z .1 .1 .1 .1) }) (runDef (a .0) ys‴ (a .0) (a .1 .0) (record { threads = ys; cpus = ys′; nodes = ys″; output = ys⁗; fed = (a .1 .1 .0) })) (inv-end (a .0) ys‴ (a .0) (a .1 .0) (worldOf ys ys′ ys″ ys⁗ (a .1 .1 .0)) (worldOf (z .0) (z .1 .0) (z .1 .1 .0) (z .1 .1 .1 .0) (z .1 .1 .1 .1)) (w .1 .1 .1 .1 .1) h₁)) $
           leaves5 ! Fed° Ds a (z .1 .1 .1 .1) are (w .1 .1 .1 .1 .0))))
 
     walk : ent 𝓤 (onEntry 𝓤 H A run.signature (κ, (κ′, (κ″, (κ‴, (κ⁗, tt))))) (q, (q′, (q″, (q‴, (q⁗, tt))))) ((lent-as b o γ ys, (lent-as b′ o′ γ′ ys′, (lent-as b″ o″ γ″ ys″, (lent-as b‴ o‴ γ‴ ys‴, (lent-as b⁗ o⁗ γ⁗ ys⁗, a)))))) ((s ∷ [], (s′ ∷ [], (s″ ∷ [], (s‴ ∷ [], (s⁗ ∷ [], spell Ds a))))))) (WpFn 𝓤 H C Λ code.function (s ∷ s′ ∷ s″ ∷ s‴ ∷ s⁗ ∷ listed Ds a) Post)

@@ -11,9 +11,6 @@ use mathlib.Core.Path.{_≡_}
 use borrow.Author.Needs.{needs}
 use Rattle.feed.proofs.start.new_cpus.Statement.{statement}
 use Rattle.feed.proofs.start.new_cpus.Tie as tie
-use Rattle.feed.proofs.start.new_cpus.Reads as reads
-use Rattle.feed.proofs.start.new_cpus.Lts as lts
-use Rattle.feed.proofs.start.new_cpu.Reads as new-cpu-reads
 
 abbrev Inv-loop : tie.InvT-loop
 Inv-loop cpus₀ c₀ cpus c = (c ≤ 64) × ((length cpus ≡ length cpus₀) × (cpus ≡ newCpus c cpus₀))
@@ -21,32 +18,25 @@ Inv-loop cpus₀ c₀ cpus c = (c ≤ 64) × ((length cpus ≡ length cpus₀) �
 abbrev μ-loop : tie.MeasureT-loop
 μ-loop cpus₀ c₀ cpus c = 64 - c
 
--- src/start.rt:70:5
 loop-holds : tie.Need-loop-holds Inv-loop μ-loop
 unfolding newCpus
 loop-holds c = (omega arith, (refl, refl))
 
--- src/start.rt:71:9
 new-cpu-requires : tie.Need-new-cpu-requires Inv-loop μ-loop
 new-cpu-requires c κs = search needs
 
--- src/start.rt:72:9
 add-c : tie.Need-add-c Inv-loop μ-loop
 add-c c = search needs
 
--- src/start.rt:70:5
 loop-less : tie.Need-loop-less Inv-loop μ-loop
 loop-less c = search needs
 
--- src/start.rt:70:5
 loop-again : tie.Need-loop-again Inv-loop μ-loop
 loop-again c = (omega arith, (c .before .new-cpu .kept .0 ∙ c .before .before .before .before .loop .inv .1 .0, c .before .new-cpu .ensures ∙ one-cpu-more _ _ _ (c .before .before .before .before .loop .inv .1 .1)))
 
--- src/start.rt:66:1
 same-length : tie.Need-same-length Inv-loop μ-loop
 same-length c = search needs
 
--- src/start.rt:66:1
 returns : tie.Need-returns Inv-loop μ-loop
 returns c = every-cpu _ _ _ (c .before .loop .inv .1 .1) 64 (c .before .loop .inv .0) (c .loop-test .left)
 

@@ -4,20 +4,15 @@ use borrow.Author.Tests.{lt-ltb}
 use borrow.Author.Needs.{needs}
 use Rattle.feed.proofs.start.no_room.Statement.{statement}
 use Rattle.feed.proofs.start.no_room.Tie as tie
-use Rattle.feed.proofs.start.no_room.Reads as reads
-use Rattle.feed.proofs.start.no_room.Lts as lts
 
--- src/start.rt:80:9
 returns : tie.Need-returns
 unfolding noRoom
 returns c = rw (lt-ltb _ _ (c .if1 .taken))
 
--- src/start.rt:83:9
 returns-2 : tie.Need-returns-2
 unfolding noRoom
 returns-2 c = rw (le-ltb _ _ (c .before .if1 .left), lt-ltb _ _ (c .if2 .taken))
 
--- src/start.rt:76:1
 returns-3 : tie.Need-returns-3
 unfolding noRoom
 returns-3 c = rw (le-ltb _ _ (c .before .if1 .left), le-ltb _ _ (c .if2 .left))

@@ -2,10 +2,7 @@ use borrow.Author.Needs.{needs}
 use Rattle.feed.specs.Start.{initial}
 use Rattle.feed.proofs.start.ready.Statement.{statement}
 use Rattle.feed.proofs.start.ready.Tie as tie
-use Rattle.feed.proofs.start.ready.Reads as reads
-use Rattle.feed.proofs.start.ready.Lts as lts
 
--- src/start.rt:94:1
 returns : tie.Need-returns
 unfolding initial
 returns c = search needs

@@ -32,12 +32,12 @@ use denote.Triple.Table.{cited}
 use denote.Triple.Clauses.{Clauses}
 use denote.Triple.Walked.{says, Stays, stay-slice, walkOf, goes-slice, ends-at}
 use Rattle.lent.proofs.Walk.{Datum, number, truth, nil, struct, Dens, AreD, listed, spell, lent-as, slice-of, kept, opened, closed, guards, bare, full, told, proved}
-use Rattle.lent.proofs.Lent.{mutable, shared, choice, call-slices, all-freed, no, yes, begins3, leaves3}
+use Rattle.lent.proofs.Lent.{mutable, shared, choice, call-slices, all-freed, no, yes, so, begins3, leaves3}
+use Rattle.command.specs.Lent.{Lent}
+use Rattle.feed.specs.Start.{startDef, noRoom, newCpus, initial}
+use Rattle.lent.specs.Left.{Left}
 use Rattle.nodes.specs.Node.{new-root}
-use Rattle.feed.specs.Start.{noRoom, initial, newCpus, startDef}
-use Rattle.feed.proofs.Feeding.{by-start}
 use Rattle.thread.specs.Thread.{blank}
-use Rattle.feed.specs.declared.start.Started.the-variants as started
 use denote.Struct.Laws as LL
 use Rattle.feed.specs.declared.start.Started.{Started}
 use Rattle.feed.proofs.start.Started as Started·
@@ -163,12 +163,12 @@ module _ {M : Type 1} (𝓤 : URA M) (H : Heap 𝓤) (𝓜 : Model 𝓤 H) (𝓖
         guards ! (load ! (from ! (stop !)) (look ! 28 refl))
         (λ h₁.
         nothing ! $
-        call-slices Started° ([]) tt (emp 𝓤) ([]) ! fm (λ r ws. r ≡ started.NoRoom) tt (id⊢ 𝓤 (emp 𝓤))
+        call-slices Started° ([]) tt (emp 𝓤) ([]) ! fm (λ r ws. r ≡ Started.NoRoom) tt (id⊢ 𝓤 (emp 𝓤))
         (λ νs. cited 𝓤 H (tripleOf 𝓤 H A fn-feed-start-refused.signature (fn-feed-start-refused.spec 𝓤 H A (𝓜 .mem) (𝓡 .run))) 𝓜 𝓡 code.env fn-feed-start-refused-def.name fn-feed-start-refused-def.routine code.calls-feed·start·refused (fn-feed-start-refused-thm.met 𝓤 H 𝓜 𝓖 𝓡) ((tt, tt, tt, tt, spell ([]) tt), tt))
         (λ k. no-more !) (λ r₇ ws₈ is₉ ls₁₀ e₁₁.
         drop ! $
         told ! Started° (e₁₁) is₉ (λ is₁₂.
-        land ! (from ! (stop !)) (init ! 38 refl (Started° .typed 𝓤 H A W (started.NoRoom) (is₁₂) .0)) $
+        land ! (from ! (stop !)) (init ! 38 refl (Started° .typed 𝓤 H A W (Started.NoRoom) (is₁₂) .0)) $
         move ! (0 ∷ 5 ∷ []) $
         closed ! tt (Array u64 32) ys″ (ys″) b″ o″ room″ (sym refl) $
         move ! (2 ∷ 5 ∷ []) $
@@ -178,8 +178,8 @@ module _ {M : Type 1} (𝓤 : URA M) (H : Heap 𝓤) (𝓜 : Model 𝓤 H) (𝓖
         returns-within ! Post refl (look ! 38 refl) $
         move ! (38 ∷ 39 ∷ 36 ∷ 37 ∷ 34 ∷ 35 ∷ 32 ∷ 33 ∷ 30 ∷ 31 ∷ 28 ∷ 29 ∷ 26 ∷ 27 ∷ 24 ∷ 25 ∷ 22 ∷ 23 ∷ 20 ∷ 21 ∷ 18 ∷ 19 ∷ 16 ∷ 17 ∷ 14 ∷ 15 ∷ 12 ∷ 13 ∷ 10 ∷ 11 ∷ 8 ∷ 9 ∷ 6 ∷ 7 ∷ []) $
         all-freed ! mir.locals (l₀ ∷ l₁ ∷ l₂ ∷ l₃ ∷ l₄ ∷ l₅ ∷ l₆ ∷ l₇ ∷ l₈ ∷ l₉ ∷ l₁₀ ∷ l₁₁ ∷ l₁₂ ∷ l₁₃ ∷ l₁₄ ∷ l₁₅ ∷ l₁₆ ∷ []) (full _ ∷ full _ ∷ full _ ∷ full _ ∷ full _ ∷ full _ ∷ full _ ∷ full _ ∷ full _ ∷ full _ ∷ bare ∷ bare ∷ bare ∷ bare ∷ bare ∷ bare ∷ bare ∷ []) tt $
-        suffices ! _ (ends-at 𝓤 H A start.ended stayed c W y _ (started.NoRoom) (ys, (ys′, (ys″, tt))) (sym refl, (sym refl, (sym refl, tt)))) $ says ! (by-start (record { answer = started.NoRoom; threads = ys; cpus = ys′; nodes = ys″ }) (startDef ys ys′ ys″) ((yes (V₁) h₁ _ (refl)))) $
-        leaves3 ! Started° Ds a (started.NoRoom) are (is₁₂))))
+        suffices ! _ (ends-at 𝓤 H A start.ended stayed c W y _ (Started.NoRoom) (ys, (ys′, (ys″, tt))) (sym refl, (sym refl, (sym refl, tt)))) $ says ! (so {X = Left Started Lent} (record { answer = Started.NoRoom; memory = record { threads = ys; cpus = ys′; nodes = ys″ } }) (startDef (record { threads = ys; cpus = ys′; nodes = ys″ })) ((yes (V₁) h₁ _ (refl)))) $
+        leaves3 ! Started° Ds a (Started.NoRoom) are (is₁₂))))
         (λ h₁.
         assigns ! (addr ! (from ! (fld ! refl (hop ! (look-in ! 36 (sub ! 0 refl (whole !))) (stop !))))) (from ! (stop !)) (init ! 16 refl (tt, tt)) $
         assigns ! (agg ! (and-then ! (load ! (from ! (stop !)) (look ! 16 refl)) (and-then ! (load ! (from ! (fld ! refl (stop !))) (look-in ! 36 (sub ! 1 refl (whole !)))) (no-more !)))) (from ! (stop !)) (init ! 14 refl (tt, (tt, (record { fits = room .0 }, tt)))) $
@@ -221,12 +221,12 @@ module _ {M : Type 1} (𝓤 : URA M) (H : Heap 𝓤) (𝓜 : Model 𝓤 H) (𝓖
         rewrite ! 0 (λ (us : List (List ℕ)). ‵ (row (Array u64 32) fullShare us b″ o″)) (e₂₇) refl $
         land ! (from ! (stop !)) (store ! 18 refl (tt, tt)) $
         nothing ! $
-        call-slices Started° ([]) tt (emp 𝓤) ([]) ! fm (λ r ws. r ≡ (started.Ready initial)) tt (id⊢ 𝓤 (emp 𝓤))
+        call-slices Started° ([]) tt (emp 𝓤) ([]) ! fm (λ r ws. r ≡ (Started.Ready initial)) tt (id⊢ 𝓤 (emp 𝓤))
         (λ νs. cited 𝓤 H (tripleOf 𝓤 H A fn-feed-start-ready.signature (fn-feed-start-ready.spec 𝓤 H A (𝓜 .mem) (𝓡 .run))) 𝓜 𝓡 code.env fn-feed-start-ready-def.name fn-feed-start-ready-def.routine code.calls-feed·start·ready (fn-feed-start-ready-thm.met 𝓤 H 𝓜 𝓖 𝓡) ((tt, tt, tt, tt, spell ([]) tt), tt))
         (λ k. no-more !) (λ r₂₈ ws₂₉ is₃₀ ls₃₁ e₃₂.
         drop ! $
         told ! Started° (e₃₂) is₃₀ (λ is₃₃.
-        land ! (from ! (stop !)) (init ! 38 refl (Started° .typed 𝓤 H A W (started.Ready initial) (is₃₃) .0)) $
+        land ! (from ! (stop !)) (init ! 38 refl (Started° .typed 𝓤 H A W (Started.Ready initial) (is₃₃) .0)) $
         move ! (0 ∷ 5 ∷ []) $
         closed ! tt (Array u64 32) ys″ (new-root ys″) b″ o″ room″ (sym ((refl ∙ sym (subst (λ (us : List (List ℕ)). length us ≡ length ys″) (e₂₇) (ls₂₆ .0))))) $
         move ! (2 ∷ 5 ∷ []) $
@@ -236,8 +236,8 @@ module _ {M : Type 1} (𝓤 : URA M) (H : Heap 𝓤) (𝓜 : Model 𝓤 H) (𝓖
         returns ! (look ! 38 refl) $
         move ! (38 ∷ 39 ∷ 36 ∷ 37 ∷ 34 ∷ 35 ∷ 32 ∷ 33 ∷ 30 ∷ 31 ∷ 28 ∷ 29 ∷ 26 ∷ 27 ∷ 24 ∷ 25 ∷ 22 ∷ 23 ∷ 20 ∷ 21 ∷ 18 ∷ 19 ∷ 16 ∷ 17 ∷ 14 ∷ 15 ∷ 12 ∷ 13 ∷ 10 ∷ 11 ∷ 8 ∷ 9 ∷ 6 ∷ 7 ∷ []) $
         all-freed ! mir.locals (l₀ ∷ l₁ ∷ l₂ ∷ l₃ ∷ l₄ ∷ l₅ ∷ l₆ ∷ l₇ ∷ l₈ ∷ l₉ ∷ l₁₀ ∷ l₁₁ ∷ l₁₂ ∷ l₁₃ ∷ l₁₄ ∷ l₁₅ ∷ l₁₆ ∷ []) (full _ ∷ full _ ∷ full _ ∷ full _ ∷ full _ ∷ full _ ∷ full _ ∷ full _ ∷ full _ ∷ full _ ∷ full _ ∷ full _ ∷ full _ ∷ full _ ∷ full _ ∷ full _ ∷ full _ ∷ []) tt $
-        suffices ! _ (ends-at 𝓤 H A start.ended stayed c W y _ (started.Ready initial) (V₂, (newCpus 64 ys′, (new-root ys″, tt))) (sym ((refl ∙ sym (subst (λ (us : List Thread). length us ≡ length ys) (e₁₇) (ls₁₆ .0)))), (sym ((refl ∙ sym (subst (λ (us : List (List ℕ)). length us ≡ length ys′) (e₂₂) (ls₂₁ .0)))), (sym ((refl ∙ sym (subst (λ (us : List (List ℕ)). length us ≡ length ys″) (e₂₇) (ls₂₆ .0)))), tt)))) $ says ! (by-start (record { answer = (started.Ready initial); threads = V₂; cpus = (newCpus 64 ys′); nodes = (new-root ys″) }) (startDef ys ys′ ys″) ((no (V₁) h₁ _ (refl)))) $
-        leaves3 ! Started° Ds a (started.Ready initial) are (is₃₃))))))))))))))))))))))))))
+        suffices ! _ (ends-at 𝓤 H A start.ended stayed c W y _ (Started.Ready initial) (V₂, (newCpus 64 ys′, (new-root ys″, tt))) (sym ((refl ∙ sym (subst (λ (us : List Thread). length us ≡ length ys) (e₁₇) (ls₁₆ .0)))), (sym ((refl ∙ sym (subst (λ (us : List (List ℕ)). length us ≡ length ys′) (e₂₂) (ls₂₁ .0)))), (sym ((refl ∙ sym (subst (λ (us : List (List ℕ)). length us ≡ length ys″) (e₂₇) (ls₂₆ .0)))), tt)))) $ says ! (so {X = Left Started Lent} (record { answer = (Started.Ready initial); memory = record { threads = V₂; cpus = (newCpus 64 ys′); nodes = (new-root ys″) } }) (startDef (record { threads = ys; cpus = ys′; nodes = ys″ })) ((no (V₁) h₁ _ (refl)))) $
+        leaves3 ! Started° Ds a (Started.Ready initial) are (is₃₃))))))))))))))))))))))))))
 
 pub start-spec : {M : Type 1} → stated.statement M
 unfolding code.routine

@@ -37,8 +37,8 @@ use denote.Triple.Clauses.{Clauses}
 use denote.Triple.Walked.{says, Stays, stay-slice, walkOf, goes-slice, ends-at}
 use Rattle.lent.proofs.Walk.{Datum, number, nil, struct, Dens, AreD, listed, spell, lent-as, slice-of, kept, opened, closed, whiles, env-of, standing, bare, full, told, proved}
 use Rattle.lent.proofs.Lent.{mutable, call-slices, all-freed, begins1, leaves1}
-use Rattle.thread.specs.Thread.{blank}
 use Rattle.lent.proofs.Cleared.{cleared, cleared-step, cleared-all}
+use Rattle.thread.specs.Thread.{blank}
 use denote.Struct.Laws as LL
 use Rattle.thread.specs.declared.Thread.{Thread}
 use Rattle.thread.proofs.Thread as Thread·
@@ -115,10 +115,10 @@ module _ {M : Type 1} (𝓤 : URA M) (H : Heap 𝓤) (𝓜 : Model 𝓤 H) (𝓖
       abbrev I : X → List (Item 𝓤)
       I t = ‵ (row Thread·.the-row fullShare (t .0 .0) b o) ∷ ‵ (kept Thread·.the-row κ q γ b o ys) ∷ standing 𝓤 mir.locals (l₀ ∷ l₁ ∷ l₂ ∷ l₃ ∷ l₄ ∷ l₅ ∷ l₆ ∷ l₇ ∷ l₈ ∷ []) (bare ∷ full s ∷ full (Thread° .val (blank)) ∷ full ((number w64) .val (t .0 .1)) ∷ bare ∷ bare ∷ bare ∷ bare ∷ bare ∷ []) []
 
-      abbrev Left : Outcome → SProp 𝓤
-      Left = afterBlock 𝓤 H (afterSeq 𝓤 H (Wp 𝓤 H C Λ En mir.t-4 (atReturn 𝓤 H En Post)) (atReturn 𝓤 H En Post))
+      abbrev Rest : Outcome → SProp 𝓤
+      Rest = afterBlock 𝓤 H (afterSeq 𝓤 H (Wp 𝓤 H C Λ En mir.t-4 (atReturn 𝓤 H En Post)) (atReturn 𝓤 H En Post))
 
-      turn : (z : Z) (w : Facts z) (c₂ : Is Thread·.the-row (blank) (Thread° .val (blank) ∷ [])) → Sq W (I (z, w)) (runs C Λ En mir.turn-1 (anyQ (afterTurn 𝓤 H (Below 𝓤 H A nearer I (z, w)) Left)))
+      turn : (z : Z) (w : Facts z) (c₂ : Is Thread·.the-row (blank) (Thread° .val (blank) ∷ [])) → Sq W (I (z, w)) (runs C Λ En mir.turn-1 (anyQ (afterTurn 𝓤 H (Below 𝓤 H A nearer I (z, w)) Rest)))
       unfolding afterTurn
       turn z w c₂ =
           assigns ! (of-opd ! (load ! (from ! (fld ! refl (stop !))) (look-in ! 16 (sub ! 1 refl (whole !))))) (from ! (stop !)) (init ! 10 refl (tt, record { fits = room .0 })) $

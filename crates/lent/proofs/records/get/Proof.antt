@@ -32,8 +32,8 @@ use denote.Triple.Walked.{says, Stays, stay-none, stay-none-slice, walkOf, goes-
 use denote.Exit.{yes as kept-yes}
 use Rattle.lent.proofs.Walk.{Datum, number, struct, Dens, AreD, listed, spell, lent-as, slice-of, kept, guards, full, told, proved}
 use Rattle.lent.proofs.Lent.{passed, call-slices, all-freed, no, yes, begins1, leaves1}
-use Rattle.thread.specs.Thread.{blank}
 use Rattle.lent.proofs.Past.{get-past}
+use Rattle.thread.specs.Thread.{blank}
 use denote.Struct.Laws as LL
 use Rattle.thread.specs.declared.Thread.{Thread}
 use Rattle.thread.proofs.Thread as Thread·

@@ -2,20 +2,13 @@ use Rattle.lent.specs.Rq.{arrivalOf}
 use borrow.Author.Needs.{needs}
 use Rattle.lent.proofs.rq.arrival.Statement.{statement}
 use Rattle.lent.proofs.rq.arrival.Tie as tie
-use Rattle.lent.proofs.rq.arrival.Reads as reads
-use Rattle.lent.proofs.rq.arrival.Lts as lts
-use Rattle.lent.proofs.rq.is_pinned.Reads as is-pinned-reads
-use Rattle.thread.proofs.Thread.effective_priority.Reads as effective-priority-reads
 
--- src/rq.rt:43:9
 effective-priority-requires : tie.Need-effective-priority-requires
 effective-priority-requires c κs = search needs
 
--- src/rq.rt:44:9
 is-pinned-requires : tie.Need-is-pinned-requires
 is-pinned-requires c κs = search needs
 
--- src/rq.rt:40:1
 returns : tie.Need-returns
 unfolding arrivalOf
 returns c = rw (c .before .is-pinned .ensures, c .before .before .effective-priority .ensures)

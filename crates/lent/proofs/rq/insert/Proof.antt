@@ -32,12 +32,12 @@ use denote.Triple.Clauses.{Clauses}
 use denote.Triple.Walked.{says, Stays, stay-none, stay-slice, walkOf, goes-none, goes-slice, ends-at}
 use denote.Exit.{yes as kept-yes}
 use Rattle.lent.proofs.Walk.{Datum, number, truth, nil, struct, Dens, AreD, listed, spell, lent-as, slice-of, kept, opened, closed, env-of, standing, bare, full, told, proved}
-use Rattle.lent.proofs.Lent.{mutable, shared, choice, call-slices, all-freed, begins2, leaves2}
-use Rattle.thread.specs.Thread.{blank}
-use Rattle.runqueue.specs.RunQueue.{rqInsert}
+use Rattle.lent.proofs.Lent.{mutable, shared, choice, call-slices, all-freed, so, begins2, leaves2}
+use Rattle.lent.specs.Left.{Memory}
+use Rattle.lent.specs.Rq.{insertDef, arrivalOf, putIn, linkBehind}
 use Rattle.processor.specs.Queue.{queueAt, queueStored}
-use Rattle.lent.specs.Rq.{arrivalOf, putIn, linkBehind}
-use Rattle.lent.proofs.Exits.{inserted-is}
+use Rattle.runqueue.specs.RunQueue.{rqInsert}
+use Rattle.thread.specs.Thread.{blank}
 use denote.Struct.Laws as LL
 use Rattle.runqueue.specs.declared.rq.Arrival.{Arrival}
 use Rattle.runqueue.proofs.rq.Arrival as Arrival·
@@ -160,6 +160,7 @@ module _ {M : Type 1} (𝓤 : URA M) (H : Heap 𝓤) (𝓜 : Model 𝓤 H) (𝓖
       En = env-of mir.locals (l₀ ∷ l₁ ∷ l₂ ∷ l₃ ∷ l₄ ∷ l₅ ∷ l₆ ∷ l₇ ∷ l₈ ∷ l₉ ∷ l₁₀ ∷ l₁₁ ∷ l₁₂ ∷ l₁₃ ∷ l₁₄ ∷ l₁₅ ∷ l₁₆ ∷ l₁₇ ∷ l₁₈ ∷ l₁₉ ∷ l₂₀ ∷ l₂₁ ∷ l₂₂ ∷ [])
 
       part-19 : (e₁₀₀ : n ≡ length (V₅)) (e₁₀₁ : n′ ≡ length (V₃)) → Sq W (‵ (row Thread·.the-row fullShare (V₅) b o) ∷ ‵ (kept Thread·.the-row κ q γ b o ys) ∷ ‵ (row (Array u64 96) fullShare (V₃) b′ o′) ∷ ‵ (kept (Array u64 96) κ′ q′ γ′ b′ o′ ys′) ∷ standing 𝓤 mir.locals (l₀ ∷ l₁ ∷ l₂ ∷ l₃ ∷ l₄ ∷ l₅ ∷ l₆ ∷ l₇ ∷ l₈ ∷ l₉ ∷ l₁₀ ∷ l₁₁ ∷ l₁₂ ∷ l₁₃ ∷ l₁₄ ∷ l₁₅ ∷ l₁₆ ∷ l₁₇ ∷ l₁₈ ∷ l₁₉ ∷ l₂₀ ∷ l₂₁ ∷ l₂₂ ∷ []) (bare ∷ full s ∷ full s′ ∷ full ((number w64) .val (a .0)) ∷ full ((number w64) .val (a .1 .0)) ∷ full ((number w64) .val (a .1 .1 .0)) ∷ bare ∷ bare ∷ bare ∷ bare ∷ bare ∷ bare ∷ bare ∷ bare ∷ bare ∷ bare ∷ bare ∷ bare ∷ bare ∷ bare ∷ bare ∷ bare ∷ bare ∷ []) []) (runs C Λ En mir.t-19 (atRet En Post))
+      unfolding insertDef
       part-19 e₁₀₀ e₁₀₁ =
           assigns ! (of-opd ! (unit-lit !)) (from ! (stop !)) (init ! 48 refl (tt, tt)) $
           move ! (2 ∷ 3 ∷ []) $
@@ -169,10 +170,11 @@ module _ {M : Type 1} (𝓤 : URA M) (H : Heap 𝓤) (𝓜 : Model 𝓤 H) (𝓖
           returns ! (look ! 48 refl) $
           move ! (48 ∷ 49 ∷ 46 ∷ 47 ∷ 44 ∷ 45 ∷ 42 ∷ 43 ∷ 40 ∷ 41 ∷ 38 ∷ 39 ∷ 36 ∷ 37 ∷ 34 ∷ 35 ∷ 32 ∷ 33 ∷ 30 ∷ 31 ∷ 28 ∷ 29 ∷ 26 ∷ 27 ∷ 24 ∷ 25 ∷ 22 ∷ 23 ∷ 20 ∷ 21 ∷ 18 ∷ 19 ∷ 16 ∷ 17 ∷ 14 ∷ 15 ∷ 12 ∷ 13 ∷ 10 ∷ 11 ∷ 8 ∷ 9 ∷ 6 ∷ 7 ∷ 4 ∷ 5 ∷ []) $
           all-freed ! mir.locals (l₀ ∷ l₁ ∷ l₂ ∷ l₃ ∷ l₄ ∷ l₅ ∷ l₆ ∷ l₇ ∷ l₈ ∷ l₉ ∷ l₁₀ ∷ l₁₁ ∷ l₁₂ ∷ l₁₃ ∷ l₁₄ ∷ l₁₅ ∷ l₁₆ ∷ l₁₇ ∷ l₁₈ ∷ l₁₉ ∷ l₂₀ ∷ l₂₁ ∷ l₂₂ ∷ []) (full _ ∷ full _ ∷ full _ ∷ full _ ∷ full _ ∷ full _ ∷ bare ∷ bare ∷ bare ∷ bare ∷ bare ∷ bare ∷ bare ∷ bare ∷ bare ∷ bare ∷ bare ∷ bare ∷ bare ∷ bare ∷ bare ∷ bare ∷ bare ∷ []) tt $
-          suffices ! _ (ends-at 𝓤 H A insert.ended stayed c W y _ (tt) (V₅, (V₃, (tt, (tt, (tt, (tt, tt)))))) (sym e₁₀₀, (sym e₁₀₁, (tt, (tt, (tt, (tt, tt))))))) $ says ! (inserted-is ys ys′ (a .0) (a .1 .0) (a .1 .1 .0) (a .1 .1 .1 .0)) $
+          suffices ! _ (ends-at 𝓤 H A insert.ended stayed c W y _ (tt) (V₅, (V₃, (tt, (tt, (tt, (tt, tt)))))) (sym e₁₀₀, (sym e₁₀₁, (tt, (tt, (tt, (tt, tt))))))) $ says ! (so {X = Memory} (record { threads = V₅; cpus = V₃ }) (insertDef (a .0) (a .1 .0) (a .1 .1 .0) (a .1 .1 .1 .0) (record { threads = ys; cpus = ys′ })) (refl)) $
           leaves2 ! nil Ds a (tt) are (refl)
 
     walk : ent 𝓤 (onEntry 𝓤 H A insert.signature (κ, (κ′, tt)) (q, (q′, tt)) ((lent-as b o γ ys, (lent-as b′ o′ γ′ ys′, a))) ((s ∷ [], (s′ ∷ [], spell Ds a)))) (WpFn 𝓤 H C Λ code.function (s ∷ s′ ∷ listed Ds a) Post)
+    unfolding insertDef
     walk =
         qed W ((‵ (flft κ q) ⊛ (‵ (flft κ′ q′) ⊛ (‵ ftrue))) ∷ ‵ (owns (MutSlice (named 0) κ Thread·.the-row ∷ MutSlice (named 1) κ′ (Array u64 96) ∷ u64 ∷ u64 ∷ u64 ∷ bool ∷ []) ((lent-as b o γ ys, (lent-as b′ o′ γ′ ys′, a))) ((s ∷ [], (s′ ∷ [], spell Ds a)))) ∷ []) ∵ begins2 ! $ enter ! C _ code.function (s ∷ s′ ∷ listed Ds a) _ $
         alloc1 ! (λ l₀. alloc1 ! (λ l₁. alloc1 ! (λ l₂. alloc1 ! (λ l₃. alloc1 ! (λ l₄. alloc1 ! (λ l₅. alloc1 ! (λ l₆. alloc1 ! (λ l₇. alloc1 ! (λ l₈. alloc1 ! (λ l₉. alloc1 ! (λ l₁₀. alloc1 ! (λ l₁₁. alloc1 ! (λ l₁₂. alloc1 ! (λ l₁₃. alloc1 ! (λ l₁₄. alloc1 ! (λ l₁₅. alloc1 ! (λ l₁₆. alloc1 ! (λ l₁₇. alloc1 ! (λ l₁₈. alloc1 ! (λ l₁₉. alloc1 ! (λ l₂₀. alloc1 ! (λ l₂₁. alloc1 ! (λ l₂₂. alloc0 ! $ params1 ! $

@@ -2,23 +2,17 @@ use Rattle.lent.specs.Rq.{isNothing}
 use borrow.Author.Needs.{needs}
 use Rattle.lent.proofs.rq.is_nothing.Statement.{statement}
 use Rattle.lent.proofs.rq.is_nothing.Tie as tie
-use Rattle.lent.proofs.rq.is_nothing.Reads as reads
-use Rattle.lent.proofs.rq.is_nothing.Lts as lts
 
--- src/rq.rt:114:14
 enum-told : tie.Need-enum-told
 enum-told c = search needs
 
--- src/rq.rt:115:27
 enum-told-2 : tie.Need-enum-told-2
 enum-told-2 c = search needs
 
--- src/rq.rt:106:1
 returns : tie.Need-returns
 unfolding isNothing
 returns c = search needs
 
--- src/rq.rt:106:1
 returns-2 : tie.Need-returns-2
 unfolding isNothing
 returns-2 c = search needs

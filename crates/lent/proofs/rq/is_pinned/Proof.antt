@@ -3,28 +3,20 @@ use Rattle.thread.specs.Reads.{cpu-in, named, reads}
 use borrow.Author.Needs.{needs}
 use Rattle.lent.proofs.rq.is_pinned.Statement.{statement}
 use Rattle.lent.proofs.rq.is_pinned.Tie as tie
-use Rattle.lent.proofs.rq.is_pinned.Reads as reads
-use Rattle.lent.proofs.rq.is_pinned.Lts as lts
-use Rattle.thread.proofs.Thread.pinned_to.Reads as pinned-to-reads
 
--- src/rq.rt:32:9
 pinned-to-requires : tie.Need-pinned-to-requires
 pinned-to-requires c κs = search needs
 
--- src/rq.rt:34:25
 enum-known-cpu : tie.Need-enum-known-cpu
 enum-known-cpu c = search needs
 
--- src/rq.rt:35:28
 enum-told : tie.Need-enum-told
 enum-told c = search needs
 
--- src/rq.rt:29:1
 returns : tie.Need-returns
 unfolding pinned is-some reads named cpu-in
 returns c = search needs
 
--- src/rq.rt:29:1
 returns-2 : tie.Need-returns-2
 unfolding pinned is-some reads named cpu-in
 returns-2 c = search needs

@@ -33,8 +33,8 @@ use denote.Triple.Walked.{says, Stays, stay-none, stay-slice, walkOf, goes-none,
 use denote.Exit.{yes as kept-yes}
 use Rattle.lent.proofs.Walk.{Datum, number, truth, nil, struct, Dens, AreD, listed, spell, lent-as, slice-of, kept, opened, closed, guards, bare, full, told, proved}
 use Rattle.lent.proofs.Lent.{mutable, shared, call-slices, all-freed, no, yes, begins1, leaves1}
-use Rattle.thread.specs.Thread.{blank, NONE, with-next}
 use Rattle.lent.proofs.Exits.{linked-is}
+use Rattle.thread.specs.Thread.{NONE, blank, with-next}
 use denote.Struct.Laws as LL
 use Rattle.thread.specs.declared.Thread.{Thread}
 use Rattle.thread.proofs.Thread as Thread·

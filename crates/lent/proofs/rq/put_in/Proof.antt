@@ -2,47 +2,33 @@ use Rattle.lent.specs.Rq.{putIn, steadyIn}
 use borrow.Author.Needs.{needs}
 use Rattle.lent.proofs.rq.put_in.Statement.{statement}
 use Rattle.lent.proofs.rq.put_in.Tie as tie
-use Rattle.lent.proofs.rq.put_in.Reads as reads
-use Rattle.lent.proofs.rq.put_in.Lts as lts
-use Rattle.lent.proofs.rq.steadied.Reads as steadied-reads
-use Rattle.thread.proofs.Thread.set_next.Reads as set-next-reads
-use Rattle.thread.proofs.Thread.waiting.Reads as waiting-reads
 
--- src/rq.rt:58:16
 waiting-requires : tie.Need-waiting-requires
 waiting-requires c κs = search needs
 
--- src/rq.rt:58:9
 set-next-requires : tie.Need-set-next-requires
 set-next-requires c κs = search needs
 
--- src/rq.rt:60:27
 enum-told : tie.Need-enum-told
 enum-told c = search needs
 
--- src/rq.rt:61:28
 enum-told-2 : tie.Need-enum-told-2
 enum-told-2 c = search needs
 
--- src/rq.rt:61:28
 steadied-requires : tie.Need-steadied-requires
 steadied-requires c κs = search needs
 
--- src/rq.rt:62:23
 enum-told-3 : tie.Need-enum-told-3
 enum-told-3 c = search needs
 
--- src/rq.rt:55:1
 returns : tie.Need-returns
 unfolding putIn steadyIn
 returns c = rw (c .enum-told .given .1, c .before .before .set-next .ensures, c .before .before .before .waiting .ensures)
 
--- src/rq.rt:55:1
 returns-2 : tie.Need-returns-2
 unfolding putIn steadyIn
 returns-2 c = rw (c .before .enum-told2 .given .1, c .steadied .ensures, c .before .before .before .set-next .ensures, c .before .before .before .before .waiting .ensures)
 
--- src/rq.rt:55:1
 returns-3 : tie.Need-returns-3
 unfolding putIn steadyIn
 returns-3 c = rw (c .enum-told3 .given .1, c .before .before .set-next .ensures, c .before .before .before .waiting .ensures)

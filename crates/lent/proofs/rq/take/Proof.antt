@@ -35,12 +35,13 @@ use denote.Triple.Clauses.{Clauses}
 use denote.Triple.Walked.{says, Stays, stay-none, stay-slice, walkOf, goes-none, goes-slice, ends-at}
 use denote.Exit.{yes as kept-yes}
 use Rattle.lent.proofs.Walk.{Datum, number, truth, nil, struct, Dens, AreD, listed, spell, lent-as, slice-of, kept, opened, closed, guards, env-of, standing, bare, full, told, proved}
-use Rattle.lent.proofs.Lent.{mutable, shared, choice, call-slices, all-freed, no, yes, begins2, leaves2}
-use Rattle.thread.specs.Thread.{blank, RUNNING, with-place}
-use Rattle.runqueue.specs.RunQueue.{rqFront, frontThread}
+use Rattle.lent.proofs.Lent.{mutable, shared, choice, call-slices, all-freed, no, yes, so, begins2, leaves2}
+use Rattle.lent.proofs.Exits.{took-is}
+use Rattle.lent.specs.Left.{Memory, Left}
+use Rattle.lent.specs.Rq.{takeDef, isNothing, leftBy}
 use Rattle.processor.specs.Queue.{queueAt, queueStored}
-use Rattle.lent.specs.Rq.{isNothing, leftBy}
-use Rattle.lent.proofs.Exits.{took-is, by-took}
+use Rattle.runqueue.specs.RunQueue.{rqFront, frontThread}
+use Rattle.thread.specs.Thread.{blank, RUNNING, with-place}
 use Rattle.lent.specs.declared.rq.Taken.the-variants as taken
 use denote.Struct.Laws as LL
 use Rattle.runqueue.specs.declared.rq.Front.{Front}
@@ -170,6 +171,7 @@ module _ {M : Type 1} (𝓤 : URA M) (H : Heap 𝓤) (𝓜 : Model 𝓤 H) (𝓖
       En = env-of mir.locals (l₀ ∷ l₁ ∷ l₂ ∷ l₃ ∷ l₄ ∷ l₅ ∷ l₆ ∷ l₇ ∷ l₈ ∷ l₉ ∷ l₁₀ ∷ l₁₁ ∷ l₁₂ ∷ l₁₃ ∷ l₁₄ ∷ l₁₅ ∷ l₁₆ ∷ l₁₇ ∷ l₁₈ ∷ l₁₉ ∷ l₂₀ ∷ [])
 
       part-11 : (c₅ : Is RunQueue·.the-row (queueAt ys′ (a .0)) (RunQueue° .val (queueAt ys′ (a .0)) ∷ [])) (c₆ : Is Front·.the-row (V₁) (Front° .val (V₁) ∷ [])) (c₇ : Is u64 (frontThread V₁) ((number w64) .val (frontThread V₁) ∷ [])) (c₈ : Is Thread·.the-row (V₂) (Thread° .val (V₂) ∷ [])) (h₁ : Holds (not (isNothing V₁))) → Sq W (‵ (row Thread·.the-row fullShare (ys) b o) ∷ ‵ (kept Thread·.the-row κ q γ b o ys) ∷ ‵ (row (Array u64 96) fullShare (ys′) b′ o′) ∷ ‵ (kept (Array u64 96) κ′ q′ γ′ b′ o′ ys′) ∷ standing 𝓤 mir.locals (l₀ ∷ l₁ ∷ l₂ ∷ l₃ ∷ l₄ ∷ l₅ ∷ l₆ ∷ l₇ ∷ l₈ ∷ l₉ ∷ l₁₀ ∷ l₁₁ ∷ l₁₂ ∷ l₁₃ ∷ l₁₄ ∷ l₁₅ ∷ l₁₆ ∷ l₁₇ ∷ l₁₈ ∷ l₁₉ ∷ l₂₀ ∷ []) (bare ∷ full s ∷ full s′ ∷ full ((number w64) .val (a .0)) ∷ bare ∷ full (RunQueue° .val (queueAt ys′ (a .0))) ∷ full (Front° .val (V₁)) ∷ full ((number w64) .val (frontThread V₁)) ∷ full (Thread° .val (V₂)) ∷ bare ∷ bare ∷ bare ∷ bare ∷ bare ∷ bare ∷ bare ∷ bare ∷ bare ∷ bare ∷ bare ∷ bare ∷ []) []) (runs C Λ En mir.t-11 (atRet En Post))
+      unfolding takeDef
       part-11 c₅ c₆ c₇ c₈ h₁ =
           nothing ! $
           call-slices RunQueue° (RunQueue° ∷ Front° ∷ Thread° ∷ []) ((queueAt ys′ (a .0), (V₁, (V₂, tt)))) (emp 𝓤) ([]) ! fm (λ r ws. r ≡ V₃) ((c₅, (c₆, (c₈, tt)))) (id⊢ 𝓤 (emp 𝓤))
@@ -225,10 +227,11 @@ module _ {M : Type 1} (𝓤 : URA M) (H : Heap 𝓤) (𝓜 : Model 𝓤 H) (𝓖
           returns ! (look ! 44 refl) $
           move ! (44 ∷ 45 ∷ 42 ∷ 43 ∷ 40 ∷ 41 ∷ 38 ∷ 39 ∷ 36 ∷ 37 ∷ 34 ∷ 35 ∷ 32 ∷ 33 ∷ 30 ∷ 31 ∷ 28 ∷ 29 ∷ 26 ∷ 27 ∷ 24 ∷ 25 ∷ 22 ∷ 23 ∷ 20 ∷ 21 ∷ 18 ∷ 19 ∷ 16 ∷ 17 ∷ 14 ∷ 15 ∷ 12 ∷ 13 ∷ 10 ∷ 11 ∷ 8 ∷ 9 ∷ 6 ∷ 7 ∷ 4 ∷ 5 ∷ []) $
           all-freed ! mir.locals (l₀ ∷ l₁ ∷ l₂ ∷ l₃ ∷ l₄ ∷ l₅ ∷ l₆ ∷ l₇ ∷ l₈ ∷ l₉ ∷ l₁₀ ∷ l₁₁ ∷ l₁₂ ∷ l₁₃ ∷ l₁₄ ∷ l₁₅ ∷ l₁₆ ∷ l₁₇ ∷ l₁₈ ∷ l₁₉ ∷ l₂₀ ∷ []) (full _ ∷ full _ ∷ full _ ∷ full _ ∷ bare ∷ full _ ∷ full _ ∷ full _ ∷ full _ ∷ full _ ∷ full _ ∷ bare ∷ bare ∷ bare ∷ bare ∷ bare ∷ full _ ∷ full _ ∷ full _ ∷ full _ ∷ full _ ∷ []) tt $
-          suffices ! _ (ends-at 𝓤 H A take.ended stayed c W y _ (V₆) (V₅, (V₄, (tt, (tt, tt)))) (sym ((refl ∙ sym (subst (λ (us : List Thread). length us ≡ length ys) (e₅₈) (ls₅₇ .0)))), (sym ((refl ∙ sym (subst (λ (us : List (List ℕ)). length us ≡ length ys′) (e₄₇) (ls₄₆ .0)))), (tt, (tt, tt))))) $ says ! (by-took (record { answer = V₆; threads = V₅; cpus = V₄ }) ys ys′ (a .0) (a .1 .0) ((no (isNothing V₁) h₁ _ (refl)) ∙ took-is ys ys′ (a .0) (rqFront (queueAt ys′ (a .0)) (a .1 .0)))) $
+          suffices ! _ (ends-at 𝓤 H A take.ended stayed c W y _ (V₆) (V₅, (V₄, (tt, (tt, tt)))) (sym ((refl ∙ sym (subst (λ (us : List Thread). length us ≡ length ys) (e₅₈) (ls₅₇ .0)))), (sym ((refl ∙ sym (subst (λ (us : List (List ℕ)). length us ≡ length ys′) (e₄₇) (ls₄₆ .0)))), (tt, (tt, tt))))) $ says ! (so {X = Left Taken Memory} (record { answer = V₆; memory = record { threads = V₅; cpus = V₄ } }) (takeDef (a .0) (a .1 .0) (record { threads = ys; cpus = ys′ })) ((no (isNothing V₁) h₁ _ (refl)) ∙ took-is (a .0) (rqFront (queueAt ys′ (a .0)) (a .1 .0)) (record { threads = ys; cpus = ys′ }))) $
           leaves2 ! Taken° Ds a (V₆) are (is₆₄)))))))))
 
     walk : ent 𝓤 (onEntry 𝓤 H A take.signature (κ, (κ′, tt)) (q, (q′, tt)) ((lent-as b o γ ys, (lent-as b′ o′ γ′ ys′, a))) ((s ∷ [], (s′ ∷ [], spell Ds a)))) (WpFn 𝓤 H C Λ code.function (s ∷ s′ ∷ listed Ds a) Post)
+    unfolding takeDef
     walk =
         qed W ((‵ (flft κ q) ⊛ (‵ (flft κ′ q′) ⊛ (‵ ftrue))) ∷ ‵ (owns (MutSlice (named 0) κ Thread·.the-row ∷ MutSlice (named 1) κ′ (Array u64 96) ∷ u64 ∷ bool ∷ []) ((lent-as b o γ ys, (lent-as b′ o′ γ′ ys′, a))) ((s ∷ [], (s′ ∷ [], spell Ds a)))) ∷ []) ∵ begins2 ! $ enter ! C _ code.function (s ∷ s′ ∷ listed Ds a) _ $
         alloc1 ! (λ l₀. alloc1 ! (λ l₁. alloc1 ! (λ l₂. alloc1 ! (λ l₃. alloc1 ! (λ l₄. alloc1 ! (λ l₅. alloc1 ! (λ l₆. alloc1 ! (λ l₇. alloc1 ! (λ l₈. alloc1 ! (λ l₉. alloc1 ! (λ l₁₀. alloc1 ! (λ l₁₁. alloc1 ! (λ l₁₂. alloc1 ! (λ l₁₃. alloc1 ! (λ l₁₄. alloc1 ! (λ l₁₅. alloc1 ! (λ l₁₆. alloc1 ! (λ l₁₇. alloc1 ! (λ l₁₈. alloc1 ! (λ l₁₉. alloc1 ! (λ l₂₀. alloc0 ! $ params1 ! $
@@ -280,7 +283,7 @@ module _ {M : Type 1} (𝓤 : URA M) (H : Heap 𝓤) (𝓜 : Model 𝓤 H) (𝓖
         returns-within ! Post refl (look ! 44 refl) $
         move ! (44 ∷ 45 ∷ 42 ∷ 43 ∷ 40 ∷ 41 ∷ 38 ∷ 39 ∷ 36 ∷ 37 ∷ 34 ∷ 35 ∷ 32 ∷ 33 ∷ 30 ∷ 31 ∷ 28 ∷ 29 ∷ 26 ∷ 27 ∷ 24 ∷ 25 ∷ 22 ∷ 23 ∷ 20 ∷ 21 ∷ 18 ∷ 19 ∷ 16 ∷ 17 ∷ 14 ∷ 15 ∷ 12 ∷ 13 ∷ 10 ∷ 11 ∷ 8 ∷ 9 ∷ 6 ∷ 7 ∷ 4 ∷ 5 ∷ []) $
         all-freed ! mir.locals (l₀ ∷ l₁ ∷ l₂ ∷ l₃ ∷ l₄ ∷ l₅ ∷ l₆ ∷ l₇ ∷ l₈ ∷ l₉ ∷ l₁₀ ∷ l₁₁ ∷ l₁₂ ∷ l₁₃ ∷ l₁₄ ∷ l₁₅ ∷ l₁₆ ∷ l₁₇ ∷ l₁₈ ∷ l₁₉ ∷ l₂₀ ∷ []) (full _ ∷ full _ ∷ full _ ∷ full _ ∷ full _ ∷ full _ ∷ full _ ∷ bare ∷ bare ∷ bare ∷ bare ∷ full _ ∷ full _ ∷ full _ ∷ bare ∷ bare ∷ bare ∷ bare ∷ bare ∷ bare ∷ bare ∷ []) tt $
-        suffices ! _ (ends-at 𝓤 H A take.ended stayed c W y _ (taken.Nobody) (ys, (ys′, (tt, (tt, tt)))) (sym refl, (sym refl, (tt, (tt, tt))))) $ says ! (by-took (record { answer = taken.Nobody; threads = ys; cpus = ys′ }) ys ys′ (a .0) (a .1 .0) ((yes (isNothing V₁) h₁ _ (refl)) ∙ took-is ys ys′ (a .0) (rqFront (queueAt ys′ (a .0)) (a .1 .0)))) $
+        suffices ! _ (ends-at 𝓤 H A take.ended stayed c W y _ (taken.Nobody) (ys, (ys′, (tt, (tt, tt)))) (sym refl, (sym refl, (tt, (tt, tt))))) $ says ! (so {X = Left Taken Memory} (record { answer = taken.Nobody; memory = record { threads = ys; cpus = ys′ } }) (takeDef (a .0) (a .1 .0) (record { threads = ys; cpus = ys′ })) ((yes (isNothing V₁) h₁ _ (refl)) ∙ took-is (a .0) (rqFront (queueAt ys′ (a .0)) (a .1 .0)) (record { threads = ys; cpus = ys′ }))) $
         leaves2 ! Taken° Ds a (taken.Nobody) are (is₂₄))))
         (λ h₁.
         nothing ! $

@@ -2,8 +2,6 @@ use Prim.Native.Nat.{_-_}
 use borrow.Author.Needs.{needs}
 use Rattle.lent_vectors.proofs.answer.bucket_of.Statement.{statement}
 use Rattle.lent_vectors.proofs.answer.bucket_of.Tie as tie
-use Rattle.lent_vectors.proofs.answer.bucket_of.Reads as reads
-use Rattle.lent_vectors.proofs.answer.bucket_of.Lts as lts
 
 abbrev Inv-loop : tie.InvT-loop
 Inv-loop thread lists i₀ i = Unit {0}
@@ -11,43 +9,33 @@ Inv-loop thread lists i₀ i = Unit {0}
 abbrev μ-loop : tie.MeasureT-loop
 μ-loop thread lists i₀ i = 8 - i
 
--- src/answer.rt:17:5
 loop-holds : tie.Need-loop-holds Inv-loop μ-loop
 loop-holds c = search needs
 
--- src/answer.rt:19:20
 mul-head : tie.Need-mul-head Inv-loop μ-loop
 mul-head c = search needs
 
--- src/answer.rt:19:20
 element-copy-out-head : tie.Need-element-copy-out-head Inv-loop μ-loop
 element-copy-out-head c = search needs
 
--- src/answer.rt:20:20
 mul-tail : tie.Need-mul-tail Inv-loop μ-loop
 mul-tail c = search needs
 
--- src/answer.rt:20:20
 element-copy-out-tail : tie.Need-element-copy-out-tail Inv-loop μ-loop
 element-copy-out-tail c = search needs
 
--- src/answer.rt:23:17
 returns : tie.Need-returns Inv-loop μ-loop
 returns c = search needs
 
--- src/answer.rt:26:9
 add-i : tie.Need-add-i Inv-loop μ-loop
 add-i c = search needs
 
--- src/answer.rt:17:5
 loop-less : tie.Need-loop-less Inv-loop μ-loop
 loop-less c = search needs
 
--- src/answer.rt:17:5
 loop-again : tie.Need-loop-again Inv-loop μ-loop
 loop-again c = search needs
 
--- src/answer.rt:15:1
 returns-2 : tie.Need-returns-2 Inv-loop μ-loop
 returns-2 c = search needs
 

@@ -4,10 +4,6 @@ use Prim.Native.Nat.{_-_}
 use borrow.Author.Needs.{needs}
 use Rattle.lent_vectors.proofs.answer.put_number.Statement.{statement}
 use Rattle.lent_vectors.proofs.answer.put_number.Tie as tie
-use Rattle.lent_vectors.proofs.answer.put_number.Reads as reads
-use Rattle.lent_vectors.proofs.answer.put_number.Lts as lts
-use Rattle.lent_vectors.proofs.answer.put_byte.Reads as put-byte-reads
-use Rattle.std.proofs.num.wrapping_add_u64.Reads as wrapping-add-u64-reads
 
 abbrev Inv-loop : tie.InvT-loop
 Inv-loop out₀ at bytes v i₀ rest₀ out i rest = length out ≡ length out₀
@@ -15,35 +11,27 @@ Inv-loop out₀ at bytes v i₀ rest₀ out i rest = length out ≡ length out�
 abbrev μ-loop : tie.MeasureT-loop
 μ-loop out₀ at bytes v i₀ rest₀ out i rest = bytes - i
 
--- src/answer.rt:90:5
 loop-holds : tie.Need-loop-holds Inv-loop μ-loop
 loop-holds c = search needs
 
--- src/answer.rt:91:23
 wrapping-add-u64-requires : tie.Need-wrapping-add-u64-requires Inv-loop μ-loop
 wrapping-add-u64-requires c κs = search needs
 
--- src/answer.rt:91:9
 put-byte-requires : tie.Need-put-byte-requires Inv-loop μ-loop
 put-byte-requires c κs = search needs
 
--- src/answer.rt:93:9
 add-i : tie.Need-add-i Inv-loop μ-loop
 add-i c = search needs
 
--- src/answer.rt:90:5
 loop-less : tie.Need-loop-less Inv-loop μ-loop
 loop-less c = search needs
 
--- src/answer.rt:90:5
 loop-again : tie.Need-loop-again Inv-loop μ-loop
 loop-again c = c .before .before .put-byte .kept .0 ∙ c .before .before .before .before .before .before .loop .inv
 
--- src/answer.rt:87:1
 same-length : tie.Need-same-length Inv-loop μ-loop
 same-length c = c .before .loop .inv
 
--- src/answer.rt:87:1
 returns : tie.Need-returns Inv-loop μ-loop
 returns c = search needs
 

@@ -2,94 +2,64 @@ use mathlib.Core.Path.{_∙_}
 use borrow.Author.Needs.{needs}
 use Rattle.lent_vectors.proofs.answer.write_answer.Statement.{statement}
 use Rattle.lent_vectors.proofs.answer.write_answer.Tie as tie
-use Rattle.lent_vectors.proofs.answer.write_answer.Reads as reads
-use Rattle.lent_vectors.proofs.answer.write_answer.Lts as lts
-use Rattle.lent_vectors.proofs.answer.flag.Reads as flag-reads
-use Rattle.lent_vectors.proofs.answer.number_of.Reads as number-of-reads
-use Rattle.lent_vectors.proofs.answer.put_byte.Reads as put-byte-reads
-use Rattle.lent_vectors.proofs.answer.put_counts.Reads as put-counts-reads
-use Rattle.lent_vectors.proofs.answer.put_number.Reads as put-number-reads
-use Rattle.lent_vectors.proofs.answer.where_of.Reads as where-of-reads
-use Rattle.processor.proofs.rq.load_queue.Reads as load-queue-reads
-use Rattle.runqueue.proofs.rq.RunQueue.is_empty.Reads as is-empty-reads
 
--- src/answer.rt:115:9
 load-queue-requires : tie.Need-load-queue-requires
 load-queue-requires c κs = search needs
 
--- src/answer.rt:118:9
 where-of-requires : tie.Need-where-of-requires
 where-of-requires c κs = search needs
 
--- src/answer.rt:119:27
 number-of-requires : tie.Need-number-of-requires
 number-of-requires c κs = search needs
 
--- src/answer.rt:119:5
 put-number-requires : tie.Need-put-number-requires
 put-number-requires c κs = search needs
 
--- src/answer.rt:120:5
 put-number-requires-2 : tie.Need-put-number-requires-2
 put-number-requires-2 c κs = search needs
 
--- src/answer.rt:121:5
 put-number-requires-3 : tie.Need-put-number-requires-3
 put-number-requires-3 c κs = search needs
 
--- src/answer.rt:122:5
 put-number-requires-4 : tie.Need-put-number-requires-4
 put-number-requires-4 c κs = search needs
 
--- src/answer.rt:123:5
 put-number-requires-5 : tie.Need-put-number-requires-5
 put-number-requires-5 c κs = search needs
 
--- src/answer.rt:124:5
 put-byte-requires : tie.Need-put-byte-requires
 put-byte-requires c κs = search needs
 
--- src/answer.rt:125:5
 put-byte-requires-2 : tie.Need-put-byte-requires-2
 put-byte-requires-2 c κs = search needs
 
--- src/answer.rt:126:5
 put-byte-requires-3 : tie.Need-put-byte-requires-3
 put-byte-requires-3 c κs = search needs
 
--- src/answer.rt:127:5
 put-byte-requires-4 : tie.Need-put-byte-requires-4
 put-byte-requires-4 c κs = search needs
 
--- src/answer.rt:128:28
 is-empty-requires : tie.Need-is-empty-requires
 is-empty-requires c κs = search needs
 
--- src/answer.rt:128:23
 flag-requires : tie.Need-flag-requires
 flag-requires c κs = search needs
 
--- src/answer.rt:128:5
 put-byte-requires-5 : tie.Need-put-byte-requires-5
 put-byte-requires-5 c κs = search needs
 
--- src/answer.rt:129:5
 put-number-requires-6 : tie.Need-put-number-requires-6
 put-number-requires-6 c κs = search needs
 
--- src/answer.rt:130:5
 put-counts-requires : tie.Need-put-counts-requires
 put-counts-requires c κs = search needs
 
--- src/answer.rt:131:5
 put-number-requires-7 : tie.Need-put-number-requires-7
 put-number-requires-7 c κs = search needs
 
--- src/answer.rt:114:1
 same-length : tie.Need-same-length
 same-length c = c .before .before .put-number7 .kept .0 ∙ c .before .before .before .before .before .before .put-counts .kept .0 ∙ c .before .before .before .before .before .before .before .before .before .before .put-number6 .kept .0 ∙ c .before .before .before .before .before .before .before .before .before .before .before .before .before .before .put-byte5 .kept .0 ∙ c .before .before .before .before .before .before .before .before .before .before .before .before .before .before .before .before .before .before .before .before .put-byte4 .kept .0 ∙ c .before .before .before .before .before .before .before .before .before .before .before .before .before .before .before .before .before .before .before .before .before .before .before .before .put-byte3 .kept .0 ∙ c .before .before .before .before .before .before .before .before .before .before .before .before .before .before .before .before .before .before .before .before .before .before .before .before .before .before .before .before .put-byte2 .kept .0 ∙ c .before .before .before .before .before .before .before .before .before .before .before .before .before .before .before .before .before .before .before .before .before .before .before .before .before .before .before .before .before .before .before .before .put-byte .kept .0 ∙ c .before .before .before .before .before .before .before .before .before .before .before .before .before .before .before .before .before .before .before .before .before .before .before .before .before .before .before .before .before .before .before .before .before .before .before .before .put-number5 .kept .0 ∙ c .before .before .before .before .before .before .before .before .before .before .before .before .before .before .before .before .before .before .before .before .before .before .before .before .before .before .before .before .before .before .before .before .before .before .before .before .before .before .before .before .put-number4 .kept .0 ∙ c .before .before .before .before .before .before .before .before .before .before .before .before .before .before .before .before .before .before .before .before .before .before .before .before .before .before .before .before .before .before .before .before .before .before .before .before .before .before .before .before .before .before .before .before .put-number3 .kept .0 ∙ c .before .before .before .before .before .before .before .before .before .before .before .before .before .before .before .before .before .before .before .before .before .before .before .before .before .before .before .before .before .before .before .before .before .before .before .before .before .before .before .before .before .before .before .before .before .before .before .before .put-number2 .kept .0 ∙ c .before .before .before .before .before .before .before .before .before .before .before .before .before .before .before .before .before .before .before .before .before .before .before .before .before .before .before .before .before .before .before .before .before .before .before .before .before .before .before .before .before .before .before .before .before .before .before .before .before .before .before .before .put-number .kept .0
 
--- src/answer.rt:114:1
 returns : tie.Need-returns
 returns c = search needs
 

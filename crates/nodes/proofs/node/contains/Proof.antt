@@ -5,29 +5,20 @@ use borrow.Author.Tests.{lt-ltb}
 use borrow.Author.Needs.{needs}
 use Rattle.nodes.proofs.node.contains.Statement.{statement}
 use Rattle.nodes.proofs.node.contains.Tie as tie
-use Rattle.nodes.proofs.node.contains.Reads as reads
-use Rattle.nodes.proofs.node.contains.Lts as lts
-use Rattle.nodes.proofs.words.word.Reads as word-reads
-use Rattle.topology.proofs.cpuset.bit.Reads as bit-reads
 
--- src/node.rt:119:35
 add-word : tie.Need-add-word
 add-word c = search needs
 
--- src/node.rt:119:20
 word-requires : tie.Need-word-requires
 word-requires c κs = search needs
 
--- src/node.rt:119:9
 bit-requires : tie.Need-bit-requires
 bit-requires c κs = search needs
 
--- src/node.rt:119:9
 returns : tie.Need-returns
 unfolding contains-at max-cpu-id
 returns c = rw (lt-ltb _ _ (c .before .before .if1 .taken), c .bit .ensures, c .before .word .ensures)
 
--- src/node.rt:114:1
 returns-2 : tie.Need-returns-2
 unfolding contains-at max-cpu-id
 returns-2 c = simp (le-ltb _ _ (c .if1 .left))

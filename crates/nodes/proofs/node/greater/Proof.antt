@@ -4,15 +4,11 @@ use borrow.Author.Tests.{lt-ltb}
 use borrow.Author.Needs.{needs}
 use Rattle.nodes.proofs.node.greater.Statement.{statement}
 use Rattle.nodes.proofs.node.greater.Tie as tie
-use Rattle.nodes.proofs.node.greater.Reads as reads
-use Rattle.nodes.proofs.node.greater.Lts as lts
 
--- src/node.rt:49:9
 returns : tie.Need-returns
 unfolding greater
 returns c = simp (lt-ltb _ _ (c .if1 .taken))
 
--- src/node.rt:45:1
 returns-2 : tie.Need-returns-2
 unfolding greater
 returns-2 c = simp (le-ltb _ _ (c .if1 .left))

@@ -2,25 +2,17 @@ use Rattle.nodes.specs.Node.{has-cpus}
 use borrow.Author.Needs.{needs}
 use Rattle.nodes.proofs.node.has_cpus.Statement.{statement}
 use Rattle.nodes.proofs.node.has_cpus.Tie as tie
-use Rattle.nodes.proofs.node.has_cpus.Reads as reads
-use Rattle.nodes.proofs.node.has_cpus.Lts as lts
-use Rattle.nodes.proofs.node.has_children.Reads as has-children-reads
-use Rattle.nodes.proofs.words.word.Reads as word-reads
 
--- src/node.rt:107:8
 has-children-requires : tie.Need-has-children-requires
 has-children-requires c κs = search needs
 
--- src/node.rt:108:9
 returns : tie.Need-returns
 unfolding has-cpus
 returns c = rw (← c .before .has-children .ensures, c .if1 .taken)
 
--- src/node.rt:110:9
 word-requires : tie.Need-word-requires
 word-requires c κs = search needs
 
--- src/node.rt:104:1
 returns-2 : tie.Need-returns-2
 unfolding has-cpus
 returns-2 c = rw (← c .before .before .has-children .ensures, c .before .if1 .left, c .word .ensures)

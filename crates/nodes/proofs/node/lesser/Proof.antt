@@ -4,15 +4,11 @@ use borrow.Author.Tests.{lt-ltb}
 use borrow.Author.Needs.{needs}
 use Rattle.nodes.proofs.node.lesser.Statement.{statement}
 use Rattle.nodes.proofs.node.lesser.Tie as tie
-use Rattle.nodes.proofs.node.lesser.Reads as reads
-use Rattle.nodes.proofs.node.lesser.Lts as lts
 
--- src/node.rt:40:9
 returns : tie.Need-returns
 unfolding lesser
 returns c = simp (lt-ltb _ _ (c .if1 .taken))
 
--- src/node.rt:36:1
 returns-2 : tie.Need-returns-2
 unfolding lesser
 returns-2 c = simp (le-ltb _ _ (c .if1 .left))

@@ -5,68 +5,47 @@ use borrow.Author.Tests.{le-ltb}
 use borrow.Author.Needs.{needs}
 use Rattle.nodes.proofs.node.put_cpu.Statement.{statement}
 use Rattle.nodes.proofs.node.put_cpu.Tie as tie
-use Rattle.nodes.proofs.node.put_cpu.Reads as reads
-use Rattle.nodes.proofs.node.put_cpu.Lts as lts
-use Rattle.nodes.proofs.node.greater.Reads as greater-reads
-use Rattle.nodes.proofs.node.lesser.Reads as lesser-reads
-use Rattle.nodes.proofs.words.put_word.Reads as put-word-reads
-use Rattle.nodes.proofs.words.word.Reads as word-reads
-use Rattle.topology.proofs.cpuset.set_bit.Reads as set-bit-reads
 
--- src/node.rt:142:17
 add-w : tie.Need-add-w
 add-w c = search needs
 
--- src/node.rt:143:28
 word-requires : tie.Need-word-requires
 word-requires c κs = search needs
 
--- src/node.rt:143:13
 set-bit-requires : tie.Need-set-bit-requires
 set-bit-requires c κs = search needs
 
--- src/node.rt:144:28
 word-requires-2 : tie.Need-word-requires-2
 word-requires-2 c κs = search needs
 
--- src/node.rt:144:13
 lesser-requires : tie.Need-lesser-requires
 lesser-requires c κs = search needs
 
--- src/node.rt:145:27
 word-requires-3 : tie.Need-word-requires-3
 word-requires-3 c κs = search needs
 
--- src/node.rt:145:48
 add-greater : tie.Need-add-greater
 add-greater c = search needs
 
--- src/node.rt:145:13
 greater-requires : tie.Need-greater-requires
 greater-requires c κs = search needs
 
--- src/node.rt:146:9
 put-word-requires : tie.Need-put-word-requires
 put-word-requires c κs = search needs
 
--- src/node.rt:147:9
 put-word-requires-2 : tie.Need-put-word-requires-2
 put-word-requires-2 c κs = search needs
 
--- src/node.rt:148:9
 put-word-requires-3 : tie.Need-put-word-requires-3
 put-word-requires-3 c κs = search needs
 
--- src/node.rt:138:1
 same-length : tie.Need-same-length
 same-length c = search needs
 
--- src/node.rt:138:1
 returns : tie.Need-returns
 unfolding put-cpu max-cpu-id
 returns c = rw (lt-ltb _ _ (c .before .before .before .before .before .before .before .before .before .before .before .before .before .before .before .before .before .before .if1 .taken), c .before .put-word3 .ensures, c .before .before .before .before .put-word2 .ensures, c .before .before .before .before .before .before .before .put-word .ensures, c .before .before .before .before .before .before .before .before .before .greater .ensures, c .before .before .before .before .before .before .before .before .before .before .word3 .ensures, c .before .before .before .before .before .before .before .before .before .before .before .before .lesser .ensures, c .before .before .before .before .before .before .before .before .before .before .before .before .before .word2 .ensures, c .before .before .before .before .before .before .before .before .before .before .before .before .before .before .before .set-bit .ensures, c .before .before .before .before .before .before .before .before .before .before .before .before .before .before .before .before .word .ensures)
 
--- src/node.rt:138:1
 returns-2 : tie.Need-returns-2
 unfolding put-cpu max-cpu-id
 returns-2 c = simp (le-ltb _ _ (c .if1 .left))

@@ -12,10 +12,6 @@ use mathlib.Core.Path.{_≡_}
 use borrow.Author.Needs.{needs}
 use Rattle.nodes.proofs.node.set_cpu.Statement.{statement}
 use Rattle.nodes.proofs.node.set_cpu.Tie as tie
-use Rattle.nodes.proofs.node.set_cpu.Reads as reads
-use Rattle.nodes.proofs.node.set_cpu.Lts as lts
-use Rattle.nodes.proofs.node.put_cpu.Reads as put-cpu-reads
-use Rattle.nodes.proofs.words.word.Reads as word-reads
 
 abbrev Inv-loop : tie.InvT-loop
 Inv-loop nodes₀ node cpu n₀ fuel₀ nodes n fuel = (length nodes ≡ length nodes₀) × (set-cpu nodes₀ node cpu ≡ set-cpu-up fuel nodes n cpu)
@@ -23,44 +19,34 @@ Inv-loop nodes₀ node cpu n₀ fuel₀ nodes n fuel = (length nodes ≡ length 
 abbrev μ-loop : tie.MeasureT-loop
 μ-loop nodes₀ node cpu n₀ fuel₀ nodes n fuel = fuel
 
--- src/node.rt:158:5
 loop-holds : tie.Need-loop-holds Inv-loop μ-loop
 unfolding set-cpu
 loop-holds c = (refl, refl)
 
--- src/node.rt:159:9
 put-cpu-requires : tie.Need-put-cpu-requires Inv-loop μ-loop
 put-cpu-requires c κs = search needs
 
--- src/node.rt:161:13
 same-length : tie.Need-same-length Inv-loop μ-loop
 same-length c = rw (c .before .before .put-cpu .ensures) (length-put-cpu _ _ _ ∙ c .before .before .before .before .before .loop .inv .0)
 
--- src/node.rt:161:13
 returns : tie.Need-returns Inv-loop μ-loop
 returns c = c .before .before .put-cpu .ensures ∙ sym (c .before .before .before .before .before .loop .inv .1 ∙ set-cpu-turn _ _ _ _ (c .before .before .before .before .loop-test .taken) ∙ rw (eq-eqb _ _ (c .if1 .taken)))
 
--- src/node.rt:163:9
 word-requires : tie.Need-word-requires Inv-loop μ-loop
 word-requires c κs = search needs
 
--- src/node.rt:164:9
 sub-fuel : tie.Need-sub-fuel Inv-loop μ-loop
 sub-fuel c = search needs
 
--- src/node.rt:158:5
 loop-less : tie.Need-loop-less Inv-loop μ-loop
 loop-less c = search needs
 
--- src/node.rt:158:5
 loop-again : tie.Need-loop-again Inv-loop μ-loop
 loop-again c = (rw (c .before .before .before .before .put-cpu .ensures) (length-put-cpu _ _ _ ∙ c .before .before .before .before .before .before .before .loop .inv .0), c .before .before .before .before .before .before .before .loop .inv .1 ∙ set-cpu-turn _ _ _ _ (c .before .before .before .before .before .before .loop-test .taken) ∙ rw (ne-eqb _ _ (c .before .before .if1 .left), c .word .ensures, c .before .before .before .before .put-cpu .ensures))
 
--- src/node.rt:153:1
 same-length-2 : tie.Need-same-length-2 Inv-loop μ-loop
 same-length-2 c = c .before .loop .inv .0
 
--- src/node.rt:153:1
 returns-2 : tie.Need-returns-2 Inv-loop μ-loop
 unfolding set-cpu-up
 returns-2 c = let e : c .before .loop .fuel ≡ 0 = omega arith in sym (c .before .loop .inv .1 ∙ rw e)

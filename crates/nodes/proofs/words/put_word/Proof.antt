@@ -4,35 +4,26 @@ use Rattle.nodes.specs.Words.{put-word, width}
 use borrow.Author.Needs.{needs}
 use Rattle.nodes.proofs.words.put_word.Statement.{statement}
 use Rattle.nodes.proofs.words.put_word.Tie as tie
-use Rattle.nodes.proofs.words.put_word.Reads as reads
-use Rattle.nodes.proofs.words.put_word.Lts as lts
 
--- src/words.rt:24:9
 mul-nodes : tie.Need-mul-nodes
 mul-nodes c = search needs
 
--- src/words.rt:24:9
 mul-nodes-2 : tie.Need-mul-nodes-2
 mul-nodes-2 c = search needs
 
--- src/words.rt:24:9
 index-1-nodes : tie.Need-index-1-nodes
 index-1-nodes c = search needs
 
--- src/words.rt:24:9
 index-2-nodes : tie.Need-index-2-nodes
 index-2-nodes c = search needs
 
--- src/words.rt:18:1
 same-length : tie.Need-same-length
 same-length c = search needs
 
--- src/words.rt:18:1
 returns : tie.Need-returns
 unfolding put-word
 returns c = search needs
 
--- src/words.rt:18:1
 returns-2 : tie.Need-returns-2
 returns-2 c = sym (put-out _ _ _ _ (c .if1 .left))
 

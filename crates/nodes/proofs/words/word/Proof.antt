@@ -4,31 +4,23 @@ use Rattle.nodes.specs.Words.{width, word}
 use borrow.Author.Needs.{needs}
 use Rattle.nodes.proofs.words.word.Statement.{statement}
 use Rattle.nodes.proofs.words.word.Tie as tie
-use Rattle.nodes.proofs.words.word.Reads as reads
-use Rattle.nodes.proofs.words.word.Lts as lts
 
--- src/words.rt:13:16
 mul-result : tie.Need-mul-result
 mul-result c = search needs
 
--- src/words.rt:13:16
 mul-result-2 : tie.Need-mul-result-2
 mul-result-2 c = search needs
 
--- src/words.rt:13:16
 index-1-result : tie.Need-index-1-result
 index-1-result c = search needs
 
--- src/words.rt:13:16
 index-2-result : tie.Need-index-2-result
 index-2-result c = search needs
 
--- src/words.rt:13:9
 returns : tie.Need-returns
 unfolding word
 returns c = search needs
 
--- src/words.rt:7:1
 returns-2 : tie.Need-returns-2
 returns-2 c = sym (word-out _ _ _ (c .if1 .left))
 

@@ -4,20 +4,14 @@ use borrow.Author.Tests.{lt-ltb}
 use borrow.Author.Needs.{needs}
 use Rattle.questions.proofs.cpu.declared.Statement.{statement}
 use Rattle.questions.proofs.cpu.declared.Tie as tie
-use Rattle.questions.proofs.cpu.declared.Reads as reads
-use Rattle.questions.proofs.cpu.declared.Lts as lts
-use Rattle.processor.proofs.words.word.Reads as word-reads
 
--- src/cpu.rt:19:20
 word-requires : tie.Need-word-requires
 word-requires c κs = search needs
 
--- src/cpu.rt:19:9
 returns : tie.Need-returns
 unfolding declared
 returns c = rw (lt-ltb _ _ (c .before .if1 .taken), c .word .ensures)
 
--- src/cpu.rt:15:1
 returns-2 : tie.Need-returns-2
 unfolding declared
 returns-2 c = rw (le-ltb _ _ (c .if1 .left))

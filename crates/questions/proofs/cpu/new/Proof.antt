@@ -5,20 +5,14 @@ use borrow.Author.Tests.{lt-ltb}
 use borrow.Author.Needs.{needs}
 use Rattle.questions.proofs.cpu.new.Statement.{statement}
 use Rattle.questions.proofs.cpu.new.Tie as tie
-use Rattle.questions.proofs.cpu.new.Reads as reads
-use Rattle.questions.proofs.cpu.new.Lts as lts
-use Rattle.processor.proofs.words.word.Reads as word-reads
 
--- src/cpu.rt:28:16
 word-requires : tie.Need-word-requires
 word-requires c κs = search needs
 
--- src/cpu.rt:28:9
 returns : tie.Need-returns
 unfolding cpu-new question
 returns c = rw (lt-ltb _ _ (c .before .if1 .taken), c .word .ensures)
 
--- src/cpu.rt:24:1
 returns-2 : tie.Need-returns-2
 unfolding cpu-new question
 returns-2 c = rw (le-ltb _ _ (c .if1 .left))

@@ -4,24 +4,17 @@ use borrow.Author.Tests.{lt-ltb}
 use borrow.Author.Needs.{needs}
 use Rattle.questions.proofs.cpu.placed_if_declared.Statement.{statement}
 use Rattle.questions.proofs.cpu.placed_if_declared.Tie as tie
-use Rattle.questions.proofs.cpu.placed_if_declared.Reads as reads
-use Rattle.questions.proofs.cpu.placed_if_declared.Lts as lts
-use Rattle.processor.proofs.words.word.Reads as word-reads
 
--- src/cpu.rt:54:12
 word-requires : tie.Need-word-requires
 word-requires c κs = search needs
 
--- src/cpu.rt:55:16
 word-requires-2 : tie.Need-word-requires-2
 word-requires-2 c κs = search needs
 
--- src/cpu.rt:55:9
 returns : tie.Need-returns
 unfolding placed-if-declared
 returns c = rw (← c .before .before .word .ensures, lt-ltb _ _ (c .before .if1 .taken), ← c .word2 .ensures)
 
--- src/cpu.rt:51:1
 returns-2 : tie.Need-returns-2
 unfolding placed-if-declared
 returns-2 c = rw (← c .before .word .ensures, le-ltb _ _ (c .if1 .left))

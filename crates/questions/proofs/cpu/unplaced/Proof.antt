@@ -3,25 +3,17 @@ use Rattle.rules.specs.Questions.{question}
 use borrow.Author.Needs.{needs}
 use Rattle.questions.proofs.cpu.unplaced.Statement.{statement}
 use Rattle.questions.proofs.cpu.unplaced.Tie as tie
-use Rattle.questions.proofs.cpu.unplaced.Reads as reads
-use Rattle.questions.proofs.cpu.unplaced.Lts as lts
-use Rattle.processor.proofs.words.word.Reads as word-reads
-use Rattle.questions.proofs.cpu.declared.Reads as declared-reads
 
--- src/cpu.rt:36:8
 declared-requires : tie.Need-declared-requires
 declared-requires c κs = search needs
 
--- src/cpu.rt:37:16
 word-requires : tie.Need-word-requires
 word-requires c κs = search needs
 
--- src/cpu.rt:37:9
 returns : tie.Need-returns
 unfolding cpu-unplaced question
 returns c = rw (← c .before .before .declared .ensures, c .before .if1 .taken, c .word .ensures)
 
--- src/cpu.rt:33:1
 returns-2 : tie.Need-returns-2
 unfolding cpu-unplaced question
 returns-2 c = rw (← c .before .declared .ensures, c .if1 .left)

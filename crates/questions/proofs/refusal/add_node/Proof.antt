@@ -10,55 +10,39 @@ use Rattle.rules.specs.Questions.{first-no, question}
 use borrow.Author.Needs.{needs}
 use Rattle.questions.proofs.refusal.add_node.Statement.{statement}
 use Rattle.questions.proofs.refusal.add_node.Tie as tie
-use Rattle.questions.proofs.refusal.add_node.Reads as reads
-use Rattle.questions.proofs.refusal.add_node.Lts as lts
-use Rattle.nodes.proofs.node.has_cpus.Reads as has-cpus-reads
-use Rattle.questions.proofs.refusal.last.Reads as last-reads
-use Rattle.questions.proofs.state.State.node_exists.Reads as node-exists-reads
-use Rattle.questions.proofs.state.State.node_fits.Reads as node-fits-reads
 
--- src/refusal.rt:52:9
 returns : tie.Need-returns
 unfolding refusal-number question open-yet node-exists parent-without-cpus node-fits
 returns c = sym (no _ _ (ap not (c .if1 .taken)))
 
--- src/refusal.rt:55:12
 node-exists-requires : tie.Need-node-exists-requires
 node-exists-requires c κs = search needs
 
--- src/refusal.rt:56:16
 has-cpus-requires : tie.Need-has-cpus-requires
 has-cpus-requires c κs = search needs
 
--- src/refusal.rt:57:17
 returns-2 : tie.Need-returns-2
 unfolding refusal-number question open-yet node-exists parent-without-cpus node-fits
 returns-2 c = sym (yes _ _ (ap not (c .before .before .before .before .before .if1 .left)) ∙ (yes _ _ (c .before .before .before .before .if2 .taken) ∙ (yes _ _ (sym (c .before .before .before .node-exists .ensures) ∙ c .before .before .if3 .taken) ∙ (no _ _ (ap not (sym (c .before .has-cpus .ensures) ∙ c .if4 .taken))))))
 
--- src/refusal.rt:59:16
 node-fits-requires : tie.Need-node-fits-requires
 node-fits-requires c κs = search needs
 
--- src/refusal.rt:60:17
 last-requires : tie.Need-last-requires
 last-requires c κs = search needs
 
--- src/refusal.rt:60:17
 returns-3 : tie.Need-returns-3
 unfolding refusal-number question open-yet node-exists parent-without-cpus node-fits
 returns-3 c = c .last .ensures ∙ sym (yes _ _ (ap not (c .before .before .before .before .before .before .before .before .if1 .left)) ∙ (yes _ _ (c .before .before .before .before .before .before .before .if2 .taken) ∙ (yes _ _ (sym (c .before .before .before .before .before .before .node-exists .ensures) ∙ c .before .before .before .before .before .if3 .taken) ∙ (yes _ _ (ap not (sym (c .before .before .before .before .has-cpus .ensures) ∙ c .before .before .before .if4 .left)) ∙ (yes _ _ (sym (c .before .before .node-fits .ensures) ∙ c .before .if5 .taken))))))
 
--- src/refusal.rt:48:1
 returns-4 : tie.Need-returns-4
 unfolding refusal-number question open-yet node-exists parent-without-cpus node-fits
 returns-4 c = sym (yes _ _ (ap not (c .before .before .before .before .before .before .before .if1 .left)) ∙ (yes _ _ (c .before .before .before .before .before .before .if2 .taken) ∙ (yes _ _ (sym (c .before .before .before .before .before .node-exists .ensures) ∙ c .before .before .before .before .if3 .taken) ∙ (yes _ _ (ap not (sym (c .before .before .before .has-cpus .ensures) ∙ c .before .before .if4 .left)) ∙ (no _ _ (sym (c .before .node-fits .ensures) ∙ c .if5 .left))))))
 
--- src/refusal.rt:48:1
 returns-5 : tie.Need-returns-5
 unfolding refusal-number question open-yet node-exists parent-without-cpus node-fits
 returns-5 c = sym (yes _ _ (ap not (c .before .before .before .if1 .left)) ∙ (yes _ _ (c .before .before .if2 .taken) ∙ (no _ _ (sym (c .before .node-exists .ensures) ∙ c .if3 .left))))
 
--- src/refusal.rt:48:1
 returns-6 : tie.Need-returns-6
 unfolding refusal-number question open-yet node-exists parent-without-cpus node-fits
 returns-6 c = sym (yes _ _ (ap not (c .before .if1 .left)) ∙ (no _ _ (c .if2 .left)))

@@ -4,215 +4,156 @@ use Rattle.rules.specs.Questions.{at-most, first-no, priority-in-range, questio
 use borrow.Author.Needs.{needs}
 use Rattle.questions.proofs.refusal.asked.Statement.{statement}
 use Rattle.questions.proofs.refusal.asked.Tie as tie
-use Rattle.questions.proofs.refusal.asked.Reads as reads
-use Rattle.questions.proofs.refusal.asked.Lts as lts
-use Rattle.questions.proofs.refusal.add_node.Reads as add-node-reads
-use Rattle.questions.proofs.refusal.declare_cpu.Reads as declare-cpu-reads
-use Rattle.questions.proofs.refusal.declare_thread.Reads as declare-thread-reads
-use Rattle.questions.proofs.refusal.donate.Reads as donate-reads
-use Rattle.questions.proofs.refusal.of_thread.Reads as of-thread-reads
-use Rattle.questions.proofs.refusal.on_cpu.Reads as on-cpu-reads
-use Rattle.questions.proofs.refusal.place_cpu.Reads as place-cpu-reads
-use Rattle.questions.proofs.refusal.schedule_thread.Reads as schedule-thread-reads
-use Rattle.questions.proofs.refusal.seal.Reads as seal-reads
-use Rattle.questions.proofs.refusal.set_tick.Reads as set-tick-reads
-use Rattle.request.proofs.in_range.Reads as in-range-reads
 
--- src/refusal.rt:225:9
 in-range-requires : tie.Need-in-range-requires
 in-range-requires c κs = search needs
 
--- src/refusal.rt:227:31
 enum-known-request : tie.Need-enum-known-request
 enum-known-request c = search needs
 
--- src/refusal.rt:227:40
 declare-cpu-requires : tie.Need-declare-cpu-requires
 declare-cpu-requires c κs = search needs
 
--- src/refusal.rt:228:28
 enum-known-request-2 : tie.Need-enum-known-request-2
 enum-known-request-2 c = search needs
 
--- src/refusal.rt:228:49
 add-node-requires : tie.Need-add-node-requires
 add-node-requires c κs = search needs
 
--- src/refusal.rt:229:29
 enum-known-request-3 : tie.Need-enum-known-request-3
 enum-known-request-3 c = search needs
 
--- src/refusal.rt:229:44
 place-cpu-requires : tie.Need-place-cpu-requires
 place-cpu-requires c κs = search needs
 
--- src/refusal.rt:230:26
 enum-told : tie.Need-enum-told
 enum-told c = search needs
 
--- src/refusal.rt:230:26
 seal-requires : tie.Need-seal-requires
 seal-requires c κs = search needs
 
--- src/refusal.rt:232:13
 enum-known-request-4 : tie.Need-enum-known-request-4
 enum-known-request-4 c = search needs
 
--- src/refusal.rt:236:14
 declare-thread-requires : tie.Need-declare-thread-requires
 declare-thread-requires c κs = search needs
 
--- src/refusal.rt:237:28
 enum-known-request-5 : tie.Need-enum-known-request-5
 enum-known-request-5 c = search needs
 
--- src/refusal.rt:237:38
 set-tick-requires : tie.Need-set-tick-requires
 set-tick-requires c κs = search needs
 
--- src/refusal.rt:238:35
 enum-known-request-6 : tie.Need-enum-known-request-6
 enum-known-request-6 c = search needs
 
--- src/refusal.rt:238:55
 schedule-thread-requires : tie.Need-schedule-thread-requires
 schedule-thread-requires c κs = search needs
 
--- src/refusal.rt:239:29
 enum-known-request-7 : tie.Need-enum-known-request-7
 enum-known-request-7 c = search needs
 
--- src/refusal.rt:239:48
 on-cpu-requires : tie.Need-on-cpu-requires
 on-cpu-requires c κs = search needs
 
--- src/refusal.rt:240:29
 enum-known-request-8 : tie.Need-enum-known-request-8
 enum-known-request-8 c = search needs
 
--- src/refusal.rt:240:38
 on-cpu-requires-2 : tie.Need-on-cpu-requires-2
 on-cpu-requires-2 c κs = search needs
 
--- src/refusal.rt:242:13
 enum-known-request-9 : tie.Need-enum-known-request-9
 enum-known-request-9 c = search needs
 
--- src/refusal.rt:244:14
 on-cpu-requires-3 : tie.Need-on-cpu-requires-3
 on-cpu-requires-3 c κs = search needs
 
--- src/refusal.rt:245:28
 enum-known-request-10 : tie.Need-enum-known-request-10
 enum-known-request-10 c = search needs
 
--- src/refusal.rt:245:37
 on-cpu-requires-4 : tie.Need-on-cpu-requires-4
 on-cpu-requires-4 c κs = search needs
 
--- src/refusal.rt:246:33
 enum-known-request-11 : tie.Need-enum-known-request-11
 enum-known-request-11 c = search needs
 
--- src/refusal.rt:246:42
 on-cpu-requires-5 : tie.Need-on-cpu-requires-5
 on-cpu-requires-5 c κs = search needs
 
--- src/refusal.rt:248:13
 enum-known-request-12 : tie.Need-enum-known-request-12
 enum-known-request-12 c = search needs
 
--- src/refusal.rt:252:14
 donate-requires : tie.Need-donate-requires
 donate-requires c κs = search needs
 
--- src/refusal.rt:253:50
 enum-told-2 : tie.Need-enum-told-2
 enum-told-2 c = search needs
 
--- src/refusal.rt:253:50
 of-thread-requires : tie.Need-of-thread-requires
 of-thread-requires c κs = search needs
 
--- src/refusal.rt:254:56
 enum-told-3 : tie.Need-enum-told-3
 enum-told-3 c = search needs
 
--- src/refusal.rt:254:56
 of-thread-requires-2 : tie.Need-of-thread-requires-2
 of-thread-requires-2 c κs = search needs
 
--- src/refusal.rt:216:1
 returns : tie.Need-returns
 unfolding asked-of concerning first-no question at-most priority-in-range in-range request-of
 returns c = rw (c .before .before .request .given .1) (c .declare-cpu .ensures)
 
--- src/refusal.rt:216:1
 returns-2 : tie.Need-returns-2
 unfolding asked-of concerning first-no question at-most priority-in-range in-range request-of
 returns-2 c = rw (c .before .before .request2 .given .1) (rw (c .before .before .before .before .in-range .ensures, c .before .before .request2 .given .1) at (c .add-node .ensures))
 
--- src/refusal.rt:216:1
 returns-3 : tie.Need-returns-3
 unfolding asked-of concerning first-no question at-most priority-in-range in-range request-of
 returns-3 c = rw (c .before .before .request3 .given .1) (c .place-cpu .ensures)
 
--- src/refusal.rt:216:1
 returns-4 : tie.Need-returns-4
 unfolding asked-of concerning first-no question at-most priority-in-range in-range request-of
 returns-4 c = rw (c .before .enum-told .given .1) (c .seal .ensures)
 
--- src/refusal.rt:216:1
 returns-5 : tie.Need-returns-5
 unfolding asked-of concerning first-no question at-most priority-in-range in-range request-of
 returns-5 c = rw (c .before .before .request4 .given .1) (rw (c .before .before .before .before .in-range .ensures, c .before .before .request4 .given .1) at (c .declare-thread .ensures))
 
--- src/refusal.rt:216:1
 returns-6 : tie.Need-returns-6
 unfolding asked-of concerning first-no question at-most priority-in-range in-range request-of
 returns-6 c = rw (c .before .before .request5 .given .1) (c .set-tick .ensures)
 
--- src/refusal.rt:216:1
 returns-7 : tie.Need-returns-7
 unfolding asked-of concerning first-no question at-most priority-in-range in-range request-of
 returns-7 c = rw (c .before .before .request6 .given .1) (c .schedule-thread .ensures)
 
--- src/refusal.rt:216:1
 returns-8 : tie.Need-returns-8
 unfolding asked-of concerning first-no question at-most priority-in-range in-range request-of
 returns-8 c = rw (c .before .before .request7 .given .1) (rw (c .before .before .before .before .in-range .ensures, c .before .before .request7 .given .1) at (c .on-cpu .ensures))
 
--- src/refusal.rt:216:1
 returns-9 : tie.Need-returns-9
 unfolding asked-of concerning first-no question at-most priority-in-range in-range request-of
 returns-9 c = rw (c .before .before .request8 .given .1) (rw (c .before .before .before .before .in-range .ensures, c .before .before .request8 .given .1) at (c .on-cpu2 .ensures))
 
--- src/refusal.rt:216:1
 returns-10 : tie.Need-returns-10
 unfolding asked-of concerning first-no question at-most priority-in-range in-range request-of
 returns-10 c = rw (c .before .before .request9 .given .1) (rw (c .before .before .before .before .in-range .ensures, c .before .before .request9 .given .1) at (c .on-cpu3 .ensures))
 
--- src/refusal.rt:216:1
 returns-11 : tie.Need-returns-11
 unfolding asked-of concerning first-no question at-most priority-in-range in-range request-of
 returns-11 c = rw (c .before .before .request10 .given .1) (rw (c .before .before .before .before .in-range .ensures, c .before .before .request10 .given .1) at (c .on-cpu4 .ensures))
 
--- src/refusal.rt:216:1
 returns-12 : tie.Need-returns-12
 unfolding asked-of concerning first-no question at-most priority-in-range in-range request-of
 returns-12 c = rw (c .before .before .request11 .given .1) (rw (c .before .before .before .before .in-range .ensures, c .before .before .request11 .given .1) at (c .on-cpu5 .ensures))
 
--- src/refusal.rt:216:1
 returns-13 : tie.Need-returns-13
 unfolding asked-of concerning first-no question at-most priority-in-range in-range request-of
 returns-13 c = rw (c .before .before .request12 .given .1) (rw (c .before .before .before .before .in-range .ensures, c .before .before .request12 .given .1) at (c .donate .ensures))
 
--- src/refusal.rt:216:1
 returns-14 : tie.Need-returns-14
 unfolding asked-of concerning first-no question at-most priority-in-range in-range request-of
 returns-14 c = rw (c .before .enum-told2 .given .1) (rw (c .before .before .before .in-range .ensures, c .before .enum-told2 .given .1) at (c .of-thread .ensures))
 
--- src/refusal.rt:216:1
 returns-15 : tie.Need-returns-15
 unfolding asked-of concerning first-no question at-most priority-in-range in-range request-of
 returns-15 c = rw (c .before .enum-told3 .given .1) (rw (c .before .before .before .in-range .ensures, c .before .enum-told3 .given .1) at (c .of-thread2 .ensures))

@@ -10,30 +10,21 @@ use Rattle.rules.specs.Questions.{first-no, question}
 use borrow.Author.Needs.{needs}
 use Rattle.questions.proofs.refusal.declare_cpu.Statement.{statement}
 use Rattle.questions.proofs.refusal.declare_cpu.Tie as tie
-use Rattle.questions.proofs.refusal.declare_cpu.Reads as reads
-use Rattle.questions.proofs.refusal.declare_cpu.Lts as lts
-use Rattle.questions.proofs.cpu.new.Reads as new-reads
-use Rattle.questions.proofs.refusal.last.Reads as last-reads
 
--- src/refusal.rt:39:9
 returns : tie.Need-returns
 unfolding refusal-number question open-yet cpu-new
 returns c = sym (no _ _ (ap not (c .if1 .taken)))
 
--- src/refusal.rt:41:8
 new-requires : tie.Need-new-requires
 new-requires c κs = search needs
 
--- src/refusal.rt:42:9
 last-requires : tie.Need-last-requires
 last-requires c κs = search needs
 
--- src/refusal.rt:42:9
 returns-2 : tie.Need-returns-2
 unfolding refusal-number question open-yet cpu-new
 returns-2 c = c .last .ensures ∙ sym (yes _ _ (ap not (c .before .before .before .if1 .left)) ∙ (yes _ _ (sym (c .before .before .new .ensures) ∙ c .before .if2 .taken)))
 
--- src/refusal.rt:35:1
 returns-3 : tie.Need-returns-3
 unfolding refusal-number question open-yet cpu-new
 returns-3 c = sym (yes _ _ (ap not (c .before .before .if1 .left)) ∙ (no _ _ (sym (c .before .new .ensures) ∙ c .if2 .left)))

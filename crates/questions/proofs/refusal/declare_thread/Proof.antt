@@ -8,45 +8,32 @@ use mathlib.Core.Path.{_∙_, sym}
 use borrow.Author.Needs.{needs}
 use Rattle.questions.proofs.refusal.declare_thread.Statement.{statement}
 use Rattle.questions.proofs.refusal.declare_thread.Tie as tie
-use Rattle.questions.proofs.refusal.declare_thread.Reads as reads
-use Rattle.questions.proofs.refusal.declare_thread.Lts as lts
-use Rattle.questions.proofs.cpu.pin_declared.Reads as pin-declared-reads
-use Rattle.questions.proofs.refusal.last.Reads as last-reads
-use Rattle.questions.proofs.refusal.thread_new.Reads as thread-new-reads
 
--- src/refusal.rt:121:12
 pin-declared-requires : tie.Need-pin-declared-requires
 pin-declared-requires c κs = search needs
 
--- src/refusal.rt:122:16
 thread-new-requires : tie.Need-thread-new-requires
 thread-new-requires c κs = search needs
 
--- src/refusal.rt:124:21
 last-requires : tie.Need-last-requires
 last-requires c κs = search needs
 
--- src/refusal.rt:124:21
 returns : tie.Need-returns
 unfolding refusal-number question sealed-now thread-new
 returns c = c .last .ensures ∙ sym (yes _ _ (c .before .before .before .before .before .before .if1 .taken) ∙ (yes _ _ (sym (c .before .before .before .before .before .pin-declared .ensures) ∙ c .before .before .before .before .if2 .taken) ∙ (yes _ _ (sym (c .before .before .before .thread-new .ensures) ∙ c .before .before .if3 .taken) ∙ (yes _ _ (c .before .if4 .taken)))))
 
--- src/refusal.rt:126:17
 returns-2 : tie.Need-returns-2
 unfolding refusal-number question sealed-now thread-new
 returns-2 c = sym (yes _ _ (c .before .before .before .before .before .if1 .taken) ∙ (yes _ _ (sym (c .before .before .before .before .pin-declared .ensures) ∙ c .before .before .before .if2 .taken) ∙ (yes _ _ (sym (c .before .before .thread-new .ensures) ∙ c .before .if3 .taken) ∙ (no _ _ (c .if4 .left)))))
 
--- src/refusal.rt:128:13
 returns-3 : tie.Need-returns-3
 unfolding refusal-number question sealed-now thread-new
 returns-3 c = sym (yes _ _ (c .before .before .before .before .if1 .taken) ∙ (yes _ _ (sym (c .before .before .before .pin-declared .ensures) ∙ c .before .before .if2 .taken) ∙ (no _ _ (sym (c .before .thread-new .ensures) ∙ c .if3 .left))))
 
--- src/refusal.rt:130:9
 returns-4 : tie.Need-returns-4
 unfolding refusal-number question sealed-now thread-new
 returns-4 c = sym (yes _ _ (c .before .before .if1 .taken) ∙ (no _ _ (sym (c .before .pin-declared .ensures) ∙ c .if2 .left) ∙ pin-number _ _ _))
 
--- src/refusal.rt:110:1
 returns-5 : tie.Need-returns-5
 unfolding refusal-number question sealed-now thread-new
 returns-5 c = sym (no _ _ (c .if1 .left))

@@ -7,45 +7,32 @@ use mathlib.Core.Path.{_∙_, sym}
 use borrow.Author.Needs.{needs}
 use Rattle.questions.proofs.refusal.donate.Statement.{statement}
 use Rattle.questions.proofs.refusal.donate.Tie as tie
-use Rattle.questions.proofs.refusal.donate.Reads as reads
-use Rattle.questions.proofs.refusal.donate.Lts as lts
-use Rattle.questions.proofs.cpu.declared.Reads as declared-reads
-use Rattle.questions.proofs.refusal.last.Reads as last-reads
-use Rattle.thread.proofs.Thread.is_declared.Reads as is-declared-reads
 
--- src/refusal.rt:185:12
 declared-requires : tie.Need-declared-requires
 declared-requires c κs = search needs
 
--- src/refusal.rt:186:16
 is-declared-requires : tie.Need-is-declared-requires
 is-declared-requires c κs = search needs
 
--- src/refusal.rt:188:21
 last-requires : tie.Need-last-requires
 last-requires c κs = search needs
 
--- src/refusal.rt:188:21
 returns : tie.Need-returns
 unfolding refusal-number question sealed-now cpu-declared thread-declared
 returns c = c .last .ensures ∙ sym (yes _ _ (c .before .before .before .before .before .before .if1 .taken) ∙ (yes _ _ (sym (c .before .before .before .before .before .declared .ensures) ∙ c .before .before .before .before .if2 .taken) ∙ (yes _ _ (sym (c .before .before .before .is-declared .ensures) ∙ c .before .before .if3 .taken) ∙ (yes _ _ (c .before .if4 .taken)))))
 
--- src/refusal.rt:190:17
 returns-2 : tie.Need-returns-2
 unfolding refusal-number question sealed-now cpu-declared thread-declared
 returns-2 c = sym (yes _ _ (c .before .before .before .before .before .if1 .taken) ∙ (yes _ _ (sym (c .before .before .before .before .declared .ensures) ∙ c .before .before .before .if2 .taken) ∙ (yes _ _ (sym (c .before .before .is-declared .ensures) ∙ c .before .if3 .taken) ∙ (no _ _ (c .if4 .left)))))
 
--- src/refusal.rt:192:13
 returns-3 : tie.Need-returns-3
 unfolding refusal-number question sealed-now cpu-declared thread-declared
 returns-3 c = sym (yes _ _ (c .before .before .before .before .if1 .taken) ∙ (yes _ _ (sym (c .before .before .before .declared .ensures) ∙ c .before .before .if2 .taken) ∙ (no _ _ (sym (c .before .is-declared .ensures) ∙ c .if3 .left))))
 
--- src/refusal.rt:194:9
 returns-4 : tie.Need-returns-4
 unfolding refusal-number question sealed-now cpu-declared thread-declared
 returns-4 c = sym (yes _ _ (c .before .before .if1 .taken) ∙ (no _ _ (sym (c .before .declared .ensures) ∙ c .if2 .left)))
 
--- src/refusal.rt:181:1
 returns-5 : tie.Need-returns-5
 unfolding refusal-number question sealed-now cpu-declared thread-declared
 returns-5 c = sym (no _ _ (c .if1 .left))

@@ -7,35 +7,25 @@ use mathlib.Core.Path.{_∙_, sym}
 use borrow.Author.Needs.{needs}
 use Rattle.questions.proofs.refusal.of_thread.Statement.{statement}
 use Rattle.questions.proofs.refusal.of_thread.Tie as tie
-use Rattle.questions.proofs.refusal.of_thread.Reads as reads
-use Rattle.questions.proofs.refusal.of_thread.Lts as lts
-use Rattle.questions.proofs.refusal.last.Reads as last-reads
-use Rattle.thread.proofs.Thread.is_declared.Reads as is-declared-reads
 
--- src/refusal.rt:204:12
 is-declared-requires : tie.Need-is-declared-requires
 is-declared-requires c κs = search needs
 
--- src/refusal.rt:206:17
 last-requires : tie.Need-last-requires
 last-requires c κs = search needs
 
--- src/refusal.rt:206:17
 returns : tie.Need-returns
 unfolding refusal-number question sealed-now thread-declared
 returns c = c .last .ensures ∙ sym (yes _ _ (c .before .before .before .before .if1 .taken) ∙ (yes _ _ (sym (c .before .before .before .is-declared .ensures) ∙ c .before .before .if2 .taken) ∙ (yes _ _ (c .before .if3 .taken))))
 
--- src/refusal.rt:208:13
 returns-2 : tie.Need-returns-2
 unfolding refusal-number question sealed-now thread-declared
 returns-2 c = sym (yes _ _ (c .before .before .before .if1 .taken) ∙ (yes _ _ (sym (c .before .before .is-declared .ensures) ∙ c .before .if2 .taken) ∙ (no _ _ (c .if3 .left))))
 
--- src/refusal.rt:210:9
 returns-3 : tie.Need-returns-3
 unfolding refusal-number question sealed-now thread-declared
 returns-3 c = sym (yes _ _ (c .before .before .if1 .taken) ∙ (no _ _ (sym (c .before .is-declared .ensures) ∙ c .if2 .left)))
 
--- src/refusal.rt:200:1
 returns-4 : tie.Need-returns-4
 unfolding refusal-number question sealed-now thread-declared
 returns-4 c = sym (no _ _ (c .if1 .left))

@@ -8,35 +8,25 @@ use Rattle.rules.specs.Questions.{first-no, question}
 use borrow.Author.Needs.{needs}
 use Rattle.questions.proofs.refusal.on_cpu.Statement.{statement}
 use Rattle.questions.proofs.refusal.on_cpu.Tie as tie
-use Rattle.questions.proofs.refusal.on_cpu.Reads as reads
-use Rattle.questions.proofs.refusal.on_cpu.Lts as lts
-use Rattle.questions.proofs.cpu.declared.Reads as declared-reads
-use Rattle.questions.proofs.refusal.last.Reads as last-reads
 
--- src/refusal.rt:170:12
 declared-requires : tie.Need-declared-requires
 declared-requires c κs = search needs
 
--- src/refusal.rt:172:17
 last-requires : tie.Need-last-requires
 last-requires c κs = search needs
 
--- src/refusal.rt:172:17
 returns : tie.Need-returns
 unfolding refusal-number question sealed-now cpu-declared
 returns c = c .last .ensures ∙ sym (yes _ _ (c .before .before .before .before .if1 .taken) ∙ (yes _ _ (sym (c .before .before .before .declared .ensures) ∙ c .before .before .if2 .taken) ∙ (yes _ _ (c .before .if3 .taken))))
 
--- src/refusal.rt:174:13
 returns-2 : tie.Need-returns-2
 unfolding refusal-number question sealed-now cpu-declared
 returns-2 c = sym (yes _ _ (c .before .before .before .if1 .taken) ∙ (yes _ _ (sym (c .before .before .declared .ensures) ∙ c .before .if2 .taken) ∙ (no _ _ (c .if3 .left))))
 
--- src/refusal.rt:176:9
 returns-3 : tie.Need-returns-3
 unfolding refusal-number question sealed-now cpu-declared
 returns-3 c = sym (yes _ _ (c .before .before .if1 .taken) ∙ (no _ _ (sym (c .before .declared .ensures) ∙ c .if2 .left)))
 
--- src/refusal.rt:166:1
 returns-4 : tie.Need-returns-4
 unfolding refusal-number question sealed-now cpu-declared
 returns-4 c = sym (no _ _ (c .if1 .left))

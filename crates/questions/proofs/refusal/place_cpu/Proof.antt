@@ -9,50 +9,35 @@ use mathlib.Core.Path.{ap, sym}
 use borrow.Author.Needs.{needs}
 use Rattle.questions.proofs.refusal.place_cpu.Statement.{statement}
 use Rattle.questions.proofs.refusal.place_cpu.Tie as tie
-use Rattle.questions.proofs.refusal.place_cpu.Reads as reads
-use Rattle.questions.proofs.refusal.place_cpu.Lts as lts
-use Rattle.nodes.proofs.node.has_children.Reads as has-children-reads
-use Rattle.questions.proofs.cpu.unplaced.Reads as unplaced-reads
-use Rattle.questions.proofs.refusal.last.Reads as last-reads
-use Rattle.questions.proofs.state.State.node_exists.Reads as node-exists-reads
 
--- src/refusal.rt:71:9
 returns : tie.Need-returns
 unfolding refusal-number question open-yet cpu-unplaced node-exists node-childless
 returns c = sym (no _ _ (ap not (c .if1 .taken)))
 
--- src/refusal.rt:73:8
 unplaced-requires : tie.Need-unplaced-requires
 unplaced-requires c κs = search needs
 
--- src/refusal.rt:74:12
 node-exists-requires : tie.Need-node-exists-requires
 node-exists-requires c κs = search needs
 
--- src/refusal.rt:75:16
 has-children-requires : tie.Need-has-children-requires
 has-children-requires c κs = search needs
 
--- src/refusal.rt:76:17
 returns-2 : tie.Need-returns-2
 unfolding refusal-number question open-yet cpu-unplaced node-exists node-childless
 returns-2 c = sym (yes _ _ (ap not (c .before .before .before .before .before .before .if1 .left)) ∙ (yes _ _ (sym (c .before .before .before .before .before .unplaced .ensures) ∙ c .before .before .before .before .if2 .taken) ∙ (yes _ _ (sym (c .before .before .before .node-exists .ensures) ∙ c .before .before .if3 .taken) ∙ (no _ _ (ap not (sym (c .before .has-children .ensures) ∙ c .if4 .taken))))))
 
--- src/refusal.rt:78:13
 last-requires : tie.Need-last-requires
 last-requires c κs = search needs
 
--- src/refusal.rt:78:13
 returns-3 : tie.Need-returns-3
 unfolding refusal-number question open-yet cpu-unplaced node-exists node-childless
 returns-3 c = c .last .ensures ∙ sym (yes _ _ (ap not (c .before .before .before .before .before .before .before .if1 .left)) ∙ (yes _ _ (sym (c .before .before .before .before .before .before .unplaced .ensures) ∙ c .before .before .before .before .before .if2 .taken) ∙ (yes _ _ (sym (c .before .before .before .before .node-exists .ensures) ∙ c .before .before .before .if3 .taken) ∙ (yes _ _ (ap not (sym (c .before .before .has-children .ensures) ∙ c .before .if4 .left))))))
 
--- src/refusal.rt:80:9
 returns-4 : tie.Need-returns-4
 unfolding refusal-number question open-yet cpu-unplaced node-exists node-childless
 returns-4 c = sym (yes _ _ (ap not (c .before .before .before .before .if1 .left)) ∙ (yes _ _ (sym (c .before .before .before .unplaced .ensures) ∙ c .before .before .if2 .taken) ∙ (no _ _ (sym (c .before .node-exists .ensures) ∙ c .if3 .left))))
 
--- src/refusal.rt:67:1
 returns-5 : tie.Need-returns-5
 unfolding refusal-number question open-yet cpu-unplaced node-exists node-childless
 returns-5 c = sym (yes _ _ (ap not (c .before .before .if1 .left)) ∙ (no _ _ (sym (c .before .unplaced .ensures) ∙ c .if2 .left)))

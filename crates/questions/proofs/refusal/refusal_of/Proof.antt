@@ -4,37 +4,27 @@ use Rattle.request.specs.Request.{reading-of}
 use borrow.Author.Needs.{needs}
 use Rattle.questions.proofs.refusal.refusal_of.Statement.{statement}
 use Rattle.questions.proofs.refusal.refusal_of.Tie as tie
-use Rattle.questions.proofs.refusal.refusal_of.Reads as reads
-use Rattle.questions.proofs.refusal.refusal_of.Lts as lts
-use Rattle.questions.proofs.refusal.asked.Reads as asked-reads
 
--- src/refusal.rt:269:29
 enum-told : tie.Need-enum-told
 enum-told c = search needs
 
--- src/refusal.rt:270:30
 enum-told-2 : tie.Need-enum-told-2
 enum-told-2 c = search needs
 
--- src/refusal.rt:271:25
 enum-known-reading : tie.Need-enum-known-reading
 enum-known-reading c = search needs
 
--- src/refusal.rt:271:47
 asked-requires : tie.Need-asked-requires
 asked-requires c κs = search needs
 
--- src/refusal.rt:259:1
 returns : tie.Need-returns
 unfolding refusal-in reading-of refusal-number
 returns c = rw (c .enum-told .given .1)
 
--- src/refusal.rt:259:1
 returns-2 : tie.Need-returns-2
 unfolding refusal-in reading-of refusal-number
 returns-2 c = rw (c .enum-told2 .given .1)
 
--- src/refusal.rt:259:1
 returns-3 : tie.Need-returns-3
 unfolding refusal-in reading-of refusal-number
 returns-3 c = rw (c .before .before .reading .given .1) (c .asked .ensures)

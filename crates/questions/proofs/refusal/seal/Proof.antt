@@ -9,30 +9,21 @@ use Rattle.rules.specs.Questions.{first-no, question}
 use borrow.Author.Needs.{needs}
 use Rattle.questions.proofs.refusal.seal.Statement.{statement}
 use Rattle.questions.proofs.refusal.seal.Tie as tie
-use Rattle.questions.proofs.refusal.seal.Reads as reads
-use Rattle.questions.proofs.refusal.seal.Lts as lts
-use Rattle.questions.proofs.cpu.all_placed.Reads as all-placed-reads
-use Rattle.questions.proofs.refusal.last.Reads as last-reads
 
--- src/refusal.rt:89:9
 returns : tie.Need-returns
 unfolding refusal-number first-no open-yet question
 returns c = search needs
 
--- src/refusal.rt:91:8
 all-placed-requires : tie.Need-all-placed-requires
 all-placed-requires c κs = search needs
 
--- src/refusal.rt:92:9
 last-requires : tie.Need-last-requires
 last-requires c κs = search needs
 
--- src/refusal.rt:92:9
 returns-2 : tie.Need-returns-2
 unfolding refusal-number question open-yet all-placed
 returns-2 c = c .last .ensures ∙ sym (yes _ _ (ap not (c .before .before .before .if1 .left)) ∙ yes _ _ (sym (c .before .before .all-placed .ensures) ∙ c .before .if2 .taken))
 
--- src/refusal.rt:85:1
 returns-3 : tie.Need-returns-3
 unfolding refusal-number question open-yet all-placed
 returns-3 c = sym (yes _ _ (ap not (c .before .before .if1 .left)) ∙ no _ _ (sym (c .before .all-placed .ensures) ∙ c .if2 .left))

@@ -8,30 +8,21 @@ use Rattle.rules.specs.Questions.{first-no, question}
 use borrow.Author.Needs.{needs}
 use Rattle.questions.proofs.refusal.set_tick.Statement.{statement}
 use Rattle.questions.proofs.refusal.set_tick.Tie as tie
-use Rattle.questions.proofs.refusal.set_tick.Reads as reads
-use Rattle.questions.proofs.refusal.set_tick.Lts as lts
-use Rattle.questions.proofs.refusal.last.Reads as last-reads
-use Rattle.questions.proofs.state.State.tick_fits.Reads as tick-fits-reads
 
--- src/refusal.rt:139:12
 tick-fits-requires : tie.Need-tick-fits-requires
 tick-fits-requires c κs = search needs
 
--- src/refusal.rt:140:13
 last-requires : tie.Need-last-requires
 last-requires c κs = search needs
 
--- src/refusal.rt:140:13
 returns : tie.Need-returns
 unfolding refusal-number question sealed-now tick-fits
 returns c = c .last .ensures ∙ sym (yes _ _ (c .before .before .before .if1 .taken) ∙ (yes _ _ (sym (c .before .before .tick-fits .ensures) ∙ c .before .if2 .taken)))
 
--- src/refusal.rt:142:9
 returns-2 : tie.Need-returns-2
 unfolding refusal-number question sealed-now tick-fits
 returns-2 c = sym (yes _ _ (c .before .before .if1 .taken) ∙ (no _ _ (sym (c .before .tick-fits .ensures) ∙ c .if2 .left)))
 
--- src/refusal.rt:135:1
 returns-3 : tie.Need-returns-3
 unfolding refusal-number question sealed-now tick-fits
 returns-3 c = sym (no _ _ (c .if1 .left))

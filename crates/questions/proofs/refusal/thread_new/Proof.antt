@@ -5,25 +5,18 @@ use borrow.Author.Tests.{lt-ltb}
 use borrow.Author.Needs.{needs}
 use Rattle.questions.proofs.refusal.thread_new.Statement.{statement}
 use Rattle.questions.proofs.refusal.thread_new.Tie as tie
-use Rattle.questions.proofs.refusal.thread_new.Reads as reads
-use Rattle.questions.proofs.refusal.thread_new.Lts as lts
-use Rattle.thread.proofs.Thread.is_declared.Reads as is-declared-reads
 
--- src/refusal.rt:102:12
 is-declared-requires : tie.Need-is-declared-requires
 is-declared-requires c κs = search needs
 
--- src/refusal.rt:103:13
 returns : tie.Need-returns
 unfolding thread-new question
 returns c = rw (lt-ltb _ _ (c .before .before .if1 .taken), ← c .before .is-declared .ensures, c .if2 .taken)
 
--- src/refusal.rt:105:9
 returns-2 : tie.Need-returns-2
 unfolding thread-new question
 returns-2 c = rw (lt-ltb _ _ (c .before .before .if1 .taken), ← c .before .is-declared .ensures, c .if2 .left)
 
--- src/refusal.rt:98:1
 returns-3 : tie.Need-returns-3
 unfolding thread-new question
 returns-3 c = rw (le-ltb _ _ (c .if1 .left))

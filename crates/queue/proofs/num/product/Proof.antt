@@ -6,35 +6,25 @@ use native.Mathlib.Omega.{arith}
 use borrow.Author.Needs.{needs}
 use Rattle.queue.proofs.num.product.Statement.{statement}
 use Rattle.queue.proofs.num.product.Tie as tie
-use Rattle.queue.proofs.num.product.Reads as reads
-use Rattle.queue.proofs.num.product.Lts as lts
-use Rattle.std.proofs.num.wrapping_add_u64.Reads as wrapping-add-u64-reads
 
--- src/num.rt:18:45
 mul-wrapping-add-u64 : tie.Need-mul-wrapping-add-u64
 mul-wrapping-add-u64 c = omega (arith, half-product (c .args .a / 4294967296) (c .args .b % 4294967296) (omega arith) (omega arith))
 
--- src/num.rt:18:54
 mul-wrapping-add-u64-2 : tie.Need-mul-wrapping-add-u64-2
 mul-wrapping-add-u64-2 c = omega (arith, half-product (c .args .a % 4294967296) (c .args .b / 4294967296) (omega arith) (omega arith))
 
--- src/num.rt:18:9
 wrapping-add-u64-requires : tie.Need-wrapping-add-u64-requires
 wrapping-add-u64-requires c κs = search needs
 
--- src/num.rt:19:16
 mul-high : tie.Need-mul-high
 mul-high c = search needs
 
--- src/num.rt:20:38
 mul-wrapping-add-u64-3 : tie.Need-mul-wrapping-add-u64-3
 mul-wrapping-add-u64-3 c = omega (arith, half-product (c .before .args .a % 4294967296) (c .before .args .b % 4294967296) (omega arith) (omega arith))
 
--- src/num.rt:20:5
 wrapping-add-u64-requires-2 : tie.Need-wrapping-add-u64-requires-2
 wrapping-add-u64-requires-2 c κs = search needs
 
--- src/num.rt:11:1
 returns : tie.Need-returns
 returns c = c .wrapping-add-u642 .ensures ∙ product-is _ _ _ _ _ _ _ (omega arith) (omega arith) (c .before .wrapping-add-u64 .ensures)
 

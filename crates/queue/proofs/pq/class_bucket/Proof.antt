@@ -3,41 +3,31 @@ use Rattle.rules.specs.Queue.{class-bucket, nr-buckets}
 use borrow.Author.Needs.{needs}
 use Rattle.queue.proofs.pq.class_bucket.Statement.{statement}
 use Rattle.queue.proofs.pq.class_bucket.Tie as tie
-use Rattle.queue.proofs.pq.class_bucket.Reads as reads
-use Rattle.queue.proofs.pq.class_bucket.Lts as lts
 
--- src/pq.rt:26:32
 enum-told : tie.Need-enum-told
 enum-told c = search needs
 
--- src/pq.rt:27:36
 enum-told-2 : tie.Need-enum-told-2
 enum-told-2 c = search needs
 
--- src/pq.rt:28:38
 enum-told-3 : tie.Need-enum-told-3
 enum-told-3 c = search needs
 
--- src/pq.rt:29:32
 enum-told-4 : tie.Need-enum-told-4
 enum-told-4 c = search needs
 
--- src/pq.rt:22:1
 returns : tie.Need-returns
 unfolding class-bucket nr-buckets
 returns c = search needs
 
--- src/pq.rt:22:1
 returns-2 : tie.Need-returns-2
 unfolding class-bucket width
 returns-2 c = rw (c .enum-told2 .given .1)
 
--- src/pq.rt:22:1
 returns-3 : tie.Need-returns-3
 unfolding class-bucket width
 returns-3 c = rw (c .enum-told3 .given .1)
 
--- src/pq.rt:22:1
 returns-4 : tie.Need-returns-4
 unfolding class-bucket width
 returns-4 c = rw (c .enum-told4 .given .1)

@@ -3,19 +3,14 @@ use Rattle.rules.specs.Queue.{offset, width}
 use borrow.Author.Needs.{needs}
 use Rattle.queue.proofs.timeshare.offset.Statement.{statement}
 use Rattle.queue.proofs.timeshare.offset.Tie as tie
-use Rattle.queue.proofs.timeshare.offset.Reads as reads
-use Rattle.queue.proofs.timeshare.offset.Lts as lts
 
--- src/timeshare.rt:29:17
 sub-result : tie.Need-sub-result
 sub-result c = search needs
 
--- src/timeshare.rt:29:9
 returns : tie.Need-returns
 unfolding offset nr-values width
 returns c = search needs
 
--- src/timeshare.rt:25:1
 returns-2 : tie.Need-returns-2
 unfolding offset nr-values width
 returns-2 c = search needs

@@ -3,30 +3,20 @@ use Rattle.runqueue.specs.RunQueue.{raised}
 use borrow.Author.Needs.{needs}
 use Rattle.runqueue.proofs.rq.raised.Statement.{statement}
 use Rattle.runqueue.proofs.rq.raised.Tie as tie
-use Rattle.runqueue.proofs.rq.raised.Reads as reads
-use Rattle.runqueue.proofs.rq.raised.Lts as lts
-use Rattle.thread.proofs.priority.from_raw.Reads as from-raw-reads
-use Rattle.thread.proofs.priority.less.Reads as less-reads
-use Rattle.thread.proofs.priority.raw.Reads as raw-reads
 
--- src/rq.rt:74:9
 from-raw-requires : tie.Need-from-raw-requires
 from-raw-requires c κs = search needs
 
--- src/rq.rt:75:8
 less-requires : tie.Need-less-requires
 less-requires c κs = search needs
 
--- src/rq.rt:76:9
 raw-requires : tie.Need-raw-requires
 raw-requires c κs = search needs
 
--- src/rq.rt:76:9
 returns : tie.Need-returns
 unfolding raised
 returns c = rw (← c .before .before .before .from-raw .ensures, ← c .before .before .less .ensures, c .before .if1 .taken) (c .raw .ensures)
 
--- src/rq.rt:71:1
 returns-2 : tie.Need-returns-2
 unfolding raised
 returns-2 c = rw (← c .before .before .from-raw .ensures, ← c .before .less .ensures, c .if1 .left)

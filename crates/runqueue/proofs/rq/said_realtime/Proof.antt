@@ -2,44 +2,30 @@ use Rattle.runqueue.specs.RunQueue.{saidRealtime}
 use borrow.Author.Needs.{needs}
 use Rattle.runqueue.proofs.rq.said_realtime.Statement.{statement}
 use Rattle.runqueue.proofs.rq.said_realtime.Tie as tie
-use Rattle.runqueue.proofs.rq.said_realtime.Reads as reads
-use Rattle.runqueue.proofs.rq.said_realtime.Lts as lts
-use Rattle.queue.proofs.pq.PriorityQueue.highest_priority.Reads as highest-priority-reads
-use Rattle.queue.proofs.pq.PriorityQueue.is_empty.Reads as is-empty-reads
-use Rattle.runqueue.proofs.rq.advertised.Reads as advertised-reads
-use Rattle.runqueue.proofs.rq.says.Reads as says-reads
 
--- src/rq.rt:102:8
 says-requires : tie.Need-says-requires
 says-requires c κs = search needs
 
--- src/rq.rt:103:12
 is-empty-requires : tie.Need-is-empty-requires
 is-empty-requires c κs = search needs
 
--- src/rq.rt:104:13
 advertised-requires : tie.Need-advertised-requires
 advertised-requires c κs = search needs
 
--- src/rq.rt:104:13
 returns : tie.Need-returns
 unfolding saidRealtime
 returns c = rw (← c .before .before .before .before .says .ensures, c .before .before .before .if1 .taken, ← c .before .before .is-empty .ensures, c .before .if2 .taken) (c .advertised .ensures)
 
--- src/rq.rt:106:52
 highest-priority-requires : tie.Need-highest-priority-requires
 highest-priority-requires c κs = search needs
 
--- src/rq.rt:106:9
 advertised-requires-2 : tie.Need-advertised-requires-2
 advertised-requires-2 c κs = search needs
 
--- src/rq.rt:106:9
 returns-2 : tie.Need-returns-2
 unfolding saidRealtime
 returns-2 c = rw (← c .before .before .before .before .before .says .ensures, c .before .before .before .before .if1 .taken, ← c .before .before .before .is-empty .ensures, c .before .before .if2 .left, ← c .before .highest-priority .ensures) (c .advertised2 .ensures)
 
--- src/rq.rt:99:1
 returns-3 : tie.Need-returns-3
 unfolding saidRealtime
 returns-3 c = rw (← c .before .says .ensures, c .if1 .left)

@@ -2,24 +2,16 @@ use Rattle.rules.specs.Priority.{class-number, from-raw}
 use borrow.Author.Needs.{needs}
 use Rattle.runqueue.proofs.rq.says.Statement.{statement}
 use Rattle.runqueue.proofs.rq.says.Tie as tie
-use Rattle.runqueue.proofs.rq.says.Reads as reads
-use Rattle.runqueue.proofs.rq.says.Lts as lts
-use Rattle.thread.proofs.priority.class_number.Reads as class-number-reads
-use Rattle.thread.proofs.priority.from_raw.Reads as from-raw-reads
 
--- src/rq.rt:93:9
 from-raw-requires : tie.Need-from-raw-requires
 from-raw-requires c κs = search needs
 
--- src/rq.rt:95:5
 class-number-requires : tie.Need-class-number-requires
 class-number-requires c κs = search needs
 
--- src/rq.rt:95:33
 class-number-requires-2 : tie.Need-class-number-requires-2
 class-number-requires-2 c κs = search needs
 
--- src/rq.rt:90:1
 returns : tie.Need-returns
 returns c = rw (c .before .class-number .ensures, c .class-number2 .ensures, c .before .before .from-raw .ensures)
 

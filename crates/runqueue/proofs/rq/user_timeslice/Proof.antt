@@ -5,24 +5,18 @@ use borrow.Author.Tests.{eq-eqb}
 use borrow.Author.Needs.{needs}
 use Rattle.runqueue.proofs.rq.user_timeslice.Statement.{statement}
 use Rattle.runqueue.proofs.rq.user_timeslice.Tie as tie
-use Rattle.runqueue.proofs.rq.user_timeslice.Reads as reads
-use Rattle.runqueue.proofs.rq.user_timeslice.Lts as lts
 
--- src/rq.rt:141:9
 returns : tie.Need-returns
 unfolding timeslice
 returns c = simp (eq-eqb _ _ (c .if1 .taken))
 
--- src/rq.rt:143:17
 div-slice : tie.Need-div-slice
 div-slice c = search needs
 
--- src/rq.rt:145:9
 returns-2 : tie.Need-returns-2
 unfolding timeslice
 returns-2 c = simp (ne-eqb _ _ (c .before .if1 .left), lt-ltb _ _ (c .if2 .taken))
 
--- src/rq.rt:137:1
 returns-3 : tie.Need-returns-3
 unfolding timeslice
 returns-3 c = simp (ne-eqb _ _ (c .before .if1 .left), le-ltb _ _ (c .if2 .left))

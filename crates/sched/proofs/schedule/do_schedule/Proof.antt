@@ -1,5 +1,5 @@
 -- `sched::schedule::do_schedule` meets its contract: a walk of its MIR, written by tools/entrygen.py.
-use mathlib.Core.Path.{_≡_, refl, sym, subst, _∙_}
+use mathlib.Core.Path.{_≡_, refl, sym, ap, subst, _∙_}
 use Prim.Native.Nat.{ℕ}
 use mathlib.Core.Bool.{not}
 use mathlib.Core.List.{[], _∷_, List}
@@ -35,37 +35,37 @@ use denote.Triple.Clauses.{Clauses}
 use denote.Triple.Walked.{says, Stays, stay-none, stay-slice, stay-none-slice, walkOf, goes-none, goes-slice, goes-none-slice, ends-at}
 use denote.Exit.{yes as kept-yes}
 use Rattle.lent.proofs.Walk.{Datum, number, truth, nil, struct, Dens, AreD, listed, spell, lent-as, slice-of, shared-as, kept, opened, closed, guards, env-of, standing, bare, full, told, proved}
-use Rattle.lent.proofs.Lent.{mutable, shared, passed, call-slices, all-freed, no, yes, begins3, leaves3}
-use Rattle.thread.specs.Thread.{NONE}
+use Rattle.lent.proofs.Lent.{mutable, shared, passed, call-slices, call-left, all-freed, no, yes, so, begins3, leaves3}
+use Rattle.lent.specs.Left.{Memory, Left}
+use Rattle.sched.specs.Schedule.{doSchedule, pickNext, reinsertDef}
+use Rattle.sched_queues.specs.Queues.{blockDef}
 use Rattle.step.specs.Running.{runningAt}
-use Rattle.sched.specs.Queues.{blockDef}
-use Rattle.sched.specs.Schedule.{pickNext, reinsertDef, doSchedule}
-use Rattle.sched.proofs.Exits.{by-world}
+use Rattle.thread.specs.Thread.{NONE}
 use denote.Struct.Laws as LL
-use Rattle.sched.specs.declared.context.Context.{Context}
-use Rattle.sched.proofs.context.Context as Context·
-use Rattle.sched.proofs.context.Context.Laws as Context·laws
-use Rattle.sched.specs.declared.context.SchedFlags.{SchedFlags}
-use Rattle.sched.proofs.context.SchedFlags as SchedFlags·
-use Rattle.sched.proofs.context.SchedFlags.Laws as SchedFlags·laws
+use Rattle.step.specs.declared.context.Context.{Context}
+use Rattle.step.proofs.context.Context as Context·
+use Rattle.step.proofs.context.Context.Laws as Context·laws
+use Rattle.step.specs.declared.context.SchedFlags.{SchedFlags}
+use Rattle.step.proofs.context.SchedFlags as SchedFlags·
+use Rattle.step.proofs.context.SchedFlags.Laws as SchedFlags·laws
 use Rattle.thread.specs.declared.Thread.{Thread}
 use Rattle.thread.proofs.Thread as Thread·
 use Rattle.thread.proofs.Thread.Laws as Thread·laws
 use Rattle.step.proofs.running.running as fn-step-running-running
 use Rattle.step.proofs.running.running.Symbol as fn-step-running-running-def
 use Rattle.step.proofs.running.running.Met as fn-step-running-running-thm
-use Rattle.sched.proofs.schedule.is_idle as fn-sched-schedule-is-idle
-use Rattle.sched.proofs.schedule.is_idle.Symbol as fn-sched-schedule-is-idle-def
-use Rattle.sched.proofs.schedule.is_idle.Met as fn-sched-schedule-is-idle-thm
+use Rattle.sched_queues.proofs.queues.is_idle as fn-sched-queues-queues-is-idle
+use Rattle.sched_queues.proofs.queues.is_idle.Symbol as fn-sched-queues-queues-is-idle-def
+use Rattle.sched_queues.proofs.queues.is_idle.Met as fn-sched-queues-queues-is-idle-thm
 use Rattle.sched.proofs.schedule.pick_next as fn-sched-schedule-pick-next
 use Rattle.sched.proofs.schedule.pick_next.Symbol as fn-sched-schedule-pick-next-def
 use Rattle.sched.proofs.schedule.pick_next.Met as fn-sched-schedule-pick-next-thm
 use Rattle.sched.proofs.schedule.reinsert as fn-sched-schedule-reinsert
 use Rattle.sched.proofs.schedule.reinsert.Symbol as fn-sched-schedule-reinsert-def
 use Rattle.sched.proofs.schedule.reinsert.Met as fn-sched-schedule-reinsert-thm
-use Rattle.sched.proofs.queues.block as fn-sched-queues-block
-use Rattle.sched.proofs.queues.block.Symbol as fn-sched-queues-block-def
-use Rattle.sched.proofs.queues.block.Met as fn-sched-queues-block-thm
+use Rattle.sched_queues.proofs.queues.block as fn-sched-queues-queues-block
+use Rattle.sched_queues.proofs.queues.block.Symbol as fn-sched-queues-queues-block-def
+use Rattle.sched_queues.proofs.queues.block.Met as fn-sched-queues-queues-block-thm
 use Rattle.sched.proofs.schedule.do_schedule.Key.{name as #do-schedule}
 use Rattle.sched.proofs.schedule.do_schedule as do-schedule
 use Rattle.sched.proofs.schedule.do_schedule.Statement as stated
@@ -131,26 +131,14 @@ module _ {M : Type 1} (𝓤 : URA M) (H : Heap 𝓤) (𝓜 : Model 𝓤 H) (𝓖
     abbrev V₁ : ℕ
     V₁ = runningAt ys′ ((a .0) .us)
 
-    abbrev V₂ : List Thread
-    V₂ = pickNext ys ys′ ys″ (a .0) V₁ .threads
+    abbrev V₂ : Memory
+    V₂ = pickNext (a .0) V₁ ys″ (record { threads = ys; cpus = ys′ })
 
-    abbrev V₃ : List (List ℕ)
-    V₃ = pickNext ys ys′ ys″ (a .0) V₁ .cpus
+    abbrev V₃ : Left ℕ Memory
+    V₃ = reinsertDef (a .0) V₁ (a .1 .0) (a .1 .1 .0) ys″ (record { threads = ys; cpus = ys′ })
 
-    abbrev V₄ : ℕ
-    V₄ = reinsertDef ys ys′ ys″ (a .0) V₁ (a .1 .0) (a .1 .1 .0) .wakeups
-
-    abbrev V₅ : List Thread
-    V₅ = reinsertDef ys ys′ ys″ (a .0) V₁ (a .1 .0) (a .1 .1 .0) .threads
-
-    abbrev V₆ : List (List ℕ)
-    V₆ = reinsertDef ys ys′ ys″ (a .0) V₁ (a .1 .0) (a .1 .1 .0) .cpus
-
-    abbrev V₇ : List Thread
-    V₇ = pickNext (blockDef ys V₁) ys′ ys″ (a .0) V₁ .threads
-
-    abbrev V₈ : List (List ℕ)
-    V₈ = pickNext (blockDef ys V₁) ys′ ys″ (a .0) V₁ .cpus
+    abbrev V₄ : Memory
+    V₄ = pickNext (a .0) V₁ ys″ (record { threads = (blockDef V₁ ys); cpus = ys′ })
 
     module _ (l₀ l₁ l₂ l₃ l₄ l₅ l₆ l₇ l₈ l₉ l₁₀ l₁₁ l₁₂ l₁₃ l₁₄ l₁₅ l₁₆ l₁₇ l₁₈ l₁₉ l₂₀ l₂₁ l₂₂ l₂₃ l₂₄ l₂₅ l₂₆ l₂₇ l₂₈ l₂₉ : ℕ) where
       abbrev En : Env 𝓤 H
@@ -164,8 +152,8 @@ module _ {M : Type 1} (𝓤 : URA M) (H : Heap 𝓤) (𝓜 : Model 𝓤 H) (𝓖
           nothing ! $
           move ! (1 ∷ 0 ∷ []) $
           join ! $
-          call-slices nil (number w64 ∷ []) ((V₁, tt)) (emp 𝓤) ((mutable Thread·.the-row ys b o n refl room) ∷ []) ! fm (λ r ws. ws .0 ≡ (blockDef ys V₁)) ((c₈, tt)) (id⊢ 𝓤 (emp 𝓤))
-          (λ νs. cited 𝓤 H (tripleOf 𝓤 H A fn-sched-queues-block.signature (fn-sched-queues-block.spec 𝓤 H A (𝓜 .mem) (𝓡 .run))) 𝓜 𝓡 code.env fn-sched-queues-block-def.name fn-sched-queues-block-def.routine code.calls-sched·queues·block (fn-sched-queues-block-thm.met 𝓤 H 𝓜 𝓖 𝓡) (((νs .0 .0 ∷ [], tt), (fullShare, tt), tt, (lent-as b o (νs .0 .1) ys, (V₁, tt)), (slice-of b o ys ∷ [], spell (number w64 ∷ []) ((V₁, tt)))), tt))
+          call-left nil (number w64 ∷ []) ((V₁, tt)) (emp 𝓤) ((mutable Thread·.the-row ys b o n refl room) ∷ []) ! fm (λ r ws. ws .0 ≡ ((blockDef V₁ ys))) (λ r ws. _≡_ {A = List Thread} (ws .0) (blockDef V₁ ys)) (λ r ws e. e) ((c₈, tt)) (id⊢ 𝓤 (emp 𝓤))
+          (λ νs. cited 𝓤 H (tripleOf 𝓤 H A fn-sched-queues-queues-block.signature (fn-sched-queues-queues-block.spec 𝓤 H A (𝓜 .mem) (𝓡 .run))) 𝓜 𝓡 code.env fn-sched-queues-queues-block-def.name fn-sched-queues-queues-block-def.routine code.calls-sched-queues·queues·block (fn-sched-queues-queues-block-thm.met 𝓤 H 𝓜 𝓖 𝓡) (((νs .0 .0 ∷ [], tt), (fullShare, tt), tt, (lent-as b o (νs .0 .1) ys, (V₁, tt)), (slice-of b o ys ∷ [], spell (number w64 ∷ []) ((V₁, tt)))), tt))
           (λ k. and-then ! (load ! (from ! (stop !)) (look ! 14 refl)) (and-then ! (load ! (from ! (stop !)) (look ! 48 refl)) (no-more !))) (λ r₂₄ ws₂₅ is₂₆ ls₂₇ e₂₈.
           split ! $
           move ! (1 ∷ []) $
@@ -184,8 +172,8 @@ module _ {M : Type 1} (𝓤 : URA M) (H : Heap 𝓤) (𝓜 : Model 𝓤 H) (𝓖
           join ! $
           move ! (1 ∷ 0 ∷ []) $
           join ! $
-          call-slices nil (Context° ∷ number w64 ∷ []) ((a .0, (V₁, tt))) (emp 𝓤) ((mutable Thread·.the-row (blockDef ys V₁) b o n ((refl ∙ sym (subst (λ (us : List Thread). length us ≡ length ys) (e₂₈) (ls₂₇ .0)))) room) ∷ (mutable (Array u64 96) ys′ b′ o′ n′ refl room′) ∷ (passed (Array u64 32) ys″ b″ o″ κ″ q″ γ″) ∷ []) ! fm (λ r ws. (ws .0 ≡ V₇) × (ws .1 .0 ≡ V₈)) ((are .0, (c₈, tt))) (id⊢ 𝓤 (emp 𝓤))
-          (λ νs. cited 𝓤 H (tripleOf 𝓤 H A fn-sched-schedule-pick-next.signature (fn-sched-schedule-pick-next.spec 𝓤 H A (𝓜 .mem) (𝓡 .run))) 𝓜 𝓡 code.env fn-sched-schedule-pick-next-def.name fn-sched-schedule-pick-next-def.routine code.calls-sched·schedule·pick-next (fn-sched-schedule-pick-next-thm.met 𝓤 H 𝓜 𝓖 𝓡) (((νs .0 .0 ∷ [], (νs .1 .0 .0 ∷ [], (κ″, tt))), (fullShare, (fullShare, (q″, tt))), tt, (lent-as b o (νs .0 .1) (blockDef ys V₁), (lent-as b′ o′ (νs .1 .0 .1) ys′, (lent-as b″ o″ γ″ ys″, (a .0, (V₁, tt))))), (slice-of b o (blockDef ys V₁) ∷ [], (slice-of b′ o′ ys′ ∷ [], (slice-of b″ o″ ys″ ∷ [], spell (Context° ∷ number w64 ∷ []) ((a .0, (V₁, tt))))))), tt))
+          call-left nil (Context° ∷ number w64 ∷ []) ((a .0, (V₁, tt))) (emp 𝓤) ((mutable Thread·.the-row ((blockDef V₁ ys)) b o n ((refl ∙ sym (subst (λ (us : List Thread). length us ≡ length ys) (e₂₈) (ls₂₇ .0)))) room) ∷ (mutable (Array u64 96) ys′ b′ o′ n′ refl room′) ∷ (passed (Array u64 32) ys″ b″ o″ κ″ q″ γ″) ∷ []) ! fm (λ r ws. (ws .0 ≡ (V₄ .threads)) × (ws .1 .0 ≡ (V₄ .cpus))) (λ r ws. _≡_ {A = Memory} (record { threads = ws .0; cpus = ws .1 .0 }) V₄) (λ r ws e. (ap (λ (z : Memory). z .threads) e, ap (λ (z : Memory). z .cpus) e)) ((are .0, (c₈, tt))) (id⊢ 𝓤 (emp 𝓤))
+          (λ νs. cited 𝓤 H (tripleOf 𝓤 H A fn-sched-schedule-pick-next.signature (fn-sched-schedule-pick-next.spec 𝓤 H A (𝓜 .mem) (𝓡 .run))) 𝓜 𝓡 code.env fn-sched-schedule-pick-next-def.name fn-sched-schedule-pick-next-def.routine code.calls-sched·schedule·pick-next (fn-sched-schedule-pick-next-thm.met 𝓤 H 𝓜 𝓖 𝓡) (((νs .0 .0 ∷ [], (νs .1 .0 .0 ∷ [], (κ″, tt))), (fullShare, (fullShare, (q″, tt))), tt, (lent-as b o (νs .0 .1) ((blockDef V₁ ys)), (lent-as b′ o′ (νs .1 .0 .1) ys′, (lent-as b″ o″ γ″ ys″, (a .0, (V₁, tt))))), (slice-of b o ((blockDef V₁ ys)) ∷ [], (slice-of b′ o′ ys′ ∷ [], (slice-of b″ o″ ys″ ∷ [], spell (Context° ∷ number w64 ∷ []) ((a .0, (V₁, tt))))))), tt))
           (λ k. and-then ! (load ! (from ! (stop !)) (look ! 7 refl)) (and-then ! (load ! (from ! (stop !)) (look ! 3 refl)) (and-then ! (load ! (from ! (stop !)) (look ! 55 refl)) (and-then ! (load ! (from ! (stop !)) (look ! 53 refl)) (and-then ! (load ! (from ! (stop !)) (look ! 45 refl)) (no-more !)))))) (λ r₂₉ ws₃₀ is₃₁ ls₃₂ e₃₃.
           split ! $
           move ! (1 ∷ []) $
@@ -200,13 +188,13 @@ module _ {M : Type 1} (𝓤 : URA M) (H : Heap 𝓤) (𝓜 : Model 𝓤 H) (𝓖
           land ! (from ! (stop !)) (store ! 18 refl (tt, tt)) $
           assigns ! (of-opd ! (load ! (from ! (stop !)) (look ! 52 refl))) (from ! (stop !)) (init ! 64 refl ((number w64) .typed 𝓤 H A W (a .1 .1 .0) (are .1 .1 .0) .0)) $
           move ! (2 ∷ 5 ∷ []) $
-          closed ! tt (Array u64 96) ys′ (V₈) b′ o′ room′ (sym ((refl ∙ sym (subst (λ (us : List (List ℕ)). length us ≡ length ys′) (e₃₃ .1) (ls₃₂ .1 .0))))) $
+          closed ! tt (Array u64 96) ys′ (V₄ .cpus) b′ o′ room′ (sym ((refl ∙ sym (subst (λ (us : List (List ℕ)). length us ≡ length ys′) (e₃₃ .1) (ls₃₂ .1 .0))))) $
           move ! (4 ∷ 5 ∷ []) $
-          closed ! tt Thread·.the-row ys (V₇) b o room (sym (((refl ∙ sym (subst (λ (us : List Thread). length us ≡ length ys) (e₂₈) (ls₂₇ .0))) ∙ sym (subst (λ (us : List Thread). length us ≡ length (blockDef ys V₁)) (e₃₃ .0) (ls₃₂ .0))))) $
+          closed ! tt Thread·.the-row ys (V₄ .threads) b o room (sym (((refl ∙ sym (subst (λ (us : List Thread). length us ≡ length ys) (e₂₈) (ls₂₇ .0))) ∙ sym (subst (λ (us : List Thread). length us ≡ length ((blockDef V₁ ys))) (e₃₃ .0) (ls₃₂ .0))))) $
           returns ! (look ! 64 refl) $
           move ! (64 ∷ 65 ∷ 62 ∷ 63 ∷ 60 ∷ 61 ∷ 58 ∷ 59 ∷ 56 ∷ 57 ∷ 54 ∷ 55 ∷ 52 ∷ 53 ∷ 50 ∷ 51 ∷ 48 ∷ 49 ∷ 46 ∷ 47 ∷ 44 ∷ 45 ∷ 42 ∷ 43 ∷ 40 ∷ 41 ∷ 38 ∷ 39 ∷ 36 ∷ 37 ∷ 34 ∷ 35 ∷ 32 ∷ 33 ∷ 30 ∷ 31 ∷ 28 ∷ 29 ∷ 26 ∷ 27 ∷ 24 ∷ 25 ∷ 22 ∷ 23 ∷ 20 ∷ 21 ∷ 18 ∷ 19 ∷ 16 ∷ 17 ∷ 14 ∷ 15 ∷ 12 ∷ 13 ∷ 10 ∷ 11 ∷ 8 ∷ 9 ∷ 6 ∷ 7 ∷ []) $
           all-freed ! mir.locals (l₀ ∷ l₁ ∷ l₂ ∷ l₃ ∷ l₄ ∷ l₅ ∷ l₆ ∷ l₇ ∷ l₈ ∷ l₉ ∷ l₁₀ ∷ l₁₁ ∷ l₁₂ ∷ l₁₃ ∷ l₁₄ ∷ l₁₅ ∷ l₁₆ ∷ l₁₇ ∷ l₁₈ ∷ l₁₉ ∷ l₂₀ ∷ l₂₁ ∷ l₂₂ ∷ l₂₃ ∷ l₂₄ ∷ l₂₅ ∷ l₂₆ ∷ l₂₇ ∷ l₂₈ ∷ l₂₉ ∷ []) (full _ ∷ full _ ∷ full _ ∷ full _ ∷ full _ ∷ full _ ∷ full _ ∷ bare ∷ full _ ∷ bare ∷ bare ∷ bare ∷ bare ∷ bare ∷ bare ∷ bare ∷ bare ∷ bare ∷ bare ∷ bare ∷ bare ∷ bare ∷ bare ∷ full _ ∷ full _ ∷ full _ ∷ full _ ∷ full _ ∷ full _ ∷ full _ ∷ []) tt $
-          suffices ! _ (ends-at 𝓤 H A do-schedule.ended stayed c W y _ (a .1 .1 .0) (V₇, (V₈, (tt, (tt, (tt, (tt, tt)))))) (sym (((refl ∙ sym (subst (λ (us : List Thread). length us ≡ length ys) (e₂₈) (ls₂₇ .0))) ∙ sym (subst (λ (us : List Thread). length us ≡ length (blockDef ys V₁)) (e₃₃ .0) (ls₃₂ .0)))), (sym ((refl ∙ sym (subst (λ (us : List (List ℕ)). length us ≡ length ys′) (e₃₃ .1) (ls₃₂ .1 .0)))), (tt, (tt, (tt, (tt, tt))))))) $ says ! (by-world (record { wakeups = (a .1 .1 .0); threads = V₇; cpus = V₈ }) (doSchedule ys ys′ ys″ (a .0) (a .1 .0) (a .1 .1 .0)) ((no (eqb V₁ NONE) h₁ _ (no ((a .1 .0) .reinsert) h₂ _ (refl))))) $
+          suffices ! _ (ends-at 𝓤 H A do-schedule.ended stayed c W y _ (a .1 .1 .0) (V₄ .threads, (V₄ .cpus, (tt, (tt, (tt, (tt, tt)))))) (sym (((refl ∙ sym (subst (λ (us : List Thread). length us ≡ length ys) (e₂₈) (ls₂₇ .0))) ∙ sym (subst (λ (us : List Thread). length us ≡ length ((blockDef V₁ ys))) (e₃₃ .0) (ls₃₂ .0)))), (sym ((refl ∙ sym (subst (λ (us : List (List ℕ)). length us ≡ length ys′) (e₃₃ .1) (ls₃₂ .1 .0)))), (tt, (tt, (tt, (tt, tt))))))) $ says ! (so {X = Left ℕ Memory} (record { answer = (a .1 .1 .0); memory = record { threads = (V₄ .threads); cpus = (V₄ .cpus) } }) (doSchedule (a .0) (a .1 .0) (a .1 .1 .0) ys″ (record { threads = ys; cpus = ys′ })) ((no (eqb V₁ NONE) h₁ _ (no ((a .1 .0) .reinsert) h₂ _ (refl))))) $
           leaves3 ! (number w64) Ds a (a .1 .1 .0) are (are .1 .1 .0)))
 
     walk : ent 𝓤 (onEntry 𝓤 H A do-schedule.signature (κ, (κ′, (κ″, tt))) (q, (q′, (q″, tt))) ((lent-as b o γ ys, (lent-as b′ o′ γ′ ys′, (lent-as b″ o″ γ″ ys″, a)))) ((s ∷ [], (s′ ∷ [], (s″ ∷ [], spell Ds a))))) (WpFn 𝓤 H C Λ code.function (s ∷ s′ ∷ s″ ∷ listed Ds a) Post)
@@ -236,7 +224,7 @@ module _ {M : Type 1} (𝓤 : URA M) (H : Heap 𝓤) (𝓜 : Model 𝓤 H) (𝓖
         land ! (from ! (stop !)) (init ! 48 refl ((number w64) .typed 𝓤 H A W (V₁) (is₆) .0)) $
         nothing ! $
         call-slices truth (number w64 ∷ []) ((V₁, tt)) (emp 𝓤) ([]) ! fm (λ r ws. r ≡ (eqb V₁ NONE)) ((is₆, tt)) (id⊢ 𝓤 (emp 𝓤))
-        (λ νs. cited 𝓤 H (tripleOf 𝓤 H A fn-sched-schedule-is-idle.signature (fn-sched-schedule-is-idle.spec 𝓤 H A (𝓜 .mem) (𝓡 .run))) 𝓜 𝓡 code.env fn-sched-schedule-is-idle-def.name fn-sched-schedule-is-idle-def.routine code.calls-sched·schedule·is-idle (fn-sched-schedule-is-idle-thm.met 𝓤 H 𝓜 𝓖 𝓡) ((tt, tt, tt, (V₁, tt), spell (number w64 ∷ []) ((V₁, tt))), tt))
+        (λ νs. cited 𝓤 H (tripleOf 𝓤 H A fn-sched-queues-queues-is-idle.signature (fn-sched-queues-queues-is-idle.spec 𝓤 H A (𝓜 .mem) (𝓡 .run))) 𝓜 𝓡 code.env fn-sched-queues-queues-is-idle-def.name fn-sched-queues-queues-is-idle-def.routine code.calls-sched-queues·queues·is-idle (fn-sched-queues-queues-is-idle-thm.met 𝓤 H 𝓜 𝓖 𝓡) ((tt, tt, tt, (V₁, tt), spell (number w64 ∷ []) ((V₁, tt))), tt))
         (λ k. and-then ! (load ! (from ! (stop !)) (look ! 49 refl)) (no-more !)) (λ r₇ ws₈ is₉ ls₁₀ e₁₁.
         drop ! $
         told ! truth (e₁₁) is₉ (λ is₁₂.
@@ -255,7 +243,7 @@ module _ {M : Type 1} (𝓤 : URA M) (H : Heap 𝓤) (𝓜 : Model 𝓤 H) (𝓖
         join ! $
         move ! (1 ∷ 0 ∷ []) $
         join ! $
-        call-slices nil (Context° ∷ number w64 ∷ []) ((a .0, (V₁, tt))) (emp 𝓤) ((mutable Thread·.the-row ys b o n refl room) ∷ (mutable (Array u64 96) ys′ b′ o′ n′ refl room′) ∷ (passed (Array u64 32) ys″ b″ o″ κ″ q″ γ″) ∷ []) ! fm (λ r ws. (ws .0 ≡ V₂) × (ws .1 .0 ≡ V₃)) ((are .0, (is₆, tt))) (id⊢ 𝓤 (emp 𝓤))
+        call-left nil (Context° ∷ number w64 ∷ []) ((a .0, (V₁, tt))) (emp 𝓤) ((mutable Thread·.the-row ys b o n refl room) ∷ (mutable (Array u64 96) ys′ b′ o′ n′ refl room′) ∷ (passed (Array u64 32) ys″ b″ o″ κ″ q″ γ″) ∷ []) ! fm (λ r ws. (ws .0 ≡ (V₂ .threads)) × (ws .1 .0 ≡ (V₂ .cpus))) (λ r ws. _≡_ {A = Memory} (record { threads = ws .0; cpus = ws .1 .0 }) V₂) (λ r ws e. (ap (λ (z : Memory). z .threads) e, ap (λ (z : Memory). z .cpus) e)) ((are .0, (is₆, tt))) (id⊢ 𝓤 (emp 𝓤))
         (λ νs. cited 𝓤 H (tripleOf 𝓤 H A fn-sched-schedule-pick-next.signature (fn-sched-schedule-pick-next.spec 𝓤 H A (𝓜 .mem) (𝓡 .run))) 𝓜 𝓡 code.env fn-sched-schedule-pick-next-def.name fn-sched-schedule-pick-next-def.routine code.calls-sched·schedule·pick-next (fn-sched-schedule-pick-next-thm.met 𝓤 H 𝓜 𝓖 𝓡) (((νs .0 .0 ∷ [], (νs .1 .0 .0 ∷ [], (κ″, tt))), (fullShare, (fullShare, (q″, tt))), tt, (lent-as b o (νs .0 .1) ys, (lent-as b′ o′ (νs .1 .0 .1) ys′, (lent-as b″ o″ γ″ ys″, (a .0, (V₁, tt))))), (slice-of b o ys ∷ [], (slice-of b′ o′ ys′ ∷ [], (slice-of b″ o″ ys″ ∷ [], spell (Context° ∷ number w64 ∷ []) ((a .0, (V₁, tt))))))), tt))
         (λ k. and-then ! (load ! (from ! (stop !)) (look ! 31 refl)) (and-then ! (load ! (from ! (stop !)) (look ! 27 refl)) (and-then ! (load ! (from ! (stop !)) (look ! 55 refl)) (and-then ! (load ! (from ! (stop !)) (look ! 53 refl)) (and-then ! (load ! (from ! (stop !)) (look ! 45 refl)) (no-more !)))))) (λ r₁₃ ws₁₄ is₁₅ ls₁₆ e₁₇.
         split ! $
@@ -271,13 +259,13 @@ module _ {M : Type 1} (𝓤 : URA M) (H : Heap 𝓤) (𝓜 : Model 𝓤 H) (𝓖
         land ! (from ! (stop !)) (init ! 38 refl (tt, tt)) $
         assigns ! (of-opd ! (load ! (from ! (stop !)) (look ! 52 refl))) (from ! (stop !)) (init ! 64 refl ((number w64) .typed 𝓤 H A W (a .1 .1 .0) (are .1 .1 .0) .0)) $
         move ! (2 ∷ 5 ∷ []) $
-        closed ! tt (Array u64 96) ys′ (V₃) b′ o′ room′ (sym ((refl ∙ sym (subst (λ (us : List (List ℕ)). length us ≡ length ys′) (e₁₇ .1) (ls₁₆ .1 .0))))) $
+        closed ! tt (Array u64 96) ys′ (V₂ .cpus) b′ o′ room′ (sym ((refl ∙ sym (subst (λ (us : List (List ℕ)). length us ≡ length ys′) (e₁₇ .1) (ls₁₆ .1 .0))))) $
         move ! (4 ∷ 5 ∷ []) $
-        closed ! tt Thread·.the-row ys (V₂) b o room (sym ((refl ∙ sym (subst (λ (us : List Thread). length us ≡ length ys) (e₁₇ .0) (ls₁₆ .0))))) $
+        closed ! tt Thread·.the-row ys (V₂ .threads) b o room (sym ((refl ∙ sym (subst (λ (us : List Thread). length us ≡ length ys) (e₁₇ .0) (ls₁₆ .0))))) $
         returns-within ! Post refl (look ! 64 refl) $
         move ! (64 ∷ 65 ∷ 62 ∷ 63 ∷ 60 ∷ 61 ∷ 58 ∷ 59 ∷ 56 ∷ 57 ∷ 54 ∷ 55 ∷ 52 ∷ 53 ∷ 50 ∷ 51 ∷ 48 ∷ 49 ∷ 46 ∷ 47 ∷ 44 ∷ 45 ∷ 42 ∷ 43 ∷ 40 ∷ 41 ∷ 38 ∷ 39 ∷ 36 ∷ 37 ∷ 34 ∷ 35 ∷ 32 ∷ 33 ∷ 30 ∷ 31 ∷ 28 ∷ 29 ∷ 26 ∷ 27 ∷ 24 ∷ 25 ∷ 22 ∷ 23 ∷ 20 ∷ 21 ∷ 18 ∷ 19 ∷ 16 ∷ 17 ∷ 14 ∷ 15 ∷ 12 ∷ 13 ∷ 10 ∷ 11 ∷ 8 ∷ 9 ∷ 6 ∷ 7 ∷ []) $
         all-freed ! mir.locals (l₀ ∷ l₁ ∷ l₂ ∷ l₃ ∷ l₄ ∷ l₅ ∷ l₆ ∷ l₇ ∷ l₈ ∷ l₉ ∷ l₁₀ ∷ l₁₁ ∷ l₁₂ ∷ l₁₃ ∷ l₁₄ ∷ l₁₅ ∷ l₁₆ ∷ l₁₇ ∷ l₁₈ ∷ l₁₉ ∷ l₂₀ ∷ l₂₁ ∷ l₂₂ ∷ l₂₃ ∷ l₂₄ ∷ l₂₅ ∷ l₂₆ ∷ l₂₇ ∷ l₂₈ ∷ l₂₉ ∷ []) (full _ ∷ full _ ∷ full _ ∷ full _ ∷ full _ ∷ full _ ∷ full _ ∷ full _ ∷ full _ ∷ bare ∷ full _ ∷ full _ ∷ full _ ∷ full _ ∷ full _ ∷ full _ ∷ full _ ∷ full _ ∷ bare ∷ bare ∷ bare ∷ bare ∷ bare ∷ bare ∷ bare ∷ bare ∷ bare ∷ bare ∷ bare ∷ bare ∷ []) tt $
-        suffices ! _ (ends-at 𝓤 H A do-schedule.ended stayed c W y _ (a .1 .1 .0) (V₂, (V₃, (tt, (tt, (tt, (tt, tt)))))) (sym ((refl ∙ sym (subst (λ (us : List Thread). length us ≡ length ys) (e₁₇ .0) (ls₁₆ .0)))), (sym ((refl ∙ sym (subst (λ (us : List (List ℕ)). length us ≡ length ys′) (e₁₇ .1) (ls₁₆ .1 .0)))), (tt, (tt, (tt, (tt, tt))))))) $ says ! (by-world (record { wakeups = (a .1 .1 .0); threads = V₂; cpus = V₃ }) (doSchedule ys ys′ ys″ (a .0) (a .1 .0) (a .1 .1 .0)) ((yes (eqb V₁ NONE) h₁ _ (refl)))) $
+        suffices ! _ (ends-at 𝓤 H A do-schedule.ended stayed c W y _ (a .1 .1 .0) (V₂ .threads, (V₂ .cpus, (tt, (tt, (tt, (tt, tt)))))) (sym ((refl ∙ sym (subst (λ (us : List Thread). length us ≡ length ys) (e₁₇ .0) (ls₁₆ .0)))), (sym ((refl ∙ sym (subst (λ (us : List (List ℕ)). length us ≡ length ys′) (e₁₇ .1) (ls₁₆ .1 .0)))), (tt, (tt, (tt, (tt, tt))))))) $ says ! (so {X = Left ℕ Memory} (record { answer = (a .1 .1 .0); memory = record { threads = (V₂ .threads); cpus = (V₂ .cpus) } }) (doSchedule (a .0) (a .1 .0) (a .1 .1 .0) ys″ (record { threads = ys; cpus = ys′ })) ((yes (eqb V₁ NONE) h₁ _ (refl)))) $
         leaves3 ! (number w64) Ds a (a .1 .1 .0) are (are .1 .1 .0)))
         (λ h₁.
         assigns ! (of-opd ! (load ! (from ! (fld ! refl (stop !))) (look-in ! 54 (sub ! 2 refl (whole !))))) (from ! (stop !)) (init ! 46 refl (tt, tt)) $
@@ -296,7 +284,7 @@ module _ {M : Type 1} (𝓤 : URA M) (H : Heap 𝓤) (𝓜 : Model 𝓤 H) (𝓖
         join ! $
         move ! (1 ∷ 0 ∷ []) $
         join ! $
-        call-slices (number w64) (Context° ∷ number w64 ∷ SchedFlags° ∷ number w64 ∷ []) ((a .0, (V₁, (a .1 .0, (a .1 .1 .0, tt))))) (emp 𝓤) ((mutable Thread·.the-row ys b o n refl room) ∷ (mutable (Array u64 96) ys′ b′ o′ n′ refl room′) ∷ (passed (Array u64 32) ys″ b″ o″ κ″ q″ γ″) ∷ []) ! fm (λ r ws. (r ≡ V₄) × ((ws .0 ≡ V₅) × (ws .1 .0 ≡ V₆))) ((are .0, (is₆, (are .1 .0, (are .1 .1 .0, tt))))) (id⊢ 𝓤 (emp 𝓤))
+        call-left (number w64) (Context° ∷ number w64 ∷ SchedFlags° ∷ number w64 ∷ []) ((a .0, (V₁, (a .1 .0, (a .1 .1 .0, tt))))) (emp 𝓤) ((mutable Thread·.the-row ys b o n refl room) ∷ (mutable (Array u64 96) ys′ b′ o′ n′ refl room′) ∷ (passed (Array u64 32) ys″ b″ o″ κ″ q″ γ″) ∷ []) ! fm (λ r ws. (r ≡ (V₃ .answer)) × ((ws .0 ≡ (V₃ .memory .threads)) × (ws .1 .0 ≡ (V₃ .memory .cpus)))) (λ r ws. _≡_ {A = Left ℕ Memory} (record { answer = r; memory = record { threads = ws .0; cpus = ws .1 .0 } }) V₃) (λ r ws e. (ap (λ (z : Left ℕ Memory). z .answer) e, (ap (λ (z : Left ℕ Memory). z .memory .threads) e, ap (λ (z : Left ℕ Memory). z .memory .cpus) e))) ((are .0, (is₆, (are .1 .0, (are .1 .1 .0, tt))))) (id⊢ 𝓤 (emp 𝓤))
         (λ νs. cited 𝓤 H (tripleOf 𝓤 H A fn-sched-schedule-reinsert.signature (fn-sched-schedule-reinsert.spec 𝓤 H A (𝓜 .mem) (𝓡 .run))) 𝓜 𝓡 code.env fn-sched-schedule-reinsert-def.name fn-sched-schedule-reinsert-def.routine code.calls-sched·schedule·reinsert (fn-sched-schedule-reinsert-thm.met 𝓤 H 𝓜 𝓖 𝓡) (((νs .0 .0 ∷ [], (νs .1 .0 .0 ∷ [], (κ″, tt))), (fullShare, (fullShare, (q″, tt))), tt, (lent-as b o (νs .0 .1) ys, (lent-as b′ o′ (νs .1 .0 .1) ys′, (lent-as b″ o″ γ″ ys″, (a .0, (V₁, (a .1 .0, (a .1 .1 .0, tt))))))), (slice-of b o ys ∷ [], (slice-of b′ o′ ys′ ∷ [], (slice-of b″ o″ ys″ ∷ [], spell (Context° ∷ number w64 ∷ SchedFlags° ∷ number w64 ∷ []) ((a .0, (V₁, (a .1 .0, (a .1 .1 .0, tt))))))))), tt))
         (λ k. and-then ! (load ! (from ! (stop !)) (look ! 21 refl)) (and-then ! (load ! (from ! (stop !)) (look ! 17 refl)) (and-then ! (load ! (from ! (stop !)) (look ! 55 refl)) (and-then ! (load ! (from ! (stop !)) (look ! 53 refl)) (and-then ! (load ! (from ! (stop !)) (look ! 45 refl)) (and-then ! (load ! (from ! (stop !)) (look ! 51 refl)) (and-then ! (load ! (from ! (stop !)) (look ! 49 refl)) (no-more !)))))))) (λ r₁₈ ws₁₉ is₂₀ ls₂₁ e₂₂.
         split ! $
@@ -310,16 +298,16 @@ module _ {M : Type 1} (𝓤 : URA M) (H : Heap 𝓤) (𝓜 : Model 𝓤 H) (𝓖
         rewrite ! 3 (λ (us : List Thread). ‵ (row Thread·.the-row fullShare us b o)) (e₂₂ .1 .0) refl $
         rewrite ! 2 (λ (us : List (List ℕ)). ‵ (row (Array u64 96) fullShare us b′ o′)) (e₂₂ .1 .1) refl $
         told ! (number w64) (e₂₂ .0) is₂₀ (λ is₂₃.
-        land ! (from ! (stop !)) (init ! 64 refl ((number w64) .typed 𝓤 H A W (V₄) (is₂₃) .0)) $
+        land ! (from ! (stop !)) (init ! 64 refl ((number w64) .typed 𝓤 H A W (V₃ .answer) (is₂₃) .0)) $
         move ! (2 ∷ 5 ∷ []) $
-        closed ! tt (Array u64 96) ys′ (V₆) b′ o′ room′ (sym ((refl ∙ sym (subst (λ (us : List (List ℕ)). length us ≡ length ys′) (e₂₂ .1 .1) (ls₂₁ .1 .0))))) $
+        closed ! tt (Array u64 96) ys′ (V₃ .memory .cpus) b′ o′ room′ (sym ((refl ∙ sym (subst (λ (us : List (List ℕ)). length us ≡ length ys′) (e₂₂ .1 .1) (ls₂₁ .1 .0))))) $
         move ! (4 ∷ 5 ∷ []) $
-        closed ! tt Thread·.the-row ys (V₅) b o room (sym ((refl ∙ sym (subst (λ (us : List Thread). length us ≡ length ys) (e₂₂ .1 .0) (ls₂₁ .0))))) $
+        closed ! tt Thread·.the-row ys (V₃ .memory .threads) b o room (sym ((refl ∙ sym (subst (λ (us : List Thread). length us ≡ length ys) (e₂₂ .1 .0) (ls₂₁ .0))))) $
         returns-within ! Post refl (look ! 64 refl) $
         move ! (64 ∷ 65 ∷ 62 ∷ 63 ∷ 60 ∷ 61 ∷ 58 ∷ 59 ∷ 56 ∷ 57 ∷ 54 ∷ 55 ∷ 52 ∷ 53 ∷ 50 ∷ 51 ∷ 48 ∷ 49 ∷ 46 ∷ 47 ∷ 44 ∷ 45 ∷ 42 ∷ 43 ∷ 40 ∷ 41 ∷ 38 ∷ 39 ∷ 36 ∷ 37 ∷ 34 ∷ 35 ∷ 32 ∷ 33 ∷ 30 ∷ 31 ∷ 28 ∷ 29 ∷ 26 ∷ 27 ∷ 24 ∷ 25 ∷ 22 ∷ 23 ∷ 20 ∷ 21 ∷ 18 ∷ 19 ∷ 16 ∷ 17 ∷ 14 ∷ 15 ∷ 12 ∷ 13 ∷ 10 ∷ 11 ∷ 8 ∷ 9 ∷ 6 ∷ 7 ∷ []) $
         all-freed ! mir.locals (l₀ ∷ l₁ ∷ l₂ ∷ l₃ ∷ l₄ ∷ l₅ ∷ l₆ ∷ l₇ ∷ l₈ ∷ l₉ ∷ l₁₀ ∷ l₁₁ ∷ l₁₂ ∷ l₁₃ ∷ l₁₄ ∷ l₁₅ ∷ l₁₆ ∷ l₁₇ ∷ l₁₈ ∷ l₁₉ ∷ l₂₀ ∷ l₂₁ ∷ l₂₂ ∷ l₂₃ ∷ l₂₄ ∷ l₂₅ ∷ l₂₆ ∷ l₂₇ ∷ l₂₈ ∷ l₂₉ ∷ []) (full _ ∷ full _ ∷ full _ ∷ full _ ∷ full _ ∷ full _ ∷ full _ ∷ full _ ∷ full _ ∷ full _ ∷ full _ ∷ full _ ∷ full _ ∷ bare ∷ bare ∷ bare ∷ bare ∷ bare ∷ full _ ∷ full _ ∷ full _ ∷ full _ ∷ full _ ∷ bare ∷ bare ∷ bare ∷ bare ∷ bare ∷ bare ∷ bare ∷ []) tt $
-        suffices ! _ (ends-at 𝓤 H A do-schedule.ended stayed c W y _ (V₄) (V₅, (V₆, (tt, (tt, (tt, (tt, tt)))))) (sym ((refl ∙ sym (subst (λ (us : List Thread). length us ≡ length ys) (e₂₂ .1 .0) (ls₂₁ .0)))), (sym ((refl ∙ sym (subst (λ (us : List (List ℕ)). length us ≡ length ys′) (e₂₂ .1 .1) (ls₂₁ .1 .0)))), (tt, (tt, (tt, (tt, tt))))))) $ says ! (by-world (record { wakeups = V₄; threads = V₅; cpus = V₆ }) (doSchedule ys ys′ ys″ (a .0) (a .1 .0) (a .1 .1 .0)) ((no (eqb V₁ NONE) h₁ _ (yes ((a .1 .0) .reinsert) h₂ _ (refl))))) $
-        leaves3 ! (number w64) Ds a (V₄) are (is₂₃))))
+        suffices ! _ (ends-at 𝓤 H A do-schedule.ended stayed c W y _ (V₃ .answer) (V₃ .memory .threads, (V₃ .memory .cpus, (tt, (tt, (tt, (tt, tt)))))) (sym ((refl ∙ sym (subst (λ (us : List Thread). length us ≡ length ys) (e₂₂ .1 .0) (ls₂₁ .0)))), (sym ((refl ∙ sym (subst (λ (us : List (List ℕ)). length us ≡ length ys′) (e₂₂ .1 .1) (ls₂₁ .1 .0)))), (tt, (tt, (tt, (tt, tt))))))) $ says ! (so {X = Left ℕ Memory} (record { answer = (V₃ .answer); memory = record { threads = (V₃ .memory .threads); cpus = (V₃ .memory .cpus) } }) (doSchedule (a .0) (a .1 .0) (a .1 .1 .0) ys″ (record { threads = ys; cpus = ys′ })) ((no (eqb V₁ NONE) h₁ _ (yes ((a .1 .0) .reinsert) h₂ _ (refl))))) $
+        leaves3 ! (number w64) Ds a (V₃ .answer) are (is₂₃))))
         (λ h₂.
         forget ! 50 refl $
         forget ! 46 refl $

@@ -1,5 +1,5 @@
 -- `sched::schedule::pick_next` meets its contract: a walk of its MIR, written by tools/entrygen.py.
-use mathlib.Core.Path.{_≡_, refl, sym, subst, _∙_}
+use mathlib.Core.Path.{_≡_, refl, sym, ap, subst, _∙_}
 use Prim.Native.Nat.{ℕ}
 use mathlib.Core.Bool.{false, not}
 use mathlib.Core.List.{[], _∷_, List}
@@ -34,15 +34,15 @@ use denote.Triple.Clauses.{Clauses}
 use denote.Triple.Walked.{says, Stays, stay-none, stay-slice, stay-none-slice, walkOf, goes-none, goes-slice, goes-none-slice, ends-at}
 use denote.Exit.{yes as kept-yes}
 use Rattle.lent.proofs.Walk.{Datum, number, truth, nil, struct, Dens, AreD, listed, spell, lent-as, slice-of, shared-as, kept, opened, closed, guards, env-of, standing, bare, full, told, proved}
-use Rattle.lent.proofs.Lent.{mutable, passed, choice, call-slices, all-freed, no, yes, begins3, leaves3}
+use Rattle.lent.proofs.Lent.{mutable, passed, choice, call-slices, call-left, all-freed, no, yes, so, begins3, leaves3}
+use Rattle.lent.specs.Left.{Memory, Left}
 use Rattle.lent.specs.Rq.{takeDef}
-use Rattle.sched.specs.Queues.{isNobody, threadOf, trySteal}
-use Rattle.sched.specs.Schedule.{runTaken, runStolen, pickStolen, pickTaken, pickNext}
-use Rattle.sched.proofs.Exits.{by-memory}
+use Rattle.sched.specs.Schedule.{pickNext, runStolen, runTaken, pickStolen, pickTaken}
+use Rattle.sched_queues.specs.Queues.{isNobody, trySteal, threadOf}
 use denote.Struct.Laws as LL
-use Rattle.sched.specs.declared.context.Context.{Context}
-use Rattle.sched.proofs.context.Context as Context·
-use Rattle.sched.proofs.context.Context.Laws as Context·laws
+use Rattle.step.specs.declared.context.Context.{Context}
+use Rattle.step.proofs.context.Context as Context·
+use Rattle.step.proofs.context.Context.Laws as Context·laws
 use Rattle.lent.specs.declared.rq.Taken.{Taken}
 use Rattle.lent.proofs.rq.Taken as Taken·
 use Rattle.lent.proofs.rq.Taken.Laws as Taken·laws
@@ -52,18 +52,18 @@ use Rattle.thread.proofs.Thread.Laws as Thread·laws
 use Rattle.lent.proofs.rq.take as fn-lent-rq-take
 use Rattle.lent.proofs.rq.take.Symbol as fn-lent-rq-take-def
 use Rattle.lent.proofs.rq.take.Met as fn-lent-rq-take-thm
-use Rattle.sched.proofs.queues.is_nobody as fn-sched-queues-is-nobody
-use Rattle.sched.proofs.queues.is_nobody.Symbol as fn-sched-queues-is-nobody-def
-use Rattle.sched.proofs.queues.is_nobody.Met as fn-sched-queues-is-nobody-thm
-use Rattle.sched.proofs.queues.try_steal as fn-sched-queues-try-steal
-use Rattle.sched.proofs.queues.try_steal.Symbol as fn-sched-queues-try-steal-def
-use Rattle.sched.proofs.queues.try_steal.Met as fn-sched-queues-try-steal-thm
+use Rattle.sched_queues.proofs.queues.is_nobody as fn-sched-queues-queues-is-nobody
+use Rattle.sched_queues.proofs.queues.is_nobody.Symbol as fn-sched-queues-queues-is-nobody-def
+use Rattle.sched_queues.proofs.queues.is_nobody.Met as fn-sched-queues-queues-is-nobody-thm
+use Rattle.sched_queues.proofs.queues.try_steal as fn-sched-queues-queues-try-steal
+use Rattle.sched_queues.proofs.queues.try_steal.Symbol as fn-sched-queues-queues-try-steal-def
+use Rattle.sched_queues.proofs.queues.try_steal.Met as fn-sched-queues-queues-try-steal-thm
 use Rattle.sched.proofs.schedule.run_stolen as fn-sched-schedule-run-stolen
 use Rattle.sched.proofs.schedule.run_stolen.Symbol as fn-sched-schedule-run-stolen-def
 use Rattle.sched.proofs.schedule.run_stolen.Met as fn-sched-schedule-run-stolen-thm
-use Rattle.sched.proofs.queues.thread_of as fn-sched-queues-thread-of
-use Rattle.sched.proofs.queues.thread_of.Symbol as fn-sched-queues-thread-of-def
-use Rattle.sched.proofs.queues.thread_of.Met as fn-sched-queues-thread-of-thm
+use Rattle.sched_queues.proofs.queues.thread_of as fn-sched-queues-queues-thread-of
+use Rattle.sched_queues.proofs.queues.thread_of.Symbol as fn-sched-queues-queues-thread-of-def
+use Rattle.sched_queues.proofs.queues.thread_of.Met as fn-sched-queues-queues-thread-of-thm
 use Rattle.sched.proofs.schedule.run_taken as fn-sched-schedule-run-taken
 use Rattle.sched.proofs.schedule.run_taken.Symbol as fn-sched-schedule-run-taken-def
 use Rattle.sched.proofs.schedule.run_taken.Met as fn-sched-schedule-run-taken-thm
@@ -129,53 +129,35 @@ module _ {M : Type 1} (𝓤 : URA M) (H : Heap 𝓤) (𝓜 : Model 𝓤 H) (𝓖
     abbrev Post : Val → SProp 𝓤
     Post = walkOf 𝓤 H A pick-next.ended stayed c .post y
 
-    abbrev V₁ : Taken
-    V₁ = takeDef ys ys′ ((a .0) .us) false .answer
+    abbrev V₁ : Left Taken Memory
+    V₁ = takeDef ((a .0) .us) false (record { threads = ys; cpus = ys′ })
 
-    abbrev V₂ : List Thread
-    V₂ = takeDef ys ys′ ((a .0) .us) false .threads
+    abbrev V₂ : Left Taken Memory
+    V₂ = trySteal (a .0) ys″ (record { threads = V₁ .memory .threads; cpus = V₁ .memory .cpus })
 
-    abbrev V₃ : List (List ℕ)
-    V₃ = takeDef ys ys′ ((a .0) .us) false .cpus
+    abbrev V₃ : Memory
+    V₃ = runStolen ((a .0) .us) (a .1 .0) (V₂ .answer) (record { threads = V₂ .memory .threads; cpus = V₂ .memory .cpus })
 
-    abbrev V₄ : Taken
-    V₄ = trySteal V₂ V₃ ys″ (a .0) .answer
-
-    abbrev V₅ : List Thread
-    V₅ = trySteal V₂ V₃ ys″ (a .0) .threads
-
-    abbrev V₆ : List (List ℕ)
-    V₆ = trySteal V₂ V₃ ys″ (a .0) .cpus
-
-    abbrev V₇ : List Thread
-    V₇ = runStolen V₅ V₆ ((a .0) .us) (a .1 .0) V₄ .threads
-
-    abbrev V₈ : List (List ℕ)
-    V₈ = runStolen V₅ V₆ ((a .0) .us) (a .1 .0) V₄ .cpus
-
-    abbrev V₉ : List Thread
-    V₉ = runTaken V₂ V₃ ((a .0) .us) (a .1 .0) (threadOf V₁) .threads
-
-    abbrev V₁₀ : List (List ℕ)
-    V₁₀ = runTaken V₂ V₃ ((a .0) .us) (a .1 .0) (threadOf V₁) .cpus
+    abbrev V₄ : Memory
+    V₄ = runTaken ((a .0) .us) (a .1 .0) (threadOf (V₁ .answer)) (record { threads = V₁ .memory .threads; cpus = V₁ .memory .cpus })
 
     module _ (l₀ l₁ l₂ l₃ l₄ l₅ l₆ l₇ l₈ l₉ l₁₀ l₁₁ l₁₂ l₁₃ l₁₄ l₁₅ l₁₆ l₁₇ l₁₈ l₁₉ l₂₀ l₂₁ l₂₂ l₂₃ l₂₄ l₂₅ l₂₆ l₂₇ l₂₈ : ℕ) where
       abbrev En : Env 𝓤 H
       En = env-of mir.locals (l₀ ∷ l₁ ∷ l₂ ∷ l₃ ∷ l₄ ∷ l₅ ∷ l₆ ∷ l₇ ∷ l₈ ∷ l₉ ∷ l₁₀ ∷ l₁₁ ∷ l₁₂ ∷ l₁₃ ∷ l₁₄ ∷ l₁₅ ∷ l₁₆ ∷ l₁₇ ∷ l₁₈ ∷ l₁₉ ∷ l₂₀ ∷ l₂₁ ∷ l₂₂ ∷ l₂₃ ∷ l₂₄ ∷ l₂₅ ∷ l₂₆ ∷ l₂₇ ∷ l₂₈ ∷ [])
 
-      part-15 : (e₁₀₀ : n ≡ length (V₉)) (e₁₀₁ : n′ ≡ length (V₁₀)) (h₁ : Holds (not (isNobody V₁))) → Sq W (‵ (row Thread·.the-row fullShare (V₉) b o) ∷ ‵ (kept Thread·.the-row κ q γ b o ys) ∷ ‵ (row (Array u64 96) fullShare (V₁₀) b′ o′) ∷ ‵ (kept (Array u64 96) κ′ q′ γ′ b′ o′ ys′) ∷ ‵ (shared-as (Array u64 32) κ″ γ″ b″ o″ ys″) ∷ ‵ (flft κ″ q″) ∷ standing 𝓤 mir.locals (l₀ ∷ l₁ ∷ l₂ ∷ l₃ ∷ l₄ ∷ l₅ ∷ l₆ ∷ l₇ ∷ l₈ ∷ l₉ ∷ l₁₀ ∷ l₁₁ ∷ l₁₂ ∷ l₁₃ ∷ l₁₄ ∷ l₁₅ ∷ l₁₆ ∷ l₁₇ ∷ l₁₈ ∷ l₁₉ ∷ l₂₀ ∷ l₂₁ ∷ l₂₂ ∷ l₂₃ ∷ l₂₄ ∷ l₂₅ ∷ l₂₆ ∷ l₂₇ ∷ l₂₈ ∷ []) (bare ∷ full s ∷ full s′ ∷ full s″ ∷ full (Context° .val (a .0)) ∷ full ((number w64) .val (a .1 .0)) ∷ bare ∷ bare ∷ bare ∷ bare ∷ bare ∷ bare ∷ bare ∷ bare ∷ bare ∷ bare ∷ bare ∷ bare ∷ bare ∷ bare ∷ bare ∷ bare ∷ bare ∷ bare ∷ bare ∷ bare ∷ bare ∷ bare ∷ bare ∷ []) []) (runs C Λ En mir.t-15 (atRet En Post))
+      part-15 : (e₁₀₀ : n ≡ length (V₄ .threads)) (e₁₀₁ : n′ ≡ length (V₄ .cpus)) (h₁ : Holds (not (isNobody (V₁ .answer)))) → Sq W (‵ (row Thread·.the-row fullShare (V₄ .threads) b o) ∷ ‵ (kept Thread·.the-row κ q γ b o ys) ∷ ‵ (row (Array u64 96) fullShare (V₄ .cpus) b′ o′) ∷ ‵ (kept (Array u64 96) κ′ q′ γ′ b′ o′ ys′) ∷ ‵ (shared-as (Array u64 32) κ″ γ″ b″ o″ ys″) ∷ ‵ (flft κ″ q″) ∷ standing 𝓤 mir.locals (l₀ ∷ l₁ ∷ l₂ ∷ l₃ ∷ l₄ ∷ l₅ ∷ l₆ ∷ l₇ ∷ l₈ ∷ l₉ ∷ l₁₀ ∷ l₁₁ ∷ l₁₂ ∷ l₁₃ ∷ l₁₄ ∷ l₁₅ ∷ l₁₆ ∷ l₁₇ ∷ l₁₈ ∷ l₁₉ ∷ l₂₀ ∷ l₂₁ ∷ l₂₂ ∷ l₂₃ ∷ l₂₄ ∷ l₂₅ ∷ l₂₆ ∷ l₂₇ ∷ l₂₈ ∷ []) (bare ∷ full s ∷ full s′ ∷ full s″ ∷ full (Context° .val (a .0)) ∷ full ((number w64) .val (a .1 .0)) ∷ bare ∷ bare ∷ bare ∷ bare ∷ bare ∷ bare ∷ bare ∷ bare ∷ bare ∷ bare ∷ bare ∷ bare ∷ bare ∷ bare ∷ bare ∷ bare ∷ bare ∷ bare ∷ bare ∷ bare ∷ bare ∷ bare ∷ bare ∷ []) []) (runs C Λ En mir.t-15 (atRet En Post))
       unfolding pickNext pickTaken pickStolen
       part-15 e₁₀₀ e₁₀₁ h₁ =
           assigns ! (of-opd ! (unit-lit !)) (from ! (stop !)) (init ! 62 refl (tt, tt)) $
           move ! (4 ∷ 5 ∷ []) $
           move ! (4 ∷ 5 ∷ []) $
-          closed ! tt (Array u64 96) ys′ (V₁₀) b′ o′ room′ (sym e₁₀₁) $
+          closed ! tt (Array u64 96) ys′ (V₄ .cpus) b′ o′ room′ (sym e₁₀₁) $
           move ! (4 ∷ 5 ∷ []) $
-          closed ! tt Thread·.the-row ys (V₉) b o room (sym e₁₀₀) $
+          closed ! tt Thread·.the-row ys (V₄ .threads) b o room (sym e₁₀₀) $
           returns ! (look ! 62 refl) $
           move ! (62 ∷ 63 ∷ 60 ∷ 61 ∷ 58 ∷ 59 ∷ 56 ∷ 57 ∷ 54 ∷ 55 ∷ 52 ∷ 53 ∷ 50 ∷ 51 ∷ 48 ∷ 49 ∷ 46 ∷ 47 ∷ 44 ∷ 45 ∷ 42 ∷ 43 ∷ 40 ∷ 41 ∷ 38 ∷ 39 ∷ 36 ∷ 37 ∷ 34 ∷ 35 ∷ 32 ∷ 33 ∷ 30 ∷ 31 ∷ 28 ∷ 29 ∷ 26 ∷ 27 ∷ 24 ∷ 25 ∷ 22 ∷ 23 ∷ 20 ∷ 21 ∷ 18 ∷ 19 ∷ 16 ∷ 17 ∷ 14 ∷ 15 ∷ 12 ∷ 13 ∷ 10 ∷ 11 ∷ 8 ∷ 9 ∷ 6 ∷ 7 ∷ []) $
           all-freed ! mir.locals (l₀ ∷ l₁ ∷ l₂ ∷ l₃ ∷ l₄ ∷ l₅ ∷ l₆ ∷ l₇ ∷ l₈ ∷ l₉ ∷ l₁₀ ∷ l₁₁ ∷ l₁₂ ∷ l₁₃ ∷ l₁₄ ∷ l₁₅ ∷ l₁₆ ∷ l₁₇ ∷ l₁₈ ∷ l₁₉ ∷ l₂₀ ∷ l₂₁ ∷ l₂₂ ∷ l₂₃ ∷ l₂₄ ∷ l₂₅ ∷ l₂₆ ∷ l₂₇ ∷ l₂₈ ∷ []) (full _ ∷ full _ ∷ full _ ∷ full _ ∷ full _ ∷ full _ ∷ bare ∷ bare ∷ bare ∷ bare ∷ bare ∷ bare ∷ bare ∷ bare ∷ bare ∷ bare ∷ bare ∷ bare ∷ bare ∷ bare ∷ bare ∷ bare ∷ bare ∷ bare ∷ bare ∷ bare ∷ bare ∷ bare ∷ bare ∷ []) tt $
-          suffices ! _ (ends-at 𝓤 H A pick-next.ended stayed c W y _ (tt) (V₉, (V₁₀, (tt, (tt, (tt, tt))))) (sym e₁₀₀, (sym e₁₀₁, (tt, (tt, (tt, tt)))))) $ says ! (by-memory (record { threads = V₉; cpus = V₁₀ }) (pickNext ys ys′ ys″ (a .0) (a .1 .0)) ((no (isNobody V₁) h₁ _ (refl)))) $
+          suffices ! _ (ends-at 𝓤 H A pick-next.ended stayed c W y _ (tt) (V₄ .threads, (V₄ .cpus, (tt, (tt, (tt, tt))))) (sym e₁₀₀, (sym e₁₀₁, (tt, (tt, (tt, tt)))))) $ says ! (so {X = Memory} (record { threads = (V₄ .threads); cpus = (V₄ .cpus) }) (pickNext (a .0) (a .1 .0) ys″ (record { threads = ys; cpus = ys′ })) ((no (isNobody (V₁ .answer)) h₁ _ (refl)))) $
           leaves3 ! nil Ds a (tt) are (refl)
 
     walk : ent 𝓤 (onEntry 𝓤 H A pick-next.signature (κ, (κ′, (κ″, tt))) (q, (q′, (q″, tt))) ((lent-as b o γ ys, (lent-as b′ o′ γ′ ys′, (lent-as b″ o″ γ″ ys″, a)))) ((s ∷ [], (s′ ∷ [], (s″ ∷ [], spell Ds a))))) (WpFn 𝓤 H C Λ code.function (s ∷ s′ ∷ s″ ∷ listed Ds a) Post)
@@ -199,7 +181,7 @@ module _ {M : Type 1} (𝓤 : URA M) (H : Heap 𝓤) (𝓜 : Model 𝓤 H) (𝓖
         join ! $
         move ! (1 ∷ 0 ∷ []) $
         join ! $
-        call-slices Taken° (number w64 ∷ truth ∷ []) (((a .0) .us, (false, tt))) (emp 𝓤) ((mutable Thread·.the-row ys b o n refl room) ∷ (mutable (Array u64 96) ys′ b′ o′ n′ refl room′) ∷ []) ! fm (λ r ws. (r ≡ V₁) × ((ws .0 ≡ V₂) × (ws .1 .0 ≡ V₃))) ((LL.owed Context·.the-type Context·laws.the-laws (a .0) _ (are .0) .0, (refl, tt))) (id⊢ 𝓤 (emp 𝓤))
+        call-left Taken° (number w64 ∷ truth ∷ []) (((a .0) .us, (false, tt))) (emp 𝓤) ((mutable Thread·.the-row ys b o n refl room) ∷ (mutable (Array u64 96) ys′ b′ o′ n′ refl room′) ∷ []) ! fm (λ r ws. (r ≡ (V₁ .answer)) × ((ws .0 ≡ (V₁ .memory .threads)) × (ws .1 .0 ≡ (V₁ .memory .cpus)))) (λ r ws. _≡_ {A = Left Taken Memory} (record { answer = r; memory = record { threads = ws .0; cpus = ws .1 .0 } }) V₁) (λ r ws e. (ap (λ (z : Left Taken Memory). z .answer) e, (ap (λ (z : Left Taken Memory). z .memory .threads) e, ap (λ (z : Left Taken Memory). z .memory .cpus) e))) ((LL.owed Context·.the-type Context·laws.the-laws (a .0) _ (are .0) .0, (refl, tt))) (id⊢ 𝓤 (emp 𝓤))
         (λ νs. cited 𝓤 H (tripleOf 𝓤 H A fn-lent-rq-take.signature (fn-lent-rq-take.spec 𝓤 H A (𝓜 .mem) (𝓡 .run))) 𝓜 𝓡 code.env fn-lent-rq-take-def.name fn-lent-rq-take-def.routine code.calls-lent·rq·take (fn-lent-rq-take-thm.met 𝓤 H 𝓜 𝓖 𝓡) (((νs .0 .0 ∷ [], (νs .1 .0 .0 ∷ [], tt)), (fullShare, (fullShare, tt)), tt, (lent-as b o (νs .0 .1) ys, (lent-as b′ o′ (νs .1 .0 .1) ys′, ((a .0) .us, (false, tt)))), (slice-of b o ys ∷ [], (slice-of b′ o′ ys′ ∷ [], spell (number w64 ∷ truth ∷ []) (((a .0) .us, (false, tt)))))), tt))
         (λ k. and-then ! (load ! (from ! (stop !)) (look ! 39 refl)) (and-then ! (load ! (from ! (stop !)) (look ! 35 refl)) (and-then ! (load ! (from ! (stop !)) (look ! 49 refl)) (and-then ! (false-lit !) (no-more !))))) (λ r₁ ws₂ is₃ ls₄ e₅.
         split ! $
@@ -210,10 +192,10 @@ module _ {M : Type 1} (𝓤 : URA M) (H : Heap 𝓤) (𝓜 : Model 𝓤 H) (𝓖
         rewrite ! 1 (λ (us : List Thread). ‵ (row Thread·.the-row fullShare us b o)) (e₅ .1 .0) refl $
         rewrite ! 0 (λ (us : List (List ℕ)). ‵ (row (Array u64 96) fullShare us b′ o′)) (e₅ .1 .1) refl $
         told ! Taken° (e₅ .0) is₃ (λ is₆.
-        land ! (from ! (stop !)) (init ! 48 refl (Taken° .typed 𝓤 H A W (V₁) (is₆) .0)) $
+        land ! (from ! (stop !)) (init ! 48 refl (Taken° .typed 𝓤 H A W (V₁ .answer) (is₆) .0)) $
         nothing ! $
-        call-slices truth (Taken° ∷ []) ((V₁, tt)) (emp 𝓤) ([]) ! fm (λ r ws. r ≡ (isNobody V₁)) ((is₆, tt)) (id⊢ 𝓤 (emp 𝓤))
-        (λ νs. cited 𝓤 H (tripleOf 𝓤 H A fn-sched-queues-is-nobody.signature (fn-sched-queues-is-nobody.spec 𝓤 H A (𝓜 .mem) (𝓡 .run))) 𝓜 𝓡 code.env fn-sched-queues-is-nobody-def.name fn-sched-queues-is-nobody-def.routine code.calls-sched·queues·is-nobody (fn-sched-queues-is-nobody-thm.met 𝓤 H 𝓜 𝓖 𝓡) ((tt, tt, tt, (V₁, tt), spell (Taken° ∷ []) ((V₁, tt))), tt))
+        call-slices truth (Taken° ∷ []) ((V₁ .answer, tt)) (emp 𝓤) ([]) ! fm (λ r ws. r ≡ (isNobody (V₁ .answer))) ((is₆, tt)) (id⊢ 𝓤 (emp 𝓤))
+        (λ νs. cited 𝓤 H (tripleOf 𝓤 H A fn-sched-queues-queues-is-nobody.signature (fn-sched-queues-queues-is-nobody.spec 𝓤 H A (𝓜 .mem) (𝓡 .run))) 𝓜 𝓡 code.env fn-sched-queues-queues-is-nobody-def.name fn-sched-queues-queues-is-nobody-def.routine code.calls-sched-queues·queues·is-nobody (fn-sched-queues-queues-is-nobody-thm.met 𝓤 H 𝓜 𝓖 𝓡) ((tt, tt, tt, (V₁ .answer, tt), spell (Taken° ∷ []) ((V₁ .answer, tt))), tt))
         (λ k. and-then ! (load ! (from ! (stop !)) (look ! 49 refl)) (no-more !)) (λ r₇ ws₈ is₉ ls₁₀ e₁₁.
         drop ! $
         told ! truth (e₁₁) is₉ (λ is₁₂.
@@ -232,8 +214,8 @@ module _ {M : Type 1} (𝓤 : URA M) (H : Heap 𝓤) (𝓜 : Model 𝓤 H) (𝓖
         join ! $
         move ! (1 ∷ 0 ∷ []) $
         join ! $
-        call-slices Taken° (Context° ∷ []) ((a .0, tt)) (emp 𝓤) ((mutable Thread·.the-row V₂ b o n ((refl ∙ sym (subst (λ (us : List Thread). length us ≡ length ys) (e₅ .1 .0) (ls₄ .0)))) room) ∷ (mutable (Array u64 96) V₃ b′ o′ n′ ((refl ∙ sym (subst (λ (us : List (List ℕ)). length us ≡ length ys′) (e₅ .1 .1) (ls₄ .1 .0)))) room′) ∷ (passed (Array u64 32) ys″ b″ o″ κ″ q″ γ″) ∷ []) ! fm (λ r ws. (r ≡ V₄) × ((ws .0 ≡ V₅) × (ws .1 .0 ≡ V₆))) ((are .0, tt)) (id⊢ 𝓤 (emp 𝓤))
-        (λ νs. cited 𝓤 H (tripleOf 𝓤 H A fn-sched-queues-try-steal.signature (fn-sched-queues-try-steal.spec 𝓤 H A (𝓜 .mem) (𝓡 .run))) 𝓜 𝓡 code.env fn-sched-queues-try-steal-def.name fn-sched-queues-try-steal-def.routine code.calls-sched·queues·try-steal (fn-sched-queues-try-steal-thm.met 𝓤 H 𝓜 𝓖 𝓡) (((νs .0 .0 ∷ [], (νs .1 .0 .0 ∷ [], (κ″, tt))), (fullShare, (fullShare, (q″, tt))), tt, (lent-as b o (νs .0 .1) V₂, (lent-as b′ o′ (νs .1 .0 .1) V₃, (lent-as b″ o″ γ″ ys″, (a .0, tt)))), (slice-of b o V₂ ∷ [], (slice-of b′ o′ V₃ ∷ [], (slice-of b″ o″ ys″ ∷ [], spell (Context° ∷ []) ((a .0, tt)))))), tt))
+        call-left Taken° (Context° ∷ []) ((a .0, tt)) (emp 𝓤) ((mutable Thread·.the-row (V₁ .memory .threads) b o n ((refl ∙ sym (subst (λ (us : List Thread). length us ≡ length ys) (e₅ .1 .0) (ls₄ .0)))) room) ∷ (mutable (Array u64 96) (V₁ .memory .cpus) b′ o′ n′ ((refl ∙ sym (subst (λ (us : List (List ℕ)). length us ≡ length ys′) (e₅ .1 .1) (ls₄ .1 .0)))) room′) ∷ (passed (Array u64 32) ys″ b″ o″ κ″ q″ γ″) ∷ []) ! fm (λ r ws. (r ≡ (V₂ .answer)) × ((ws .0 ≡ (V₂ .memory .threads)) × (ws .1 .0 ≡ (V₂ .memory .cpus)))) (λ r ws. _≡_ {A = Left Taken Memory} (record { answer = r; memory = record { threads = ws .0; cpus = ws .1 .0 } }) V₂) (λ r ws e. (ap (λ (z : Left Taken Memory). z .answer) e, (ap (λ (z : Left Taken Memory). z .memory .threads) e, ap (λ (z : Left Taken Memory). z .memory .cpus) e))) ((are .0, tt)) (id⊢ 𝓤 (emp 𝓤))
+        (λ νs. cited 𝓤 H (tripleOf 𝓤 H A fn-sched-queues-queues-try-steal.signature (fn-sched-queues-queues-try-steal.spec 𝓤 H A (𝓜 .mem) (𝓡 .run))) 𝓜 𝓡 code.env fn-sched-queues-queues-try-steal-def.name fn-sched-queues-queues-try-steal-def.routine code.calls-sched-queues·queues·try-steal (fn-sched-queues-queues-try-steal-thm.met 𝓤 H 𝓜 𝓖 𝓡) (((νs .0 .0 ∷ [], (νs .1 .0 .0 ∷ [], (κ″, tt))), (fullShare, (fullShare, (q″, tt))), tt, (lent-as b o (νs .0 .1) (V₁ .memory .threads), (lent-as b′ o′ (νs .1 .0 .1) (V₁ .memory .cpus), (lent-as b″ o″ γ″ ys″, (a .0, tt)))), (slice-of b o (V₁ .memory .threads) ∷ [], (slice-of b′ o′ (V₁ .memory .cpus) ∷ [], (slice-of b″ o″ ys″ ∷ [], spell (Context° ∷ []) ((a .0, tt)))))), tt))
         (λ k. and-then ! (load ! (from ! (stop !)) (look ! 27 refl)) (and-then ! (load ! (from ! (stop !)) (look ! 23 refl)) (and-then ! (load ! (from ! (stop !)) (look ! 53 refl)) (and-then ! (load ! (from ! (stop !)) (look ! 51 refl)) (no-more !))))) (λ r₁₃ ws₁₄ is₁₅ ls₁₆ e₁₇.
         split ! $
         move ! (1 ∷ []) $
@@ -246,7 +228,7 @@ module _ {M : Type 1} (𝓤 : URA M) (H : Heap 𝓤) (𝓜 : Model 𝓤 H) (𝓖
         rewrite ! 3 (λ (us : List Thread). ‵ (row Thread·.the-row fullShare us b o)) (e₁₇ .1 .0) refl $
         rewrite ! 2 (λ (us : List (List ℕ)). ‵ (row (Array u64 96) fullShare us b′ o′)) (e₁₇ .1 .1) refl $
         told ! Taken° (e₁₇ .0) is₁₅ (λ is₁₈.
-        land ! (from ! (stop !)) (init ! 46 refl (Taken° .typed 𝓤 H A W (V₄) (is₁₈) .0)) $
+        land ! (from ! (stop !)) (init ! 46 refl (Taken° .typed 𝓤 H A W (V₂ .answer) (is₁₈) .0)) $
         assigns ! (addr ! (from ! (fld ! refl (hop ! (look-in ! 60 (sub ! 0 refl (whole !))) (stop !))))) (from ! (stop !)) (init ! 22 refl (tt, tt)) $
         assigns ! (agg ! (and-then ! (load ! (from ! (stop !)) (look ! 22 refl)) (and-then ! (load ! (from ! (fld ! refl (stop !))) (look-in ! 60 (sub ! 1 refl (whole !)))) (no-more !)))) (from ! (stop !)) (init ! 20 refl (tt, (tt, (record { fits = room .0 }, tt)))) $
         assigns ! (addr ! (from ! (fld ! refl (hop ! (look-in ! 58 (sub ! 0 refl (whole !))) (stop !))))) (from ! (stop !)) (init ! 18 refl (tt, tt)) $
@@ -256,8 +238,8 @@ module _ {M : Type 1} (𝓤 : URA M) (H : Heap 𝓤) (𝓜 : Model 𝓤 H) (𝓖
         join ! $
         move ! (3 ∷ 0 ∷ []) $
         join ! $
-        call-slices nil (number w64 ∷ number w64 ∷ Taken° ∷ []) (((a .0) .us, (a .1 .0, (V₄, tt)))) (emp 𝓤) ((mutable Thread·.the-row V₅ b o n (((refl ∙ sym (subst (λ (us : List Thread). length us ≡ length ys) (e₅ .1 .0) (ls₄ .0))) ∙ sym (subst (λ (us : List Thread). length us ≡ length V₂) (e₁₇ .1 .0) (ls₁₆ .0)))) room) ∷ (mutable (Array u64 96) V₆ b′ o′ n′ (((refl ∙ sym (subst (λ (us : List (List ℕ)). length us ≡ length ys′) (e₅ .1 .1) (ls₄ .1 .0))) ∙ sym (subst (λ (us : List (List ℕ)). length us ≡ length V₃) (e₁₇ .1 .1) (ls₁₆ .1 .0)))) room′) ∷ []) ! fm (λ r ws. (ws .0 ≡ V₇) × (ws .1 .0 ≡ V₈)) ((LL.owed Context·.the-type Context·laws.the-laws (a .0) _ (are .0) .0, (are .1 .0, (is₁₈, tt)))) (id⊢ 𝓤 (emp 𝓤))
-        (λ νs. cited 𝓤 H (tripleOf 𝓤 H A fn-sched-schedule-run-stolen.signature (fn-sched-schedule-run-stolen.spec 𝓤 H A (𝓜 .mem) (𝓡 .run))) 𝓜 𝓡 code.env fn-sched-schedule-run-stolen-def.name fn-sched-schedule-run-stolen-def.routine code.calls-sched·schedule·run-stolen (fn-sched-schedule-run-stolen-thm.met 𝓤 H 𝓜 𝓖 𝓡) (((νs .0 .0 ∷ [], (νs .1 .0 .0 ∷ [], tt)), (fullShare, (fullShare, tt)), tt, (lent-as b o (νs .0 .1) V₅, (lent-as b′ o′ (νs .1 .0 .1) V₆, ((a .0) .us, (a .1 .0, (V₄, tt))))), (slice-of b o V₅ ∷ [], (slice-of b′ o′ V₆ ∷ [], spell (number w64 ∷ number w64 ∷ Taken° ∷ []) (((a .0) .us, (a .1 .0, (V₄, tt))))))), tt))
+        call-left nil (number w64 ∷ number w64 ∷ Taken° ∷ []) (((a .0) .us, (a .1 .0, (V₂ .answer, tt)))) (emp 𝓤) ((mutable Thread·.the-row (V₂ .memory .threads) b o n (((refl ∙ sym (subst (λ (us : List Thread). length us ≡ length ys) (e₅ .1 .0) (ls₄ .0))) ∙ sym (subst (λ (us : List Thread). length us ≡ length (V₁ .memory .threads)) (e₁₇ .1 .0) (ls₁₆ .0)))) room) ∷ (mutable (Array u64 96) (V₂ .memory .cpus) b′ o′ n′ (((refl ∙ sym (subst (λ (us : List (List ℕ)). length us ≡ length ys′) (e₅ .1 .1) (ls₄ .1 .0))) ∙ sym (subst (λ (us : List (List ℕ)). length us ≡ length (V₁ .memory .cpus)) (e₁₇ .1 .1) (ls₁₆ .1 .0)))) room′) ∷ []) ! fm (λ r ws. (ws .0 ≡ (V₃ .threads)) × (ws .1 .0 ≡ (V₃ .cpus))) (λ r ws. _≡_ {A = Memory} (record { threads = ws .0; cpus = ws .1 .0 }) V₃) (λ r ws e. (ap (λ (z : Memory). z .threads) e, ap (λ (z : Memory). z .cpus) e)) ((LL.owed Context·.the-type Context·laws.the-laws (a .0) _ (are .0) .0, (are .1 .0, (is₁₈, tt)))) (id⊢ 𝓤 (emp 𝓤))
+        (λ νs. cited 𝓤 H (tripleOf 𝓤 H A fn-sched-schedule-run-stolen.signature (fn-sched-schedule-run-stolen.spec 𝓤 H A (𝓜 .mem) (𝓡 .run))) 𝓜 𝓡 code.env fn-sched-schedule-run-stolen-def.name fn-sched-schedule-run-stolen-def.routine code.calls-sched·schedule·run-stolen (fn-sched-schedule-run-stolen-thm.met 𝓤 H 𝓜 𝓖 𝓡) (((νs .0 .0 ∷ [], (νs .1 .0 .0 ∷ [], tt)), (fullShare, (fullShare, tt)), tt, (lent-as b o (νs .0 .1) (V₂ .memory .threads), (lent-as b′ o′ (νs .1 .0 .1) (V₂ .memory .cpus), ((a .0) .us, (a .1 .0, (V₂ .answer, tt))))), (slice-of b o (V₂ .memory .threads) ∷ [], (slice-of b′ o′ (V₂ .memory .cpus) ∷ [], spell (number w64 ∷ number w64 ∷ Taken° ∷ []) (((a .0) .us, (a .1 .0, (V₂ .answer, tt))))))), tt))
         (λ k. and-then ! (load ! (from ! (stop !)) (look ! 19 refl)) (and-then ! (load ! (from ! (stop !)) (look ! 15 refl)) (and-then ! (load ! (from ! (stop !)) (look ! 49 refl)) (and-then ! (load ! (from ! (stop !)) (look ! 51 refl)) (and-then ! (load ! (from ! (stop !)) (look ! 45 refl)) (no-more !)))))) (λ r₁₉ ws₂₀ is₂₁ ls₂₂ e₂₃.
         split ! $
         move ! (1 ∷ []) $
@@ -270,22 +252,22 @@ module _ {M : Type 1} (𝓤 : URA M) (H : Heap 𝓤) (𝓜 : Model 𝓤 H) (𝓖
         assigns ! (of-opd ! (unit-lit !)) (from ! (stop !)) (init ! 62 refl (tt, tt)) $
         move ! (2 ∷ 3 ∷ []) $
         move ! (2 ∷ 5 ∷ []) $
-        closed ! tt (Array u64 96) ys′ (V₈) b′ o′ room′ (sym ((((refl ∙ sym (subst (λ (us : List (List ℕ)). length us ≡ length ys′) (e₅ .1 .1) (ls₄ .1 .0))) ∙ sym (subst (λ (us : List (List ℕ)). length us ≡ length V₃) (e₁₇ .1 .1) (ls₁₆ .1 .0))) ∙ sym (subst (λ (us : List (List ℕ)). length us ≡ length V₆) (e₂₃ .1) (ls₂₂ .1 .0))))) $
+        closed ! tt (Array u64 96) ys′ (V₃ .cpus) b′ o′ room′ (sym ((((refl ∙ sym (subst (λ (us : List (List ℕ)). length us ≡ length ys′) (e₅ .1 .1) (ls₄ .1 .0))) ∙ sym (subst (λ (us : List (List ℕ)). length us ≡ length (V₁ .memory .cpus)) (e₁₇ .1 .1) (ls₁₆ .1 .0))) ∙ sym (subst (λ (us : List (List ℕ)). length us ≡ length (V₂ .memory .cpus)) (e₂₃ .1) (ls₂₂ .1 .0))))) $
         move ! (4 ∷ 5 ∷ []) $
-        closed ! tt Thread·.the-row ys (V₇) b o room (sym ((((refl ∙ sym (subst (λ (us : List Thread). length us ≡ length ys) (e₅ .1 .0) (ls₄ .0))) ∙ sym (subst (λ (us : List Thread). length us ≡ length V₂) (e₁₇ .1 .0) (ls₁₆ .0))) ∙ sym (subst (λ (us : List Thread). length us ≡ length V₅) (e₂₃ .0) (ls₂₂ .0))))) $
+        closed ! tt Thread·.the-row ys (V₃ .threads) b o room (sym ((((refl ∙ sym (subst (λ (us : List Thread). length us ≡ length ys) (e₅ .1 .0) (ls₄ .0))) ∙ sym (subst (λ (us : List Thread). length us ≡ length (V₁ .memory .threads)) (e₁₇ .1 .0) (ls₁₆ .0))) ∙ sym (subst (λ (us : List Thread). length us ≡ length (V₂ .memory .threads)) (e₂₃ .0) (ls₂₂ .0))))) $
         returns-within ! Post refl (look ! 62 refl) $
         move ! (62 ∷ 63 ∷ 60 ∷ 61 ∷ 58 ∷ 59 ∷ 56 ∷ 57 ∷ 54 ∷ 55 ∷ 52 ∷ 53 ∷ 50 ∷ 51 ∷ 48 ∷ 49 ∷ 46 ∷ 47 ∷ 44 ∷ 45 ∷ 42 ∷ 43 ∷ 40 ∷ 41 ∷ 38 ∷ 39 ∷ 36 ∷ 37 ∷ 34 ∷ 35 ∷ 32 ∷ 33 ∷ 30 ∷ 31 ∷ 28 ∷ 29 ∷ 26 ∷ 27 ∷ 24 ∷ 25 ∷ 22 ∷ 23 ∷ 20 ∷ 21 ∷ 18 ∷ 19 ∷ 16 ∷ 17 ∷ 14 ∷ 15 ∷ 12 ∷ 13 ∷ 10 ∷ 11 ∷ 8 ∷ 9 ∷ 6 ∷ 7 ∷ []) $
         all-freed ! mir.locals (l₀ ∷ l₁ ∷ l₂ ∷ l₃ ∷ l₄ ∷ l₅ ∷ l₆ ∷ l₇ ∷ l₈ ∷ l₉ ∷ l₁₀ ∷ l₁₁ ∷ l₁₂ ∷ l₁₃ ∷ l₁₄ ∷ l₁₅ ∷ l₁₆ ∷ l₁₇ ∷ l₁₈ ∷ l₁₉ ∷ l₂₀ ∷ l₂₁ ∷ l₂₂ ∷ l₂₃ ∷ l₂₄ ∷ l₂₅ ∷ l₂₆ ∷ l₂₇ ∷ l₂₈ ∷ []) (full _ ∷ full _ ∷ full _ ∷ full _ ∷ full _ ∷ full _ ∷ full _ ∷ full _ ∷ full _ ∷ bare ∷ full _ ∷ full _ ∷ full _ ∷ full _ ∷ full _ ∷ full _ ∷ full _ ∷ full _ ∷ full _ ∷ full _ ∷ full _ ∷ full _ ∷ full _ ∷ full _ ∷ bare ∷ bare ∷ bare ∷ bare ∷ bare ∷ []) tt $
-        suffices ! _ (ends-at 𝓤 H A pick-next.ended stayed c W y _ (tt) (V₇, (V₈, (tt, (tt, (tt, tt))))) (sym ((((refl ∙ sym (subst (λ (us : List Thread). length us ≡ length ys) (e₅ .1 .0) (ls₄ .0))) ∙ sym (subst (λ (us : List Thread). length us ≡ length V₂) (e₁₇ .1 .0) (ls₁₆ .0))) ∙ sym (subst (λ (us : List Thread). length us ≡ length V₅) (e₂₃ .0) (ls₂₂ .0)))), (sym ((((refl ∙ sym (subst (λ (us : List (List ℕ)). length us ≡ length ys′) (e₅ .1 .1) (ls₄ .1 .0))) ∙ sym (subst (λ (us : List (List ℕ)). length us ≡ length V₃) (e₁₇ .1 .1) (ls₁₆ .1 .0))) ∙ sym (subst (λ (us : List (List ℕ)). length us ≡ length V₆) (e₂₃ .1) (ls₂₂ .1 .0)))), (tt, (tt, (tt, tt)))))) $ says ! (by-memory (record { threads = V₇; cpus = V₈ }) (pickNext ys ys′ ys″ (a .0) (a .1 .0)) ((yes (isNobody V₁) h₁ _ (refl)))) $
+        suffices ! _ (ends-at 𝓤 H A pick-next.ended stayed c W y _ (tt) (V₃ .threads, (V₃ .cpus, (tt, (tt, (tt, tt))))) (sym ((((refl ∙ sym (subst (λ (us : List Thread). length us ≡ length ys) (e₅ .1 .0) (ls₄ .0))) ∙ sym (subst (λ (us : List Thread). length us ≡ length (V₁ .memory .threads)) (e₁₇ .1 .0) (ls₁₆ .0))) ∙ sym (subst (λ (us : List Thread). length us ≡ length (V₂ .memory .threads)) (e₂₃ .0) (ls₂₂ .0)))), (sym ((((refl ∙ sym (subst (λ (us : List (List ℕ)). length us ≡ length ys′) (e₅ .1 .1) (ls₄ .1 .0))) ∙ sym (subst (λ (us : List (List ℕ)). length us ≡ length (V₁ .memory .cpus)) (e₁₇ .1 .1) (ls₁₆ .1 .0))) ∙ sym (subst (λ (us : List (List ℕ)). length us ≡ length (V₂ .memory .cpus)) (e₂₃ .1) (ls₂₂ .1 .0)))), (tt, (tt, (tt, tt)))))) $ says ! (so {X = Memory} (record { threads = (V₃ .threads); cpus = (V₃ .cpus) }) (pickNext (a .0) (a .1 .0) ys″ (record { threads = ys; cpus = ys′ })) ((yes (isNobody (V₁ .answer)) h₁ _ (refl)))) $
         leaves3 ! nil Ds a (tt) are (refl)))))
         (λ h₁.
         nothing ! $
-        call-slices (number w64) (Taken° ∷ []) ((V₁, tt)) (emp 𝓤) ([]) ! fm (λ r ws. r ≡ (threadOf V₁)) ((is₆, tt)) (id⊢ 𝓤 (emp 𝓤))
-        (λ νs. cited 𝓤 H (tripleOf 𝓤 H A fn-sched-queues-thread-of.signature (fn-sched-queues-thread-of.spec 𝓤 H A (𝓜 .mem) (𝓡 .run))) 𝓜 𝓡 code.env fn-sched-queues-thread-of-def.name fn-sched-queues-thread-of-def.routine code.calls-sched·queues·thread-of (fn-sched-queues-thread-of-thm.met 𝓤 H 𝓜 𝓖 𝓡) ((tt, tt, tt, (V₁, tt), spell (Taken° ∷ []) ((V₁, tt))), tt))
+        call-slices (number w64) (Taken° ∷ []) ((V₁ .answer, tt)) (emp 𝓤) ([]) ! fm (λ r ws. r ≡ (threadOf (V₁ .answer))) ((is₆, tt)) (id⊢ 𝓤 (emp 𝓤))
+        (λ νs. cited 𝓤 H (tripleOf 𝓤 H A fn-sched-queues-queues-thread-of.signature (fn-sched-queues-queues-thread-of.spec 𝓤 H A (𝓜 .mem) (𝓡 .run))) 𝓜 𝓡 code.env fn-sched-queues-queues-thread-of-def.name fn-sched-queues-queues-thread-of-def.routine code.calls-sched-queues·queues·thread-of (fn-sched-queues-queues-thread-of-thm.met 𝓤 H 𝓜 𝓖 𝓡) ((tt, tt, tt, (V₁ .answer, tt), spell (Taken° ∷ []) ((V₁ .answer, tt))), tt))
         (λ k. and-then ! (load ! (from ! (stop !)) (look ! 49 refl)) (no-more !)) (λ r₂₄ ws₂₅ is₂₆ ls₂₇ e₂₈.
         drop ! $
         told ! (number w64) (e₂₈) is₂₆ (λ is₂₉.
-        land ! (from ! (stop !)) (init ! 44 refl ((number w64) .typed 𝓤 H A W (threadOf V₁) (is₂₉) .0)) $
+        land ! (from ! (stop !)) (init ! 44 refl ((number w64) .typed 𝓤 H A W (threadOf (V₁ .answer)) (is₂₉) .0)) $
         assigns ! (addr ! (from ! (fld ! refl (hop ! (look-in ! 60 (sub ! 0 refl (whole !))) (stop !))))) (from ! (stop !)) (init ! 12 refl (tt, tt)) $
         assigns ! (agg ! (and-then ! (load ! (from ! (stop !)) (look ! 12 refl)) (and-then ! (load ! (from ! (fld ! refl (stop !))) (look-in ! 60 (sub ! 1 refl (whole !)))) (no-more !)))) (from ! (stop !)) (init ! 10 refl (tt, (tt, (record { fits = room .0 }, tt)))) $
         assigns ! (addr ! (from ! (fld ! refl (hop ! (look-in ! 58 (sub ! 0 refl (whole !))) (stop !))))) (from ! (stop !)) (init ! 8 refl (tt, tt)) $
@@ -295,8 +277,8 @@ module _ {M : Type 1} (𝓤 : URA M) (H : Heap 𝓤) (𝓜 : Model 𝓤 H) (𝓖
         join ! $
         move ! (1 ∷ 0 ∷ []) $
         join ! $
-        call-slices nil (number w64 ∷ number w64 ∷ number w64 ∷ []) (((a .0) .us, (a .1 .0, (threadOf V₁, tt)))) (emp 𝓤) ((mutable Thread·.the-row V₂ b o n ((refl ∙ sym (subst (λ (us : List Thread). length us ≡ length ys) (e₅ .1 .0) (ls₄ .0)))) room) ∷ (mutable (Array u64 96) V₃ b′ o′ n′ ((refl ∙ sym (subst (λ (us : List (List ℕ)). length us ≡ length ys′) (e₅ .1 .1) (ls₄ .1 .0)))) room′) ∷ []) ! fm (λ r ws. (ws .0 ≡ V₉) × (ws .1 .0 ≡ V₁₀)) ((LL.owed Context·.the-type Context·laws.the-laws (a .0) _ (are .0) .0, (are .1 .0, (is₂₉, tt)))) (id⊢ 𝓤 (emp 𝓤))
-        (λ νs. cited 𝓤 H (tripleOf 𝓤 H A fn-sched-schedule-run-taken.signature (fn-sched-schedule-run-taken.spec 𝓤 H A (𝓜 .mem) (𝓡 .run))) 𝓜 𝓡 code.env fn-sched-schedule-run-taken-def.name fn-sched-schedule-run-taken-def.routine code.calls-sched·schedule·run-taken (fn-sched-schedule-run-taken-thm.met 𝓤 H 𝓜 𝓖 𝓡) (((νs .0 .0 ∷ [], (νs .1 .0 .0 ∷ [], tt)), (fullShare, (fullShare, tt)), tt, (lent-as b o (νs .0 .1) V₂, (lent-as b′ o′ (νs .1 .0 .1) V₃, ((a .0) .us, (a .1 .0, (threadOf V₁, tt))))), (slice-of b o V₂ ∷ [], (slice-of b′ o′ V₃ ∷ [], spell (number w64 ∷ number w64 ∷ number w64 ∷ []) (((a .0) .us, (a .1 .0, (threadOf V₁, tt))))))), tt))
+        call-left nil (number w64 ∷ number w64 ∷ number w64 ∷ []) (((a .0) .us, (a .1 .0, (threadOf (V₁ .answer), tt)))) (emp 𝓤) ((mutable Thread·.the-row (V₁ .memory .threads) b o n ((refl ∙ sym (subst (λ (us : List Thread). length us ≡ length ys) (e₅ .1 .0) (ls₄ .0)))) room) ∷ (mutable (Array u64 96) (V₁ .memory .cpus) b′ o′ n′ ((refl ∙ sym (subst (λ (us : List (List ℕ)). length us ≡ length ys′) (e₅ .1 .1) (ls₄ .1 .0)))) room′) ∷ []) ! fm (λ r ws. (ws .0 ≡ (V₄ .threads)) × (ws .1 .0 ≡ (V₄ .cpus))) (λ r ws. _≡_ {A = Memory} (record { threads = ws .0; cpus = ws .1 .0 }) V₄) (λ r ws e. (ap (λ (z : Memory). z .threads) e, ap (λ (z : Memory). z .cpus) e)) ((LL.owed Context·.the-type Context·laws.the-laws (a .0) _ (are .0) .0, (are .1 .0, (is₂₉, tt)))) (id⊢ 𝓤 (emp 𝓤))
+        (λ νs. cited 𝓤 H (tripleOf 𝓤 H A fn-sched-schedule-run-taken.signature (fn-sched-schedule-run-taken.spec 𝓤 H A (𝓜 .mem) (𝓡 .run))) 𝓜 𝓡 code.env fn-sched-schedule-run-taken-def.name fn-sched-schedule-run-taken-def.routine code.calls-sched·schedule·run-taken (fn-sched-schedule-run-taken-thm.met 𝓤 H 𝓜 𝓖 𝓡) (((νs .0 .0 ∷ [], (νs .1 .0 .0 ∷ [], tt)), (fullShare, (fullShare, tt)), tt, (lent-as b o (νs .0 .1) (V₁ .memory .threads), (lent-as b′ o′ (νs .1 .0 .1) (V₁ .memory .cpus), ((a .0) .us, (a .1 .0, (threadOf (V₁ .answer), tt))))), (slice-of b o (V₁ .memory .threads) ∷ [], (slice-of b′ o′ (V₁ .memory .cpus) ∷ [], spell (number w64 ∷ number w64 ∷ number w64 ∷ []) (((a .0) .us, (a .1 .0, (threadOf (V₁ .answer), tt))))))), tt))
         (λ k. and-then ! (load ! (from ! (stop !)) (look ! 9 refl)) (and-then ! (load ! (from ! (stop !)) (look ! 5 refl)) (and-then ! (load ! (from ! (stop !)) (look ! 49 refl)) (and-then ! (load ! (from ! (stop !)) (look ! 51 refl)) (and-then ! (load ! (from ! (stop !)) (look ! 43 refl)) (no-more !)))))) (λ r₃₀ ws₃₁ is₃₂ ls₃₃ e₃₄.
         split ! $
         move ! (1 ∷ []) $
@@ -320,7 +302,7 @@ module _ {M : Type 1} (𝓤 : URA M) (H : Heap 𝓤) (𝓜 : Model 𝓤 H) (𝓖
         forget ! 8 refl $
         forget ! 6 refl $
         move ! (1 ∷ 2 ∷ 0 ∷ 3 ∷ 4 ∷ 5 ∷ 6 ∷ 7 ∷ 8 ∷ 9 ∷ 10 ∷ 11 ∷ 12 ∷ 13 ∷ 14 ∷ 15 ∷ 16 ∷ 17 ∷ 18 ∷ 19 ∷ 20 ∷ 21 ∷ 22 ∷ 23 ∷ 24 ∷ 25 ∷ 26 ∷ 27 ∷ 28 ∷ 29 ∷ 30 ∷ 31 ∷ 32 ∷ 33 ∷ 34 ∷ 35 ∷ 36 ∷ 37 ∷ 38 ∷ 39 ∷ 40 ∷ 41 ∷ 42 ∷ 43 ∷ 44 ∷ 45 ∷ 46 ∷ 47 ∷ 48 ∷ 49 ∷ 50 ∷ 51 ∷ 52 ∷ 53 ∷ 54 ∷ 55 ∷ 56 ∷ 57 ∷ 58 ∷ 59 ∷ 60 ∷ 61 ∷ 62 ∷ 63 ∷ []) $
-        part-15 l₀ l₁ l₂ l₃ l₄ l₅ l₆ l₇ l₈ l₉ l₁₀ l₁₁ l₁₂ l₁₃ l₁₄ l₁₅ l₁₆ l₁₇ l₁₈ l₁₉ l₂₀ l₂₁ l₂₂ l₂₃ l₂₄ l₂₅ l₂₆ l₂₇ l₂₈ (((refl ∙ sym (subst (λ (us : List Thread). length us ≡ length ys) (e₅ .1 .0) (ls₄ .0))) ∙ sym (subst (λ (us : List Thread). length us ≡ length V₂) (e₃₄ .0) (ls₃₃ .0)))) (((refl ∙ sym (subst (λ (us : List (List ℕ)). length us ≡ length ys′) (e₅ .1 .1) (ls₄ .1 .0))) ∙ sym (subst (λ (us : List (List ℕ)). length us ≡ length V₃) (e₃₄ .1) (ls₃₃ .1 .0)))) h₁)))))))))))))))))))))))))))))))))))))
+        part-15 l₀ l₁ l₂ l₃ l₄ l₅ l₆ l₇ l₈ l₉ l₁₀ l₁₁ l₁₂ l₁₃ l₁₄ l₁₅ l₁₆ l₁₇ l₁₈ l₁₉ l₂₀ l₂₁ l₂₂ l₂₃ l₂₄ l₂₅ l₂₆ l₂₇ l₂₈ (((refl ∙ sym (subst (λ (us : List Thread). length us ≡ length ys) (e₅ .1 .0) (ls₄ .0))) ∙ sym (subst (λ (us : List Thread). length us ≡ length (V₁ .memory .threads)) (e₃₄ .0) (ls₃₃ .0)))) (((refl ∙ sym (subst (λ (us : List (List ℕ)). length us ≡ length ys′) (e₅ .1 .1) (ls₄ .1 .0))) ∙ sym (subst (λ (us : List (List ℕ)). length us ≡ length (V₁ .memory .cpus)) (e₃₄ .1) (ls₃₃ .1 .0)))) h₁)))))))))))))))))))))))))))))))))))))
 
 pub pick-next-spec : {M : Type 1} → stated.statement M
 unfolding code.routine

@@ -1,5 +1,5 @@
 -- `sched::schedule::reinsert` meets its contract: a walk of its MIR, written by tools/entrygen.py.
-use mathlib.Core.Path.{_≡_, refl, sym, subst, _∙_}
+use mathlib.Core.Path.{_≡_, refl, sym, ap, subst, _∙_}
 use Prim.Native.Nat.{ℕ}
 use mathlib.Core.Bool.{Bool, not}
 use mathlib.Core.List.{[], _∷_, List}
@@ -34,22 +34,22 @@ use denote.Triple.Clauses.{Clauses}
 use denote.Triple.Walked.{says, Stays, stay-none, stay-slice, stay-none-slice, walkOf, goes-none, goes-slice, goes-none-slice, ends-at}
 use denote.Exit.{yes as kept-yes}
 use Rattle.lent.proofs.Walk.{Datum, number, truth, nil, struct, Dens, AreD, listed, spell, lent-as, slice-of, shared-as, kept, opened, closed, guards, env-of, standing, bare, full, told, proved}
-use Rattle.lent.proofs.Lent.{mutable, shared, passed, choice, call-slices, all-freed, no, yes, begins3, leaves3}
-use Rattle.thread.specs.Thread.{blank}
+use Rattle.lent.proofs.Lent.{mutable, shared, passed, choice, call-slices, call-left, all-freed, no, yes, so, begins3, leaves3}
+use Rattle.lent.specs.Left.{Memory, Left}
+use Rattle.sched.specs.Schedule.{reinsertDef, mustMove, reinsertedDef, pickNext, resetThreadTime, thenNext}
+use Rattle.sched_queues.specs.Queues.{scheduleThreadOnCpu}
 use Rattle.step.specs.Choose.{reinsertAt}
-use Rattle.sched.specs.Queues.{scheduleThreadOnCpu}
-use Rattle.sched.specs.Schedule.{pickNext, mustMove, reinsertedDef, resetThreadTime, thenNext, reinsertDef}
-use Rattle.sched.proofs.Exits.{by-world}
+use Rattle.thread.specs.Thread.{blank}
 use denote.Struct.Laws as LL
-use Rattle.sched.specs.declared.context.Context.{Context}
-use Rattle.sched.proofs.context.Context as Context·
-use Rattle.sched.proofs.context.Context.Laws as Context·laws
+use Rattle.step.specs.declared.context.Context.{Context}
+use Rattle.step.proofs.context.Context as Context·
+use Rattle.step.proofs.context.Context.Laws as Context·laws
 use Rattle.thread.specs.declared.time.OptionCpu.{OptionCpu}
 use Rattle.thread.proofs.time.OptionCpu as OptionCpu·
 use Rattle.thread.proofs.time.OptionCpu.Laws as OptionCpu·laws
-use Rattle.sched.specs.declared.context.SchedFlags.{SchedFlags}
-use Rattle.sched.proofs.context.SchedFlags as SchedFlags·
-use Rattle.sched.proofs.context.SchedFlags.Laws as SchedFlags·laws
+use Rattle.step.specs.declared.context.SchedFlags.{SchedFlags}
+use Rattle.step.proofs.context.SchedFlags as SchedFlags·
+use Rattle.step.proofs.context.SchedFlags.Laws as SchedFlags·laws
 use Rattle.thread.specs.declared.Thread.{Thread}
 use Rattle.thread.proofs.Thread as Thread·
 use Rattle.thread.proofs.Thread.Laws as Thread·laws
@@ -68,9 +68,9 @@ use Rattle.sched.proofs.schedule.reinserted.Met as fn-sched-schedule-re
 use Rattle.sched.proofs.schedule.pick_next as fn-sched-schedule-pick-next
 use Rattle.sched.proofs.schedule.pick_next.Symbol as fn-sched-schedule-pick-next-def
 use Rattle.sched.proofs.schedule.pick_next.Met as fn-sched-schedule-pick-next-thm
-use Rattle.sched.proofs.queues.schedule_thread_on_cpu as fn-sched-queues-schedule-thread-on-cpu
-use Rattle.sched.proofs.queues.schedule_thread_on_cpu.Symbol as fn-sched-queues-schedule-thread-on-cpu-def
-use Rattle.sched.proofs.queues.schedule_thread_on_cpu.Met as fn-sched-queues-schedule-thread-on-cpu-thm
+use Rattle.sched_queues.proofs.queues.schedule_thread_on_cpu as fn-sched-queues-queues-schedule-thread-on-cpu
+use Rattle.sched_queues.proofs.queues.schedule_thread_on_cpu.Symbol as fn-sched-queues-queues-schedule-thread-on-cpu-def
+use Rattle.sched_queues.proofs.queues.schedule_thread_on_cpu.Met as fn-sched-queues-queues-schedule-thread-on-cpu-thm
 use Rattle.sched.proofs.schedule.reset_thread_time as fn-sched-schedule-reset-thread-time
 use Rattle.sched.proofs.schedule.reset_thread_time.Symbol as fn-sched-schedule-reset-thread-time-def
 use Rattle.sched.proofs.schedule.reset_thread_time.Met as fn-sched-schedule-reset-thread-time-thm
@@ -148,38 +148,20 @@ module _ {M : Type 1} (𝓤 : URA M) (H : Heap 𝓤) (𝓜 : Model 𝓤 H) (𝓖
     abbrev V₃ : List (List ℕ)
     V₃ = reinsertAt ys′ ys″ ((a .0) .us) ((a .0) .limit) (getD ys (a .1 .0) blank) .cpus
 
-    abbrev V₄ : ℕ
-    V₄ = reinsertedDef ys V₃ (a .0) V₂ (a .1 .0) (a .1 .1 .1 .0) .wakeups
+    abbrev V₄ : Left ℕ Memory
+    V₄ = reinsertedDef (a .0) V₂ (a .1 .0) (a .1 .1 .1 .0) (record { threads = ys; cpus = V₃ })
 
-    abbrev V₅ : List Thread
-    V₅ = reinsertedDef ys V₃ (a .0) V₂ (a .1 .0) (a .1 .1 .1 .0) .threads
+    abbrev V₅ : Memory
+    V₅ = pickNext (a .0) (a .1 .0) ys″ (record { threads = V₄ .memory .threads; cpus = V₄ .memory .cpus })
 
-    abbrev V₆ : List (List ℕ)
-    V₆ = reinsertedDef ys V₃ (a .0) V₂ (a .1 .0) (a .1 .1 .1 .0) .cpus
+    abbrev V₆ : Left ℕ Memory
+    V₆ = scheduleThreadOnCpu (a .0) ((a .0) .us) (a .1 .0) (a .1 .1 .1 .0) (record { threads = ys; cpus = ys′ })
 
-    abbrev V₇ : List Thread
-    V₇ = pickNext V₅ V₆ ys″ (a .0) (a .1 .0) .threads
+    abbrev V₇ : Memory
+    V₇ = pickNext (a .0) (a .1 .0) ys″ (record { threads = V₆ .memory .threads; cpus = V₆ .memory .cpus })
 
-    abbrev V₈ : List (List ℕ)
-    V₈ = pickNext V₅ V₆ ys″ (a .0) (a .1 .0) .cpus
-
-    abbrev V₉ : ℕ
-    V₉ = scheduleThreadOnCpu ys ys′ (a .0) ((a .0) .us) (a .1 .0) (a .1 .1 .1 .0) .wakeups
-
-    abbrev V₁₀ : List Thread
-    V₁₀ = scheduleThreadOnCpu ys ys′ (a .0) ((a .0) .us) (a .1 .0) (a .1 .1 .1 .0) .threads
-
-    abbrev V₁₁ : List (List ℕ)
-    V₁₁ = scheduleThreadOnCpu ys ys′ (a .0) ((a .0) .us) (a .1 .0) (a .1 .1 .1 .0) .cpus
-
-    abbrev V₁₂ : List Thread
-    V₁₂ = pickNext V₁₀ V₁₁ ys″ (a .0) (a .1 .0) .threads
-
-    abbrev V₁₃ : List (List ℕ)
-    V₁₃ = pickNext V₁₀ V₁₁ ys″ (a .0) (a .1 .0) .cpus
-
-    abbrev V₁₄ : List Thread
-    V₁₄ = resetThreadTime ys ys′ (a .0) (a .1 .0)
+    abbrev V₈ : List Thread
+    V₈ = resetThreadTime (a .0) (a .1 .0) ys′ ys
 
     module _ (l₀ l₁ l₂ l₃ l₄ l₅ l₆ l₇ l₈ l₉ l₁₀ l₁₁ l₁₂ l₁₃ l₁₄ l₁₅ l₁₆ l₁₇ l₁₈ l₁₉ l₂₀ l₂₁ l₂₂ l₂₃ l₂₄ l₂₅ l₂₆ l₂₇ l₂₈ l₂₉ l₃₀ l₃₁ l₃₂ l₃₃ l₃₄ l₃₅ l₃₆ l₃₇ l₃₈ l₃₉ l₄₀ l₄₁ l₄₂ l₄₃ l₄₄ l₄₅ : ℕ) where
       abbrev En : Env 𝓤 H
@@ -197,7 +179,7 @@ module _ {M : Type 1} (𝓤 : URA M) (H : Heap 𝓤) (𝓜 : Model 𝓤 H) (𝓖
           join ! $
           move ! (1 ∷ 0 ∷ []) $
           join ! $
-          call-slices nil (Context° ∷ number w64 ∷ []) ((a .0, (a .1 .0, tt))) (emp 𝓤) ((mutable Thread·.the-row ys b o n refl room) ∷ (shared (Array u64 96) ys′ b′ o′ n′ refl room′) ∷ []) ! fm (λ r ws. ws .0 ≡ V₁₄) ((are .0, (are .1 .0, tt))) (id⊢ 𝓤 (emp 𝓤))
+          call-left nil (Context° ∷ number w64 ∷ []) ((a .0, (a .1 .0, tt))) (emp 𝓤) ((mutable Thread·.the-row ys b o n refl room) ∷ (shared (Array u64 96) ys′ b′ o′ n′ refl room′) ∷ []) ! fm (λ r ws. ws .0 ≡ (V₈)) (λ r ws. _≡_ {A = List Thread} (ws .0) V₈) (λ r ws e. e) ((are .0, (are .1 .0, tt))) (id⊢ 𝓤 (emp 𝓤))
           (λ νs. cited 𝓤 H (tripleOf 𝓤 H A fn-sched-schedule-reset-thread-time.signature (fn-sched-schedule-reset-thread-time.spec 𝓤 H A (𝓜 .mem) (𝓡 .run))) 𝓜 𝓡 code.env fn-sched-schedule-reset-thread-time-def.name fn-sched-schedule-reset-thread-time-def.routine code.calls-sched·schedule·reset-thread-time (fn-sched-schedule-reset-thread-time-thm.met 𝓤 H 𝓜 𝓖 𝓡) (((νs .0 .0 ∷ [], (νs .1 .0 .0 ∷ [], tt)), (fullShare, (fullShare, tt)), tt, (lent-as b o (νs .0 .1) ys, (lent-as b′ o′ (νs .1 .0 .1) ys′, (a .0, (a .1 .0, tt)))), (slice-of b o ys ∷ [], (slice-of b′ o′ ys′ ∷ [], spell (Context° ∷ number w64 ∷ []) ((a .0, (a .1 .0, tt)))))), tt))
           (λ k. and-then ! (load ! (from ! (stop !)) (look ! 9 refl)) (and-then ! (load ! (from ! (stop !)) (look ! 5 refl)) (and-then ! (load ! (from ! (stop !)) (look ! 87 refl)) (and-then ! (load ! (from ! (stop !)) (look ! 85 refl)) (no-more !))))) (λ r₄₁ ws₄₂ is₄₃ ls₄₄ e₄₅.
           split ! $
@@ -212,11 +194,11 @@ module _ {M : Type 1} (𝓤 : URA M) (H : Heap 𝓤) (𝓜 : Model 𝓤 H) (𝓖
           move ! (2 ∷ 5 ∷ []) $
           closed ! tt (Array u64 96) ys′ (ys′) b′ o′ room′ (sym refl) $
           move ! (4 ∷ 5 ∷ []) $
-          closed ! tt Thread·.the-row ys (V₁₄) b o room (sym ((refl ∙ sym (subst (λ (us : List Thread). length us ≡ length ys) (e₄₅) (ls₄₄ .0))))) $
+          closed ! tt Thread·.the-row ys (V₈) b o room (sym ((refl ∙ sym (subst (λ (us : List Thread). length us ≡ length ys) (e₄₅) (ls₄₄ .0))))) $
           returns ! (look ! 96 refl) $
           move ! (96 ∷ 97 ∷ 94 ∷ 95 ∷ 92 ∷ 93 ∷ 90 ∷ 91 ∷ 88 ∷ 89 ∷ 86 ∷ 87 ∷ 84 ∷ 85 ∷ 82 ∷ 83 ∷ 80 ∷ 81 ∷ 78 ∷ 79 ∷ 76 ∷ 77 ∷ 74 ∷ 75 ∷ 72 ∷ 73 ∷ 70 ∷ 71 ∷ 68 ∷ 69 ∷ 66 ∷ 67 ∷ 64 ∷ 65 ∷ 62 ∷ 63 ∷ 60 ∷ 61 ∷ 58 ∷ 59 ∷ 56 ∷ 57 ∷ 54 ∷ 55 ∷ 52 ∷ 53 ∷ 50 ∷ 51 ∷ 48 ∷ 49 ∷ 46 ∷ 47 ∷ 44 ∷ 45 ∷ 42 ∷ 43 ∷ 40 ∷ 41 ∷ 38 ∷ 39 ∷ 36 ∷ 37 ∷ 34 ∷ 35 ∷ 32 ∷ 33 ∷ 30 ∷ 31 ∷ 28 ∷ 29 ∷ 26 ∷ 27 ∷ 24 ∷ 25 ∷ 22 ∷ 23 ∷ 20 ∷ 21 ∷ 18 ∷ 19 ∷ 16 ∷ 17 ∷ 14 ∷ 15 ∷ 12 ∷ 13 ∷ 10 ∷ 11 ∷ 8 ∷ 9 ∷ 6 ∷ 7 ∷ []) $
           all-freed ! mir.locals (l₀ ∷ l₁ ∷ l₂ ∷ l₃ ∷ l₄ ∷ l₅ ∷ l₆ ∷ l₇ ∷ l₈ ∷ l₉ ∷ l₁₀ ∷ l₁₁ ∷ l₁₂ ∷ l₁₃ ∷ l₁₄ ∷ l₁₅ ∷ l₁₆ ∷ l₁₇ ∷ l₁₈ ∷ l₁₉ ∷ l₂₀ ∷ l₂₁ ∷ l₂₂ ∷ l₂₃ ∷ l₂₄ ∷ l₂₅ ∷ l₂₆ ∷ l₂₇ ∷ l₂₈ ∷ l₂₉ ∷ l₃₀ ∷ l₃₁ ∷ l₃₂ ∷ l₃₃ ∷ l₃₄ ∷ l₃₅ ∷ l₃₆ ∷ l₃₇ ∷ l₃₈ ∷ l₃₉ ∷ l₄₀ ∷ l₄₁ ∷ l₄₂ ∷ l₄₃ ∷ l₄₄ ∷ l₄₅ ∷ []) (full _ ∷ full _ ∷ full _ ∷ full _ ∷ full _ ∷ full _ ∷ full _ ∷ full _ ∷ bare ∷ bare ∷ bare ∷ bare ∷ bare ∷ bare ∷ bare ∷ bare ∷ bare ∷ bare ∷ bare ∷ bare ∷ bare ∷ bare ∷ bare ∷ bare ∷ bare ∷ bare ∷ bare ∷ bare ∷ bare ∷ bare ∷ bare ∷ bare ∷ bare ∷ bare ∷ bare ∷ bare ∷ bare ∷ bare ∷ bare ∷ bare ∷ bare ∷ full _ ∷ full _ ∷ full _ ∷ full _ ∷ full _ ∷ []) tt $
-          suffices ! _ (ends-at 𝓤 H A reinsert.ended stayed c W y _ (a .1 .1 .1 .0) (V₁₄, (ys′, (tt, (tt, (tt, (tt, (tt, tt))))))) (sym ((refl ∙ sym (subst (λ (us : List Thread). length us ≡ length ys) (e₄₅) (ls₄₄ .0)))), (sym refl, (tt, (tt, (tt, (tt, (tt, tt)))))))) $ says ! (by-world (record { wakeups = (a .1 .1 .1 .0); threads = V₁₄; cpus = ys′ }) (reinsertDef ys ys′ ys″ (a .0) (a .1 .0) (a .1 .1 .0) (a .1 .1 .1 .0)) ((no (V₁) h₁ _ (no ((a .1 .1 .0) .yields) h₂ _ (refl))))) $
+          suffices ! _ (ends-at 𝓤 H A reinsert.ended stayed c W y _ (a .1 .1 .1 .0) (V₈, (ys′, (tt, (tt, (tt, (tt, (tt, tt))))))) (sym ((refl ∙ sym (subst (λ (us : List Thread). length us ≡ length ys) (e₄₅) (ls₄₄ .0)))), (sym refl, (tt, (tt, (tt, (tt, (tt, tt)))))))) $ says ! (so {X = Left ℕ Memory} (record { answer = (a .1 .1 .1 .0); memory = record { threads = (V₈); cpus = ys′ } }) (reinsertDef (a .0) (a .1 .0) (a .1 .1 .0) (a .1 .1 .1 .0) ys″ (record { threads = ys; cpus = ys′ })) ((no (V₁) h₁ _ (no ((a .1 .1 .0) .yields) h₂ _ (refl))))) $
           leaves3 ! (number w64) Ds a (a .1 .1 .1 .0) are (are .1 .1 .1 .0))
 
     walk : ent 𝓤 (onEntry 𝓤 H A reinsert.signature (κ, (κ′, (κ″, tt))) (q, (q′, (q″, tt))) ((lent-as b o γ ys, (lent-as b′ o′ γ′ ys′, (lent-as b″ o″ γ″ ys″, a)))) ((s ∷ [], (s′ ∷ [], (s″ ∷ [], spell Ds a))))) (WpFn 𝓤 H C Λ code.function (s ∷ s′ ∷ s″ ∷ listed Ds a) Post)
@@ -289,7 +271,7 @@ module _ {M : Type 1} (𝓤 : URA M) (H : Heap 𝓤) (𝓜 : Model 𝓤 H) (𝓖
         join ! $
         move ! (3 ∷ 0 ∷ []) $
         join ! $
-        call-slices (number w64) (Context° ∷ OptionCpu° ∷ number w64 ∷ number w64 ∷ []) ((a .0, (V₂, (a .1 .0, (a .1 .1 .1 .0, tt))))) (emp 𝓤) ((mutable Thread·.the-row ys b o n refl room) ∷ (mutable (Array u64 96) V₃ b′ o′ n′ ((refl ∙ sym (subst (λ (us : List (List ℕ)). length us ≡ length ys′) (e₁₇ .1) (ls₁₆ .0)))) room′) ∷ []) ! fm (λ r ws. (r ≡ V₄) × ((ws .0 ≡ V₅) × (ws .1 .0 ≡ V₆))) ((are .0, (is₁₈, (are .1 .0, (are .1 .1 .1 .0, tt))))) (id⊢ 𝓤 (emp 𝓤))
+        call-left (number w64) (Context° ∷ OptionCpu° ∷ number w64 ∷ number w64 ∷ []) ((a .0, (V₂, (a .1 .0, (a .1 .1 .1 .0, tt))))) (emp 𝓤) ((mutable Thread·.the-row ys b o n refl room) ∷ (mutable (Array u64 96) V₃ b′ o′ n′ ((refl ∙ sym (subst (λ (us : List (List ℕ)). length us ≡ length ys′) (e₁₇ .1) (ls₁₆ .0)))) room′) ∷ []) ! fm (λ r ws. (r ≡ (V₄ .answer)) × ((ws .0 ≡ (V₄ .memory .threads)) × (ws .1 .0 ≡ (V₄ .memory .cpus)))) (λ r ws. _≡_ {A = Left ℕ Memory} (record { answer = r; memory = record { threads = ws .0; cpus = ws .1 .0 } }) V₄) (λ r ws e. (ap (λ (z : Left ℕ Memory). z .answer) e, (ap (λ (z : Left ℕ Memory). z .memory .threads) e, ap (λ (z : Left ℕ Memory). z .memory .cpus) e))) ((are .0, (is₁₈, (are .1 .0, (are .1 .1 .1 .0, tt))))) (id⊢ 𝓤 (emp 𝓤))
         (λ νs. cited 𝓤 H (tripleOf 𝓤 H A fn-sched-schedule-reinserted.signature (fn-sched-schedule-reinserted.spec 𝓤 H A (𝓜 .mem) (𝓡 .run))) 𝓜 𝓡 code.env fn-sched-schedule-reinserted-def.name fn-sched-schedule-reinserted-def.routine code.calls-sched·schedule·reinserted (fn-sched-schedule-reinserted-thm.met 𝓤 H 𝓜 𝓖 𝓡) (((νs .0 .0 ∷ [], (νs .1 .0 .0 ∷ [], tt)), (fullShare, (fullShare, tt)), tt, (lent-as b o (νs .0 .1) ys, (lent-as b′ o′ (νs .1 .0 .1) V₃, (a .0, (V₂, (a .1 .0, (a .1 .1 .1 .0, tt)))))), (slice-of b o ys ∷ [], (slice-of b′ o′ V₃ ∷ [], spell (Context° ∷ OptionCpu° ∷ number w64 ∷ number w64 ∷ []) ((a .0, (V₂, (a .1 .0, (a .1 .1 .1 .0, tt)))))))), tt))
         (λ k. and-then ! (load ! (from ! (stop !)) (look ! 49 refl)) (and-then ! (load ! (from ! (stop !)) (look ! 45 refl)) (and-then ! (load ! (from ! (stop !)) (look ! 87 refl)) (and-then ! (load ! (from ! (stop !)) (look ! 73 refl)) (and-then ! (load ! (from ! (stop !)) (look ! 85 refl)) (and-then ! (load ! (from ! (stop !)) (look ! 81 refl)) (no-more !))))))) (λ r₁₉ ws₂₀ is₂₁ ls₂₂ e₂₃.
         split ! $
@@ -300,7 +282,7 @@ module _ {M : Type 1} (𝓤 : URA M) (H : Heap 𝓤) (𝓜 : Model 𝓤 H) (𝓖
         rewrite ! 1 (λ (us : List Thread). ‵ (row Thread·.the-row fullShare us b o)) (e₂₃ .1 .0) refl $
         rewrite ! 0 (λ (us : List (List ℕ)). ‵ (row (Array u64 96) fullShare us b′ o′)) (e₂₃ .1 .1) refl $
         told ! (number w64) (e₂₃ .0) is₂₁ (λ is₂₄.
-        land ! (from ! (stop !)) (init ! 72 refl ((number w64) .typed 𝓤 H A W (V₄) (is₂₄) .0)) $
+        land ! (from ! (stop !)) (init ! 72 refl ((number w64) .typed 𝓤 H A W (V₄ .answer) (is₂₄) .0)) $
         assigns ! (addr ! (from ! (fld ! refl (hop ! (look-in ! 94 (sub ! 0 refl (whole !))) (stop !))))) (from ! (stop !)) (init ! 42 refl (tt, tt)) $
         assigns ! (agg ! (and-then ! (load ! (from ! (stop !)) (look ! 42 refl)) (and-then ! (load ! (from ! (fld ! refl (stop !))) (look-in ! 94 (sub ! 1 refl (whole !)))) (no-more !)))) (from ! (stop !)) (init ! 40 refl (tt, (tt, (record { fits = room .0 }, tt)))) $
         assigns ! (addr ! (from ! (fld ! refl (hop ! (look-in ! 92 (sub ! 0 refl (whole !))) (stop !))))) (from ! (stop !)) (init ! 38 refl (tt, tt)) $
@@ -313,8 +295,8 @@ module _ {M : Type 1} (𝓤 : URA M) (H : Heap 𝓤) (𝓜 : Model 𝓤 H) (𝓖
         join ! $
         move ! (1 ∷ 0 ∷ []) $
         join ! $
-        call-slices nil (Context° ∷ number w64 ∷ []) ((a .0, (a .1 .0, tt))) (emp 𝓤) ((mutable Thread·.the-row V₅ b o n ((refl ∙ sym (subst (λ (us : List Thread). length us ≡ length ys) (e₂₃ .1 .0) (ls₂₂ .0)))) room) ∷ (mutable (Array u64 96) V₆ b′ o′ n′ (((refl ∙ sym (subst (λ (us : List (List ℕ)). length us ≡ length ys′) (e₁₇ .1) (ls₁₆ .0))) ∙ sym (subst (λ (us : List (List ℕ)). length us ≡ length V₃) (e₂₃ .1 .1) (ls₂₂ .1 .0)))) room′) ∷ (passed (Array u64 32) ys″ b″ o″ κ″ q″ γ″) ∷ []) ! fm (λ r ws. (ws .0 ≡ V₇) × (ws .1 .0 ≡ V₈)) ((are .0, (are .1 .0, tt))) (id⊢ 𝓤 (emp 𝓤))
-        (λ νs. cited 𝓤 H (tripleOf 𝓤 H A fn-sched-schedule-pick-next.signature (fn-sched-schedule-pick-next.spec 𝓤 H A (𝓜 .mem) (𝓡 .run))) 𝓜 𝓡 code.env fn-sched-schedule-pick-next-def.name fn-sched-schedule-pick-next-def.routine code.calls-sched·schedule·pick-next (fn-sched-schedule-pick-next-thm.met 𝓤 H 𝓜 𝓖 𝓡) (((νs .0 .0 ∷ [], (νs .1 .0 .0 ∷ [], (κ″, tt))), (fullShare, (fullShare, (q″, tt))), tt, (lent-as b o (νs .0 .1) V₅, (lent-as b′ o′ (νs .1 .0 .1) V₆, (lent-as b″ o″ γ″ ys″, (a .0, (a .1 .0, tt))))), (slice-of b o V₅ ∷ [], (slice-of b′ o′ V₆ ∷ [], (slice-of b″ o″ ys″ ∷ [], spell (Context° ∷ number w64 ∷ []) ((a .0, (a .1 .0, tt))))))), tt))
+        call-left nil (Context° ∷ number w64 ∷ []) ((a .0, (a .1 .0, tt))) (emp 𝓤) ((mutable Thread·.the-row (V₄ .memory .threads) b o n ((refl ∙ sym (subst (λ (us : List Thread). length us ≡ length ys) (e₂₃ .1 .0) (ls₂₂ .0)))) room) ∷ (mutable (Array u64 96) (V₄ .memory .cpus) b′ o′ n′ (((refl ∙ sym (subst (λ (us : List (List ℕ)). length us ≡ length ys′) (e₁₇ .1) (ls₁₆ .0))) ∙ sym (subst (λ (us : List (List ℕ)). length us ≡ length V₃) (e₂₃ .1 .1) (ls₂₂ .1 .0)))) room′) ∷ (passed (Array u64 32) ys″ b″ o″ κ″ q″ γ″) ∷ []) ! fm (λ r ws. (ws .0 ≡ (V₅ .threads)) × (ws .1 .0 ≡ (V₅ .cpus))) (λ r ws. _≡_ {A = Memory} (record { threads = ws .0; cpus = ws .1 .0 }) V₅) (λ r ws e. (ap (λ (z : Memory). z .threads) e, ap (λ (z : Memory). z .cpus) e)) ((are .0, (are .1 .0, tt))) (id⊢ 𝓤 (emp 𝓤))
+        (λ νs. cited 𝓤 H (tripleOf 𝓤 H A fn-sched-schedule-pick-next.signature (fn-sched-schedule-pick-next.spec 𝓤 H A (𝓜 .mem) (𝓡 .run))) 𝓜 𝓡 code.env fn-sched-schedule-pick-next-def.name fn-sched-schedule-pick-next-def.routine code.calls-sched·schedule·pick-next (fn-sched-schedule-pick-next-thm.met 𝓤 H 𝓜 𝓖 𝓡) (((νs .0 .0 ∷ [], (νs .1 .0 .0 ∷ [], (κ″, tt))), (fullShare, (fullShare, (q″, tt))), tt, (lent-as b o (νs .0 .1) (V₄ .memory .threads), (lent-as b′ o′ (νs .1 .0 .1) (V₄ .memory .cpus), (lent-as b″ o″ γ″ ys″, (a .0, (a .1 .0, tt))))), (slice-of b o (V₄ .memory .threads) ∷ [], (slice-of b′ o′ (V₄ .memory .cpus) ∷ [], (slice-of b″ o″ ys″ ∷ [], spell (Context° ∷ number w64 ∷ []) ((a .0, (a .1 .0, tt))))))), tt))
         (λ k. and-then ! (load ! (from ! (stop !)) (look ! 37 refl)) (and-then ! (load ! (from ! (stop !)) (look ! 33 refl)) (and-then ! (load ! (from ! (stop !)) (look ! 87 refl)) (and-then ! (load ! (from ! (stop !)) (look ! 85 refl)) (and-then ! (load ! (from ! (stop !)) (look ! 83 refl)) (no-more !)))))) (λ r₂₅ ws₂₆ is₂₇ ls₂₈ e₂₉.
         split ! $
         move ! (1 ∷ []) $
@@ -327,16 +309,16 @@ module _ {M : Type 1} (𝓤 : URA M) (H : Heap 𝓤) (𝓜 : Model 𝓤 H) (𝓖
         rewrite ! 3 (λ (us : List Thread). ‵ (row Thread·.the-row fullShare us b o)) (e₂₉ .0) refl $
         rewrite ! 2 (λ (us : List (List ℕ)). ‵ (row (Array u64 96) fullShare us b′ o′)) (e₂₉ .1) refl $
         land ! (from ! (stop !)) (init ! 44 refl (tt, tt)) $
-        assigns ! (of-opd ! (load ! (from ! (stop !)) (look ! 72 refl))) (from ! (stop !)) (init ! 96 refl ((number w64) .typed 𝓤 H A W (V₄) (is₂₄) .0)) $
+        assigns ! (of-opd ! (load ! (from ! (stop !)) (look ! 72 refl))) (from ! (stop !)) (init ! 96 refl ((number w64) .typed 𝓤 H A W (V₄ .answer) (is₂₄) .0)) $
         move ! (2 ∷ 5 ∷ []) $
-        closed ! tt (Array u64 96) ys′ (V₈) b′ o′ room′ (sym ((((refl ∙ sym (subst (λ (us : List (List ℕ)). length us ≡ length ys′) (e₁₇ .1) (ls₁₆ .0))) ∙ sym (subst (λ (us : List (List ℕ)). length us ≡ length V₃) (e₂₃ .1 .1) (ls₂₂ .1 .0))) ∙ sym (subst (λ (us : List (List ℕ)). length us ≡ length V₆) (e₂₉ .1) (ls₂₈ .1 .0))))) $
+        closed ! tt (Array u64 96) ys′ (V₅ .cpus) b′ o′ room′ (sym ((((refl ∙ sym (subst (λ (us : List (List ℕ)). length us ≡ length ys′) (e₁₇ .1) (ls₁₆ .0))) ∙ sym (subst (λ (us : List (List ℕ)). length us ≡ length V₃) (e₂₃ .1 .1) (ls₂₂ .1 .0))) ∙ sym (subst (λ (us : List (List ℕ)). length us ≡ length (V₄ .memory .cpus)) (e₂₉ .1) (ls₂₈ .1 .0))))) $
         move ! (4 ∷ 5 ∷ []) $
-        closed ! tt Thread·.the-row ys (V₇) b o room (sym (((refl ∙ sym (subst (λ (us : List Thread). length us ≡ length ys) (e₂₃ .1 .0) (ls₂₂ .0))) ∙ sym (subst (λ (us : List Thread). length us ≡ length V₅) (e₂₉ .0) (ls₂₈ .0))))) $
+        closed ! tt Thread·.the-row ys (V₅ .threads) b o room (sym (((refl ∙ sym (subst (λ (us : List Thread). length us ≡ length ys) (e₂₃ .1 .0) (ls₂₂ .0))) ∙ sym (subst (λ (us : List Thread). length us ≡ length (V₄ .memory .threads)) (e₂₉ .0) (ls₂₈ .0))))) $
         returns-within ! Post refl (look ! 96 refl) $
         move ! (96 ∷ 97 ∷ 94 ∷ 95 ∷ 92 ∷ 93 ∷ 90 ∷ 91 ∷ 88 ∷ 89 ∷ 86 ∷ 87 ∷ 84 ∷ 85 ∷ 82 ∷ 83 ∷ 80 ∷ 81 ∷ 78 ∷ 79 ∷ 76 ∷ 77 ∷ 74 ∷ 75 ∷ 72 ∷ 73 ∷ 70 ∷ 71 ∷ 68 ∷ 69 ∷ 66 ∷ 67 ∷ 64 ∷ 65 ∷ 62 ∷ 63 ∷ 60 ∷ 61 ∷ 58 ∷ 59 ∷ 56 ∷ 57 ∷ 54 ∷ 55 ∷ 52 ∷ 53 ∷ 50 ∷ 51 ∷ 48 ∷ 49 ∷ 46 ∷ 47 ∷ 44 ∷ 45 ∷ 42 ∷ 43 ∷ 40 ∷ 41 ∷ 38 ∷ 39 ∷ 36 ∷ 37 ∷ 34 ∷ 35 ∷ 32 ∷ 33 ∷ 30 ∷ 31 ∷ 28 ∷ 29 ∷ 26 ∷ 27 ∷ 24 ∷ 25 ∷ 22 ∷ 23 ∷ 20 ∷ 21 ∷ 18 ∷ 19 ∷ 16 ∷ 17 ∷ 14 ∷ 15 ∷ 12 ∷ 13 ∷ 10 ∷ 11 ∷ 8 ∷ 9 ∷ 6 ∷ 7 ∷ []) $
         all-freed ! mir.locals (l₀ ∷ l₁ ∷ l₂ ∷ l₃ ∷ l₄ ∷ l₅ ∷ l₆ ∷ l₇ ∷ l₈ ∷ l₉ ∷ l₁₀ ∷ l₁₁ ∷ l₁₂ ∷ l₁₃ ∷ l₁₄ ∷ l₁₅ ∷ l₁₆ ∷ l₁₇ ∷ l₁₈ ∷ l₁₉ ∷ l₂₀ ∷ l₂₁ ∷ l₂₂ ∷ l₂₃ ∷ l₂₄ ∷ l₂₅ ∷ l₂₆ ∷ l₂₇ ∷ l₂₈ ∷ l₂₉ ∷ l₃₀ ∷ l₃₁ ∷ l₃₂ ∷ l₃₃ ∷ l₃₄ ∷ l₃₅ ∷ l₃₆ ∷ l₃₇ ∷ l₃₈ ∷ l₃₉ ∷ l₄₀ ∷ l₄₁ ∷ l₄₂ ∷ l₄₃ ∷ l₄₄ ∷ l₄₅ ∷ []) (full _ ∷ full _ ∷ full _ ∷ full _ ∷ full _ ∷ full _ ∷ full _ ∷ full _ ∷ full _ ∷ full _ ∷ full _ ∷ full _ ∷ full _ ∷ bare ∷ bare ∷ full _ ∷ full _ ∷ full _ ∷ full _ ∷ full _ ∷ full _ ∷ full _ ∷ full _ ∷ full _ ∷ full _ ∷ full _ ∷ full _ ∷ full _ ∷ full _ ∷ full _ ∷ full _ ∷ bare ∷ bare ∷ bare ∷ bare ∷ bare ∷ bare ∷ bare ∷ bare ∷ bare ∷ bare ∷ bare ∷ bare ∷ bare ∷ bare ∷ bare ∷ []) tt $
-        suffices ! _ (ends-at 𝓤 H A reinsert.ended stayed c W y _ (V₄) (V₇, (V₈, (tt, (tt, (tt, (tt, (tt, tt))))))) (sym (((refl ∙ sym (subst (λ (us : List Thread). length us ≡ length ys) (e₂₃ .1 .0) (ls₂₂ .0))) ∙ sym (subst (λ (us : List Thread). length us ≡ length V₅) (e₂₉ .0) (ls₂₈ .0)))), (sym ((((refl ∙ sym (subst (λ (us : List (List ℕ)). length us ≡ length ys′) (e₁₇ .1) (ls₁₆ .0))) ∙ sym (subst (λ (us : List (List ℕ)). length us ≡ length V₃) (e₂₃ .1 .1) (ls₂₂ .1 .0))) ∙ sym (subst (λ (us : List (List ℕ)). length us ≡ length V₆) (e₂₉ .1) (ls₂₈ .1 .0)))), (tt, (tt, (tt, (tt, (tt, tt)))))))) $ says ! (by-world (record { wakeups = V₄; threads = V₇; cpus = V₈ }) (reinsertDef ys ys′ ys″ (a .0) (a .1 .0) (a .1 .1 .0) (a .1 .1 .1 .0)) ((yes (V₁) h₁ _ (refl)))) $
-        leaves3 ! (number w64) Ds a (V₄) are (is₂₄)))))))
+        suffices ! _ (ends-at 𝓤 H A reinsert.ended stayed c W y _ (V₄ .answer) (V₅ .threads, (V₅ .cpus, (tt, (tt, (tt, (tt, (tt, tt))))))) (sym (((refl ∙ sym (subst (λ (us : List Thread). length us ≡ length ys) (e₂₃ .1 .0) (ls₂₂ .0))) ∙ sym (subst (λ (us : List Thread). length us ≡ length (V₄ .memory .threads)) (e₂₉ .0) (ls₂₈ .0)))), (sym ((((refl ∙ sym (subst (λ (us : List (List ℕ)). length us ≡ length ys′) (e₁₇ .1) (ls₁₆ .0))) ∙ sym (subst (λ (us : List (List ℕ)). length us ≡ length V₃) (e₂₃ .1 .1) (ls₂₂ .1 .0))) ∙ sym (subst (λ (us : List (List ℕ)). length us ≡ length (V₄ .memory .cpus)) (e₂₉ .1) (ls₂₈ .1 .0)))), (tt, (tt, (tt, (tt, (tt, tt)))))))) $ says ! (so {X = Left ℕ Memory} (record { answer = (V₄ .answer); memory = record { threads = (V₅ .threads); cpus = (V₅ .cpus) } }) (reinsertDef (a .0) (a .1 .0) (a .1 .1 .0) (a .1 .1 .1 .0) ys″ (record { threads = ys; cpus = ys′ })) ((yes (V₁) h₁ _ (refl)))) $
+        leaves3 ! (number w64) Ds a (V₄ .answer) are (is₂₄)))))))
         (λ h₁.
         assigns ! (of-opd ! (load ! (from ! (fld ! refl (stop !))) (look-in ! 84 (sub ! 0 refl (whole !))))) (from ! (stop !)) (init ! 70 refl (tt, tt)) $
         assigns ! (of-opd ! (load ! (from ! (stop !)) (look ! 70 refl))) (from ! (stop !)) (init ! 34 refl (tt, tt)) $
@@ -351,8 +333,8 @@ module _ {M : Type 1} (𝓤 : URA M) (H : Heap 𝓤) (𝓜 : Model 𝓤 H) (𝓖
         join ! $
         move ! (1 ∷ 0 ∷ []) $
         join ! $
-        call-slices (number w64) (Context° ∷ number w64 ∷ number w64 ∷ number w64 ∷ []) ((a .0, ((a .0) .us, (a .1 .0, (a .1 .1 .1 .0, tt))))) (emp 𝓤) ((mutable Thread·.the-row ys b o n refl room) ∷ (mutable (Array u64 96) ys′ b′ o′ n′ refl room′) ∷ []) ! fm (λ r ws. (r ≡ V₉) × ((ws .0 ≡ V₁₀) × (ws .1 .0 ≡ V₁₁))) ((are .0, (LL.owed Context·.the-type Context·laws.the-laws (a .0) _ (are .0) .0, (are .1 .0, (are .1 .1 .1 .0, tt))))) (id⊢ 𝓤 (emp 𝓤))
-        (λ νs. cited 𝓤 H (tripleOf 𝓤 H A fn-sched-queues-schedule-thread-on-cpu.signature (fn-sched-queues-schedule-thread-on-cpu.spec 𝓤 H A (𝓜 .mem) (𝓡 .run))) 𝓜 𝓡 code.env fn-sched-queues-schedule-thread-on-cpu-def.name fn-sched-queues-schedule-thread-on-cpu-def.routine code.calls-sched·queues·schedule-thread-on-cpu (fn-sched-queues-schedule-thread-on-cpu-thm.met 𝓤 H 𝓜 𝓖 𝓡) (((νs .0 .0 ∷ [], (νs .1 .0 .0 ∷ [], tt)), (fullShare, (fullShare, tt)), tt, (lent-as b o (νs .0 .1) ys, (lent-as b′ o′ (νs .1 .0 .1) ys′, (a .0, ((a .0) .us, (a .1 .0, (a .1 .1 .1 .0, tt)))))), (slice-of b o ys ∷ [], (slice-of b′ o′ ys′ ∷ [], spell (Context° ∷ number w64 ∷ number w64 ∷ number w64 ∷ []) ((a .0, ((a .0) .us, (a .1 .0, (a .1 .1 .1 .0, tt)))))))), tt))
+        call-left (number w64) (Context° ∷ number w64 ∷ number w64 ∷ number w64 ∷ []) ((a .0, ((a .0) .us, (a .1 .0, (a .1 .1 .1 .0, tt))))) (emp 𝓤) ((mutable Thread·.the-row ys b o n refl room) ∷ (mutable (Array u64 96) ys′ b′ o′ n′ refl room′) ∷ []) ! fm (λ r ws. (r ≡ (V₆ .answer)) × ((ws .0 ≡ (V₆ .memory .threads)) × (ws .1 .0 ≡ (V₆ .memory .cpus)))) (λ r ws. _≡_ {A = Left ℕ Memory} (record { answer = r; memory = record { threads = ws .0; cpus = ws .1 .0 } }) V₆) (λ r ws e. (ap (λ (z : Left ℕ Memory). z .answer) e, (ap (λ (z : Left ℕ Memory). z .memory .threads) e, ap (λ (z : Left ℕ Memory). z .memory .cpus) e))) ((are .0, (LL.owed Context·.the-type Context·laws.the-laws (a .0) _ (are .0) .0, (are .1 .0, (are .1 .1 .1 .0, tt))))) (id⊢ 𝓤 (emp 𝓤))
+        (λ νs. cited 𝓤 H (tripleOf 𝓤 H A fn-sched-queues-queues-schedule-thread-on-cpu.signature (fn-sched-queues-queues-schedule-thread-on-cpu.spec 𝓤 H A (𝓜 .mem) (𝓡 .run))) 𝓜 𝓡 code.env fn-sched-queues-queues-schedule-thread-on-cpu-def.name fn-sched-queues-queues-schedule-thread-on-cpu-def.routine code.calls-sched-queues·queues·schedule-thread-on-cpu (fn-sched-queues-queues-schedule-thread-on-cpu-thm.met 𝓤 H 𝓜 𝓖 𝓡) (((νs .0 .0 ∷ [], (νs .1 .0 .0 ∷ [], tt)), (fullShare, (fullShare, tt)), tt, (lent-as b o (νs .0 .1) ys, (lent-as b′ o′ (νs .1 .0 .1) ys′, (a .0, ((a .0) .us, (a .1 .0, (a .1 .1 .1 .0, tt)))))), (slice-of b o ys ∷ [], (slice-of b′ o′ ys′ ∷ [], spell (Context° ∷ number w64 ∷ number w64 ∷ number w64 ∷ []) ((a .0, ((a .0) .us, (a .1 .0, (a .1 .1 .1 .0, tt)))))))), tt))
         (λ k. and-then ! (load ! (from ! (stop !)) (look ! 29 refl)) (and-then ! (load ! (from ! (stop !)) (look ! 25 refl)) (and-then ! (load ! (from ! (stop !)) (look ! 87 refl)) (and-then ! (load ! (from ! (stop !)) (look ! 79 refl)) (and-then ! (load ! (from ! (stop !)) (look ! 85 refl)) (and-then ! (load ! (from ! (stop !)) (look ! 81 refl)) (no-more !))))))) (λ r₃₀ ws₃₁ is₃₂ ls₃₃ e₃₄.
         split ! $
         move ! (1 ∷ []) $
@@ -362,7 +344,7 @@ module _ {M : Type 1} (𝓤 : URA M) (H : Heap 𝓤) (𝓜 : Model 𝓤 H) (𝓖
         rewrite ! 1 (λ (us : List Thread). ‵ (row Thread·.the-row fullShare us b o)) (e₃₄ .1 .0) refl $
         rewrite ! 0 (λ (us : List (List ℕ)). ‵ (row (Array u64 96) fullShare us b′ o′)) (e₃₄ .1 .1) refl $
         told ! (number w64) (e₃₄ .0) is₃₂ (λ is₃₅.
-        land ! (from ! (stop !)) (init ! 68 refl ((number w64) .typed 𝓤 H A W (V₉) (is₃₅) .0)) $
+        land ! (from ! (stop !)) (init ! 68 refl ((number w64) .typed 𝓤 H A W (V₆ .answer) (is₃₅) .0)) $
         assigns ! (addr ! (from ! (fld ! refl (hop ! (look-in ! 94 (sub ! 0 refl (whole !))) (stop !))))) (from ! (stop !)) (init ! 22 refl (tt, tt)) $
         assigns ! (agg ! (and-then ! (load ! (from ! (stop !)) (look ! 22 refl)) (and-then ! (load ! (from ! (fld ! refl (stop !))) (look-in ! 94 (sub ! 1 refl (whole !)))) (no-more !)))) (from ! (stop !)) (init ! 20 refl (tt, (tt, (record { fits = room .0 }, tt)))) $
         assigns ! (addr ! (from ! (fld ! refl (hop ! (look-in ! 92 (sub ! 0 refl (whole !))) (stop !))))) (from ! (stop !)) (init ! 18 refl (tt, tt)) $
@@ -375,8 +357,8 @@ module _ {M : Type 1} (𝓤 : URA M) (H : Heap 𝓤) (𝓜 : Model 𝓤 H) (𝓖
         join ! $
         move ! (1 ∷ 0 ∷ []) $
         join ! $
-        call-slices nil (Context° ∷ number w64 ∷ []) ((a .0, (a .1 .0, tt))) (emp 𝓤) ((mutable Thread·.the-row V₁₀ b o n ((refl ∙ sym (subst (λ (us : List Thread). length us ≡ length ys) (e₃₄ .1 .0) (ls₃₃ .0)))) room) ∷ (mutable (Array u64 96) V₁₁ b′ o′ n′ ((refl ∙ sym (subst (λ (us : List (List ℕ)). length us ≡ length ys′) (e₃₄ .1 .1) (ls₃₃ .1 .0)))) room′) ∷ (passed (Array u64 32) ys″ b″ o″ κ″ q″ γ″) ∷ []) ! fm (λ r ws. (ws .0 ≡ V₁₂) × (ws .1 .0 ≡ V₁₃)) ((are .0, (are .1 .0, tt))) (id⊢ 𝓤 (emp 𝓤))
-        (λ νs. cited 𝓤 H (tripleOf 𝓤 H A fn-sched-schedule-pick-next.signature (fn-sched-schedule-pick-next.spec 𝓤 H A (𝓜 .mem) (𝓡 .run))) 𝓜 𝓡 code.env fn-sched-schedule-pick-next-def.name fn-sched-schedule-pick-next-def.routine code.calls-sched·schedule·pick-next (fn-sched-schedule-pick-next-thm.met 𝓤 H 𝓜 𝓖 𝓡) (((νs .0 .0 ∷ [], (νs .1 .0 .0 ∷ [], (κ″, tt))), (fullShare, (fullShare, (q″, tt))), tt, (lent-as b o (νs .0 .1) V₁₀, (lent-as b′ o′ (νs .1 .0 .1) V₁₁, (lent-as b″ o″ γ″ ys″, (a .0, (a .1 .0, tt))))), (slice-of b o V₁₀ ∷ [], (slice-of b′ o′ V₁₁ ∷ [], (slice-of b″ o″ ys″ ∷ [], spell (Context° ∷ number w64 ∷ []) ((a .0, (a .1 .0, tt))))))), tt))
+        call-left nil (Context° ∷ number w64 ∷ []) ((a .0, (a .1 .0, tt))) (emp 𝓤) ((mutable Thread·.the-row (V₆ .memory .threads) b o n ((refl ∙ sym (subst (λ (us : List Thread). length us ≡ length ys) (e₃₄ .1 .0) (ls₃₃ .0)))) room) ∷ (mutable (Array u64 96) (V₆ .memory .cpus) b′ o′ n′ ((refl ∙ sym (subst (λ (us : List (List ℕ)). length us ≡ length ys′) (e₃₄ .1 .1) (ls₃₃ .1 .0)))) room′) ∷ (passed (Array u64 32) ys″ b″ o″ κ″ q″ γ″) ∷ []) ! fm (λ r ws. (ws .0 ≡ (V₇ .threads)) × (ws .1 .0 ≡ (V₇ .cpus))) (λ r ws. _≡_ {A = Memory} (record { threads = ws .0; cpus = ws .1 .0 }) V₇) (λ r ws e. (ap (λ (z : Memory). z .threads) e, ap (λ (z : Memory). z .cpus) e)) ((are .0, (are .1 .0, tt))) (id⊢ 𝓤 (emp 𝓤))
+        (λ νs. cited 𝓤 H (tripleOf 𝓤 H A fn-sched-schedule-pick-next.signature (fn-sched-schedule-pick-next.spec 𝓤 H A (𝓜 .mem) (𝓡 .run))) 𝓜 𝓡 code.env fn-sched-schedule-pick-next-def.name fn-sched-schedule-pick-next-def.routine code.calls-sched·schedule·pick-next (fn-sched-schedule-pick-next-thm.met 𝓤 H 𝓜 𝓖 𝓡) (((νs .0 .0 ∷ [], (νs .1 .0 .0 ∷ [], (κ″, tt))), (fullShare, (fullShare, (q″, tt))), tt, (lent-as b o (νs .0 .1) (V₆ .memory .threads), (lent-as b′ o′ (νs .1 .0 .1) (V₆ .memory .cpus), (lent-as b″ o″ γ″ ys″, (a .0, (a .1 .0, tt))))), (slice-of b o (V₆ .memory .threads) ∷ [], (slice-of b′ o′ (V₆ .memory .cpus) ∷ [], (slice-of b″ o″ ys″ ∷ [], spell (Context° ∷ number w64 ∷ []) ((a .0, (a .1 .0, tt))))))), tt))
         (λ k. and-then ! (load ! (from ! (stop !)) (look ! 17 refl)) (and-then ! (load ! (from ! (stop !)) (look ! 13 refl)) (and-then ! (load ! (from ! (stop !)) (look ! 87 refl)) (and-then ! (load ! (from ! (stop !)) (look ! 85 refl)) (and-then ! (load ! (from ! (stop !)) (look ! 83 refl)) (no-more !)))))) (λ r₃₆ ws₃₇ is₃₈ ls₃₉ e₄₀.
         split ! $
         move ! (1 ∷ []) $
@@ -389,16 +371,16 @@ module _ {M : Type 1} (𝓤 : URA M) (H : Heap 𝓤) (𝓜 : Model 𝓤 H) (𝓖
         rewrite ! 3 (λ (us : List Thread). ‵ (row Thread·.the-row fullShare us b o)) (e₄₀ .0) refl $
         rewrite ! 2 (λ (us : List (List ℕ)). ‵ (row (Array u64 96) fullShare us b′ o′)) (e₄₀ .1) refl $
         land ! (from ! (stop !)) (init ! 24 refl (tt, tt)) $
-        assigns ! (of-opd ! (load ! (from ! (stop !)) (look ! 68 refl))) (from ! (stop !)) (init ! 96 refl ((number w64) .typed 𝓤 H A W (V₉) (is₃₅) .0)) $
+        assigns ! (of-opd ! (load ! (from ! (stop !)) (look ! 68 refl))) (from ! (stop !)) (init ! 96 refl ((number w64) .typed 𝓤 H A W (V₆ .answer) (is₃₅) .0)) $
         move ! (2 ∷ 5 ∷ []) $
-        closed ! tt (Array u64 96) ys′ (V₁₃) b′ o′ room′ (sym (((refl ∙ sym (subst (λ (us : List (List ℕ)). length us ≡ length ys′) (e₃₄ .1 .1) (ls₃₃ .1 .0))) ∙ sym (subst (λ (us : List (List ℕ)). length us ≡ length V₁₁) (e₄₀ .1) (ls₃₉ .1 .0))))) $
+        closed ! tt (Array u64 96) ys′ (V₇ .cpus) b′ o′ room′ (sym (((refl ∙ sym (subst (λ (us : List (List ℕ)). length us ≡ length ys′) (e₃₄ .1 .1) (ls₃₃ .1 .0))) ∙ sym (subst (λ (us : List (List ℕ)). length us ≡ length (V₆ .memory .cpus)) (e₄₀ .1) (ls₃₉ .1 .0))))) $
         move ! (4 ∷ 5 ∷ []) $
-        closed ! tt Thread·.the-row ys (V₁₂) b o room (sym (((refl ∙ sym (subst (λ (us : List Thread). length us ≡ length ys) (e₃₄ .1 .0) (ls₃₃ .0))) ∙ sym (subst (λ (us : List Thread). length us ≡ length V₁₀) (e₄₀ .0) (ls₃₉ .0))))) $
+        closed ! tt Thread·.the-row ys (V₇ .threads) b o room (sym (((refl ∙ sym (subst (λ (us : List Thread). length us ≡ length ys) (e₃₄ .1 .0) (ls₃₃ .0))) ∙ sym (subst (λ (us : List Thread). length us ≡ length (V₆ .memory .threads)) (e₄₀ .0) (ls₃₉ .0))))) $
         returns-within ! Post refl (look ! 96 refl) $
         move ! (96 ∷ 97 ∷ 94 ∷ 95 ∷ 92 ∷ 93 ∷ 90 ∷ 91 ∷ 88 ∷ 89 ∷ 86 ∷ 87 ∷ 84 ∷ 85 ∷ 82 ∷ 83 ∷ 80 ∷ 81 ∷ 78 ∷ 79 ∷ 76 ∷ 77 ∷ 74 ∷ 75 ∷ 72 ∷ 73 ∷ 70 ∷ 71 ∷ 68 ∷ 69 ∷ 66 ∷ 67 ∷ 64 ∷ 65 ∷ 62 ∷ 63 ∷ 60 ∷ 61 ∷ 58 ∷ 59 ∷ 56 ∷ 57 ∷ 54 ∷ 55 ∷ 52 ∷ 53 ∷ 50 ∷ 51 ∷ 48 ∷ 49 ∷ 46 ∷ 47 ∷ 44 ∷ 45 ∷ 42 ∷ 43 ∷ 40 ∷ 41 ∷ 38 ∷ 39 ∷ 36 ∷ 37 ∷ 34 ∷ 35 ∷ 32 ∷ 33 ∷ 30 ∷ 31 ∷ 28 ∷ 29 ∷ 26 ∷ 27 ∷ 24 ∷ 25 ∷ 22 ∷ 23 ∷ 20 ∷ 21 ∷ 18 ∷ 19 ∷ 16 ∷ 17 ∷ 14 ∷ 15 ∷ 12 ∷ 13 ∷ 10 ∷ 11 ∷ 8 ∷ 9 ∷ 6 ∷ 7 ∷ []) $
         all-freed ! mir.locals (l₀ ∷ l₁ ∷ l₂ ∷ l₃ ∷ l₄ ∷ l₅ ∷ l₆ ∷ l₇ ∷ l₈ ∷ l₉ ∷ l₁₀ ∷ l₁₁ ∷ l₁₂ ∷ l₁₃ ∷ l₁₄ ∷ l₁₅ ∷ l₁₆ ∷ l₁₇ ∷ l₁₈ ∷ l₁₉ ∷ l₂₀ ∷ l₂₁ ∷ l₂₂ ∷ l₂₃ ∷ l₂₄ ∷ l₂₅ ∷ l₂₆ ∷ l₂₇ ∷ l₂₈ ∷ l₂₉ ∷ l₃₀ ∷ l₃₁ ∷ l₃₂ ∷ l₃₃ ∷ l₃₄ ∷ l₃₅ ∷ l₃₆ ∷ l₃₇ ∷ l₃₈ ∷ l₃₉ ∷ l₄₀ ∷ l₄₁ ∷ l₄₂ ∷ l₄₃ ∷ l₄₄ ∷ l₄₅ ∷ []) (full _ ∷ full _ ∷ full _ ∷ full _ ∷ full _ ∷ full _ ∷ full _ ∷ full _ ∷ full _ ∷ full _ ∷ full _ ∷ bare ∷ bare ∷ full _ ∷ full _ ∷ full _ ∷ full _ ∷ full _ ∷ full _ ∷ full _ ∷ bare ∷ bare ∷ bare ∷ bare ∷ bare ∷ bare ∷ bare ∷ bare ∷ bare ∷ bare ∷ bare ∷ full _ ∷ full _ ∷ full _ ∷ full _ ∷ full _ ∷ full _ ∷ full _ ∷ full _ ∷ full _ ∷ full _ ∷ bare ∷ bare ∷ bare ∷ bare ∷ bare ∷ []) tt $
-        suffices ! _ (ends-at 𝓤 H A reinsert.ended stayed c W y _ (V₉) (V₁₂, (V₁₃, (tt, (tt, (tt, (tt, (tt, tt))))))) (sym (((refl ∙ sym (subst (λ (us : List Thread). length us ≡ length ys) (e₃₄ .1 .0) (ls₃₃ .0))) ∙ sym (subst (λ (us : List Thread). length us ≡ length V₁₀) (e₄₀ .0) (ls₃₉ .0)))), (sym (((refl ∙ sym (subst (λ (us : List (List ℕ)). length us ≡ length ys′) (e₃₄ .1 .1) (ls₃₃ .1 .0))) ∙ sym (subst (λ (us : List (List ℕ)). length us ≡ length V₁₁) (e₄₀ .1) (ls₃₉ .1 .0)))), (tt, (tt, (tt, (tt, (tt, tt)))))))) $ says ! (by-world (record { wakeups = V₉; threads = V₁₂; cpus = V₁₃ }) (reinsertDef ys ys′ ys″ (a .0) (a .1 .0) (a .1 .1 .0) (a .1 .1 .1 .0)) ((no (V₁) h₁ _ (yes ((a .1 .1 .0) .yields) h₂ _ (refl))))) $
-        leaves3 ! (number w64) Ds a (V₉) are (is₃₅)))))
+        suffices ! _ (ends-at 𝓤 H A reinsert.ended stayed c W y _ (V₆ .answer) (V₇ .threads, (V₇ .cpus, (tt, (tt, (tt, (tt, (tt, tt))))))) (sym (((refl ∙ sym (subst (λ (us : List Thread). length us ≡ length ys) (e₃₄ .1 .0) (ls₃₃ .0))) ∙ sym (subst (λ (us : List Thread). length us ≡ length (V₆ .memory .threads)) (e₄₀ .0) (ls₃₉ .0)))), (sym (((refl ∙ sym (subst (λ (us : List (List ℕ)). length us ≡ length ys′) (e₃₄ .1 .1) (ls₃₃ .1 .0))) ∙ sym (subst (λ (us : List (List ℕ)). length us ≡ length (V₆ .memory .cpus)) (e₄₀ .1) (ls₃₉ .1 .0)))), (tt, (tt, (tt, (tt, (tt, tt)))))))) $ says ! (so {X = Left ℕ Memory} (record { answer = (V₆ .answer); memory = record { threads = (V₇ .threads); cpus = (V₇ .cpus) } }) (reinsertDef (a .0) (a .1 .0) (a .1 .1 .0) (a .1 .1 .1 .0) ys″ (record { threads = ys; cpus = ys′ })) ((no (V₁) h₁ _ (yes ((a .1 .1 .0) .yields) h₂ _ (refl))))) $
+        leaves3 ! (number w64) Ds a (V₆ .answer) are (is₃₅)))))
         (λ h₂.
         forget ! 80 refl $
         forget ! 78 refl $

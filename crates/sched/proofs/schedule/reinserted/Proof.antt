@@ -1,5 +1,5 @@
 -- `sched::schedule::reinserted` meets its contract: a walk of its MIR, written by tools/entrygen.py.
-use mathlib.Core.Path.{_≡_, refl, sym, subst, _∙_}
+use mathlib.Core.Path.{_≡_, refl, sym, ap, subst, _∙_}
 use Prim.Native.Nat.{ℕ}
 use mathlib.Core.List.{[], _∷_, List}
 use lib.ListN.{length}
@@ -32,15 +32,15 @@ use denote.Triple.Clauses.{Clauses}
 use denote.Triple.Walked.{says, Stays, stay-none, stay-slice, walkOf, goes-none, goes-slice, ends-at}
 use denote.Exit.{yes as kept-yes}
 use Rattle.lent.proofs.Walk.{Datum, number, truth, struct, Dens, AreD, listed, spell, lent-as, slice-of, kept, opened, closed, guards, bare, full, told, proved}
-use Rattle.lent.proofs.Lent.{mutable, choice, call-slices, all-freed, no, yes, begins2, leaves2}
-use Rattle.step.specs.Option.{isNone, cpuOf}
-use Rattle.sched.specs.Queues.{scheduleThreadOnCpu}
+use Rattle.lent.proofs.Lent.{mutable, choice, call-slices, call-left, all-freed, no, yes, so, begins2, leaves2}
+use Rattle.lent.specs.Left.{Memory, Left}
 use Rattle.sched.specs.Schedule.{reinsertedDef}
-use Rattle.sched.proofs.Exits.{by-world}
+use Rattle.sched_queues.specs.Queues.{scheduleThreadOnCpu}
+use Rattle.step.specs.Option.{isNone, cpuOf}
 use denote.Struct.Laws as LL
-use Rattle.sched.specs.declared.context.Context.{Context}
-use Rattle.sched.proofs.context.Context as Context·
-use Rattle.sched.proofs.context.Context.Laws as Context·laws
+use Rattle.step.specs.declared.context.Context.{Context}
+use Rattle.step.proofs.context.Context as Context·
+use Rattle.step.proofs.context.Context.Laws as Context·laws
 use Rattle.thread.specs.declared.time.OptionCpu.{OptionCpu}
 use Rattle.thread.proofs.time.OptionCpu as OptionCpu·
 use Rattle.thread.proofs.time.OptionCpu.Laws as OptionCpu·laws
@@ -53,9 +53,9 @@ use Rattle.step.proofs.option.is_none.Met as fn-step-option-is-none-thm
 use Rattle.step.proofs.option.cpu_of as fn-step-option-cpu-of
 use Rattle.step.proofs.option.cpu_of.Symbol as fn-step-option-cpu-of-def
 use Rattle.step.proofs.option.cpu_of.Met as fn-step-option-cpu-of-thm
-use Rattle.sched.proofs.queues.schedule_thread_on_cpu as fn-sched-queues-schedule-thread-on-cpu
-use Rattle.sched.proofs.queues.schedule_thread_on_cpu.Symbol as fn-sched-queues-schedule-thread-on-cpu-def
-use Rattle.sched.proofs.queues.schedule_thread_on_cpu.Met as fn-sched-queues-schedule-thread-on-cpu-thm
+use Rattle.sched_queues.proofs.queues.schedule_thread_on_cpu as fn-sched-queues-queues-schedule-thread-on-cpu
+use Rattle.sched_queues.proofs.queues.schedule_thread_on_cpu.Symbol as fn-sched-queues-queues-schedule-thread-on-cpu-def
+use Rattle.sched_queues.proofs.queues.schedule_thread_on_cpu.Met as fn-sched-queues-queues-schedule-thread-on-cpu-thm
 use Rattle.sched.proofs.schedule.reinserted.Key.{name as #reinserted}
 use Rattle.sched.proofs.schedule.reinserted as reinserted
 use Rattle.sched.proofs.schedule.reinserted.Statement as stated
@@ -112,14 +112,8 @@ module _ {M : Type 1} (𝓤 : URA M) (H : Heap 𝓤) (𝓜 : Model 𝓤 H) (𝓖
     abbrev Post : Val → SProp 𝓤
     Post = walkOf 𝓤 H A reinserted.ended stayed c .post y
 
-    abbrev V₁ : ℕ
-    V₁ = scheduleThreadOnCpu ys ys′ (a .0) (cpuOf (a .1 .0)) (a .1 .1 .0) (a .1 .1 .1 .0) .wakeups
-
-    abbrev V₂ : List Thread
-    V₂ = scheduleThreadOnCpu ys ys′ (a .0) (cpuOf (a .1 .0)) (a .1 .1 .0) (a .1 .1 .1 .0) .threads
-
-    abbrev V₃ : List (List ℕ)
-    V₃ = scheduleThreadOnCpu ys ys′ (a .0) (cpuOf (a .1 .0)) (a .1 .1 .0) (a .1 .1 .1 .0) .cpus
+    abbrev V₁ : Left ℕ Memory
+    V₁ = scheduleThreadOnCpu (a .0) (cpuOf (a .1 .0)) (a .1 .1 .0) (a .1 .1 .1 .0) (record { threads = ys; cpus = ys′ })
 
     walk : ent 𝓤 (onEntry 𝓤 H A reinserted.signature (κ, (κ′, tt)) (q, (q′, tt)) ((lent-as b o γ ys, (lent-as b′ o′ γ′ ys′, a))) ((s ∷ [], (s′ ∷ [], spell Ds a)))) (WpFn 𝓤 H C Λ code.function (s ∷ s′ ∷ listed Ds a) Post)
     unfolding reinsertedDef
@@ -148,7 +142,7 @@ module _ {M : Type 1} (𝓤 : URA M) (H : Heap 𝓤) (𝓜 : Model 𝓤 H) (𝓖
         returns-within ! Post refl (look ! 28 refl) $
         move ! (28 ∷ 29 ∷ 26 ∷ 27 ∷ 24 ∷ 25 ∷ 22 ∷ 23 ∷ 20 ∷ 21 ∷ 18 ∷ 19 ∷ 16 ∷ 17 ∷ 14 ∷ 15 ∷ 12 ∷ 13 ∷ 10 ∷ 11 ∷ 8 ∷ 9 ∷ 6 ∷ 7 ∷ 4 ∷ 5 ∷ []) $
         all-freed ! mir.locals (l₀ ∷ l₁ ∷ l₂ ∷ l₃ ∷ l₄ ∷ l₅ ∷ l₆ ∷ l₇ ∷ l₈ ∷ l₉ ∷ l₁₀ ∷ l₁₁ ∷ l₁₂ ∷ []) (full _ ∷ full _ ∷ full _ ∷ full _ ∷ full _ ∷ full _ ∷ full _ ∷ bare ∷ full _ ∷ bare ∷ bare ∷ bare ∷ bare ∷ []) tt $
-        suffices ! _ (ends-at 𝓤 H A reinserted.ended stayed c W y _ (a .1 .1 .1 .0) (ys, (ys′, (tt, (tt, (tt, (tt, tt)))))) (sym refl, (sym refl, (tt, (tt, (tt, (tt, tt))))))) $ says ! (by-world (record { wakeups = (a .1 .1 .1 .0); threads = ys; cpus = ys′ }) (reinsertedDef ys ys′ (a .0) (a .1 .0) (a .1 .1 .0) (a .1 .1 .1 .0)) ((yes (isNone (a .1 .0)) h₁ _ (refl)))) $
+        suffices ! _ (ends-at 𝓤 H A reinserted.ended stayed c W y _ (a .1 .1 .1 .0) (ys, (ys′, (tt, (tt, (tt, (tt, tt)))))) (sym refl, (sym refl, (tt, (tt, (tt, (tt, tt))))))) $ says ! (so {X = Left ℕ Memory} (record { answer = (a .1 .1 .1 .0); memory = record { threads = ys; cpus = ys′ } }) (reinsertedDef (a .0) (a .1 .0) (a .1 .1 .0) (a .1 .1 .1 .0) (record { threads = ys; cpus = ys′ })) ((yes (isNone (a .1 .0)) h₁ _ (refl)))) $
         leaves2 ! (number w64) Ds a (a .1 .1 .1 .0) are (are .1 .1 .1 .0))
         (λ h₁.
         nothing ! $
@@ -167,8 +161,8 @@ module _ {M : Type 1} (𝓤 : URA M) (H : Heap 𝓤) (𝓜 : Model 𝓤 H) (𝓖
         join ! $
         move ! (1 ∷ 0 ∷ []) $
         join ! $
-        call-slices (number w64) (Context° ∷ number w64 ∷ number w64 ∷ number w64 ∷ []) ((a .0, (cpuOf (a .1 .0), (a .1 .1 .0, (a .1 .1 .1 .0, tt))))) (emp 𝓤) ((mutable Thread·.the-row ys b o n refl room) ∷ (mutable (Array u64 96) ys′ b′ o′ n′ refl room′) ∷ []) ! fm (λ r ws. (r ≡ V₁) × ((ws .0 ≡ V₂) × (ws .1 .0 ≡ V₃))) ((are .0, (is₁₂, (are .1 .1 .0, (are .1 .1 .1 .0, tt))))) (id⊢ 𝓤 (emp 𝓤))
-        (λ νs. cited 𝓤 H (tripleOf 𝓤 H A fn-sched-queues-schedule-thread-on-cpu.signature (fn-sched-queues-schedule-thread-on-cpu.spec 𝓤 H A (𝓜 .mem) (𝓡 .run))) 𝓜 𝓡 code.env fn-sched-queues-schedule-thread-on-cpu-def.name fn-sched-queues-schedule-thread-on-cpu-def.routine code.calls-sched·queues·schedule-thread-on-cpu (fn-sched-queues-schedule-thread-on-cpu-thm.met 𝓤 H 𝓜 𝓖 𝓡) (((νs .0 .0 ∷ [], (νs .1 .0 .0 ∷ [], tt)), (fullShare, (fullShare, tt)), tt, (lent-as b o (νs .0 .1) ys, (lent-as b′ o′ (νs .1 .0 .1) ys′, (a .0, (cpuOf (a .1 .0), (a .1 .1 .0, (a .1 .1 .1 .0, tt)))))), (slice-of b o ys ∷ [], (slice-of b′ o′ ys′ ∷ [], spell (Context° ∷ number w64 ∷ number w64 ∷ number w64 ∷ []) ((a .0, (cpuOf (a .1 .0), (a .1 .1 .0, (a .1 .1 .1 .0, tt)))))))), tt))
+        call-left (number w64) (Context° ∷ number w64 ∷ number w64 ∷ number w64 ∷ []) ((a .0, (cpuOf (a .1 .0), (a .1 .1 .0, (a .1 .1 .1 .0, tt))))) (emp 𝓤) ((mutable Thread·.the-row ys b o n refl room) ∷ (mutable (Array u64 96) ys′ b′ o′ n′ refl room′) ∷ []) ! fm (λ r ws. (r ≡ (V₁ .answer)) × ((ws .0 ≡ (V₁ .memory .threads)) × (ws .1 .0 ≡ (V₁ .memory .cpus)))) (λ r ws. _≡_ {A = Left ℕ Memory} (record { answer = r; memory = record { threads = ws .0; cpus = ws .1 .0 } }) V₁) (λ r ws e. (ap (λ (z : Left ℕ Memory). z .answer) e, (ap (λ (z : Left ℕ Memory). z .memory .threads) e, ap (λ (z : Left ℕ Memory). z .memory .cpus) e))) ((are .0, (is₁₂, (are .1 .1 .0, (are .1 .1 .1 .0, tt))))) (id⊢ 𝓤 (emp 𝓤))
+        (λ νs. cited 𝓤 H (tripleOf 𝓤 H A fn-sched-queues-queues-schedule-thread-on-cpu.signature (fn-sched-queues-queues-schedule-thread-on-cpu.spec 𝓤 H A (𝓜 .mem) (𝓡 .run))) 𝓜 𝓡 code.env fn-sched-queues-queues-schedule-thread-on-cpu-def.name fn-sched-queues-queues-schedule-thread-on-cpu-def.routine code.calls-sched-queues·queues·schedule-thread-on-cpu (fn-sched-queues-queues-schedule-thread-on-cpu-thm.met 𝓤 H 𝓜 𝓖 𝓡) (((νs .0 .0 ∷ [], (νs .1 .0 .0 ∷ [], tt)), (fullShare, (fullShare, tt)), tt, (lent-as b o (νs .0 .1) ys, (lent-as b′ o′ (νs .1 .0 .1) ys′, (a .0, (cpuOf (a .1 .0), (a .1 .1 .0, (a .1 .1 .1 .0, tt)))))), (slice-of b o ys ∷ [], (slice-of b′ o′ ys′ ∷ [], spell (Context° ∷ number w64 ∷ number w64 ∷ number w64 ∷ []) ((a .0, (cpuOf (a .1 .0), (a .1 .1 .0, (a .1 .1 .1 .0, tt)))))))), tt))
         (λ k. and-then ! (load ! (from ! (stop !)) (look ! 7 refl)) (and-then ! (load ! (from ! (stop !)) (look ! 3 refl)) (and-then ! (load ! (from ! (stop !)) (look ! 21 refl)) (and-then ! (load ! (from ! (stop !)) (look ! 13 refl)) (and-then ! (load ! (from ! (stop !)) (look ! 17 refl)) (and-then ! (load ! (from ! (stop !)) (look ! 15 refl)) (no-more !))))))) (λ r₁₃ ws₁₄ is₁₅ ls₁₆ e₁₇.
         split ! $
         move ! (1 ∷ []) $
@@ -178,16 +172,16 @@ module _ {M : Type 1} (𝓤 : URA M) (H : Heap 𝓤) (𝓜 : Model 𝓤 H) (𝓖
         rewrite ! 1 (λ (us : List Thread). ‵ (row Thread·.the-row fullShare us b o)) (e₁₇ .1 .0) refl $
         rewrite ! 0 (λ (us : List (List ℕ)). ‵ (row (Array u64 96) fullShare us b′ o′)) (e₁₇ .1 .1) refl $
         told ! (number w64) (e₁₇ .0) is₁₅ (λ is₁₈.
-        land ! (from ! (stop !)) (init ! 28 refl ((number w64) .typed 𝓤 H A W (V₁) (is₁₈) .0)) $
+        land ! (from ! (stop !)) (init ! 28 refl ((number w64) .typed 𝓤 H A W (V₁ .answer) (is₁₈) .0)) $
         move ! (0 ∷ 3 ∷ []) $
-        closed ! tt (Array u64 96) ys′ (V₃) b′ o′ room′ (sym ((refl ∙ sym (subst (λ (us : List (List ℕ)). length us ≡ length ys′) (e₁₇ .1 .1) (ls₁₆ .1 .0))))) $
+        closed ! tt (Array u64 96) ys′ (V₁ .memory .cpus) b′ o′ room′ (sym ((refl ∙ sym (subst (λ (us : List (List ℕ)). length us ≡ length ys′) (e₁₇ .1 .1) (ls₁₆ .1 .0))))) $
         move ! (2 ∷ 3 ∷ []) $
-        closed ! tt Thread·.the-row ys (V₂) b o room (sym ((refl ∙ sym (subst (λ (us : List Thread). length us ≡ length ys) (e₁₇ .1 .0) (ls₁₆ .0))))) $
+        closed ! tt Thread·.the-row ys (V₁ .memory .threads) b o room (sym ((refl ∙ sym (subst (λ (us : List Thread). length us ≡ length ys) (e₁₇ .1 .0) (ls₁₆ .0))))) $
         returns ! (look ! 28 refl) $
         move ! (28 ∷ 29 ∷ 26 ∷ 27 ∷ 24 ∷ 25 ∷ 22 ∷ 23 ∷ 20 ∷ 21 ∷ 18 ∷ 19 ∷ 16 ∷ 17 ∷ 14 ∷ 15 ∷ 12 ∷ 13 ∷ 10 ∷ 11 ∷ 8 ∷ 9 ∷ 6 ∷ 7 ∷ 4 ∷ 5 ∷ []) $
         all-freed ! mir.locals (l₀ ∷ l₁ ∷ l₂ ∷ l₃ ∷ l₄ ∷ l₅ ∷ l₆ ∷ l₇ ∷ l₈ ∷ l₉ ∷ l₁₀ ∷ l₁₁ ∷ l₁₂ ∷ []) (full _ ∷ full _ ∷ full _ ∷ full _ ∷ full _ ∷ full _ ∷ full _ ∷ full _ ∷ full _ ∷ full _ ∷ full _ ∷ full _ ∷ full _ ∷ []) tt $
-        suffices ! _ (ends-at 𝓤 H A reinserted.ended stayed c W y _ (V₁) (V₂, (V₃, (tt, (tt, (tt, (tt, tt)))))) (sym ((refl ∙ sym (subst (λ (us : List Thread). length us ≡ length ys) (e₁₇ .1 .0) (ls₁₆ .0)))), (sym ((refl ∙ sym (subst (λ (us : List (List ℕ)). length us ≡ length ys′) (e₁₇ .1 .1) (ls₁₆ .1 .0)))), (tt, (tt, (tt, (tt, tt))))))) $ says ! (by-world (record { wakeups = V₁; threads = V₂; cpus = V₃ }) (reinsertedDef ys ys′ (a .0) (a .1 .0) (a .1 .1 .0) (a .1 .1 .1 .0)) ((no (isNone (a .1 .0)) h₁ _ (refl)))) $
-        leaves2 ! (number w64) Ds a (V₁) are (is₁₈)))))))))))))))))))))
+        suffices ! _ (ends-at 𝓤 H A reinserted.ended stayed c W y _ (V₁ .answer) (V₁ .memory .threads, (V₁ .memory .cpus, (tt, (tt, (tt, (tt, tt)))))) (sym ((refl ∙ sym (subst (λ (us : List Thread). length us ≡ length ys) (e₁₇ .1 .0) (ls₁₆ .0)))), (sym ((refl ∙ sym (subst (λ (us : List (List ℕ)). length us ≡ length ys′) (e₁₇ .1 .1) (ls₁₆ .1 .0)))), (tt, (tt, (tt, (tt, tt))))))) $ says ! (so {X = Left ℕ Memory} (record { answer = (V₁ .answer); memory = record { threads = (V₁ .memory .threads); cpus = (V₁ .memory .cpus) } }) (reinsertedDef (a .0) (a .1 .0) (a .1 .1 .0) (a .1 .1 .1 .0) (record { threads = ys; cpus = ys′ })) ((no (isNone (a .1 .0)) h₁ _ (refl)))) $
+        leaves2 ! (number w64) Ds a (V₁ .answer) are (is₁₈)))))))))))))))))))))
 
 pub reinserted-spec : {M : Type 1} → stated.statement M
 unfolding code.routine

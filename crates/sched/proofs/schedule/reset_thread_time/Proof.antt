@@ -32,14 +32,14 @@ use denote.Triple.Clauses.{Clauses}
 use denote.Triple.Walked.{says, Stays, stay-none, stay-slice, stay-none-slice, walkOf, goes-none, goes-slice, goes-none-slice, ends-at}
 use denote.Exit.{yes as kept-yes}
 use Rattle.lent.proofs.Walk.{Datum, number, nil, struct, Dens, AreD, listed, spell, lent-as, slice-of, kept, opened, closed, full, told, proved}
-use Rattle.lent.proofs.Lent.{mutable, shared, passed, call-slices, all-freed, begins2, leaves2}
-use Rattle.thread.specs.Thread.{blank}
-use Rattle.step.specs.Time.{resetTime}
+use Rattle.lent.proofs.Lent.{mutable, shared, passed, call-slices, all-freed, so, begins2, leaves2}
 use Rattle.sched.specs.Schedule.{resetThreadTime}
+use Rattle.step.specs.Time.{resetTime}
+use Rattle.thread.specs.Thread.{blank}
 use denote.Struct.Laws as LL
-use Rattle.sched.specs.declared.context.Context.{Context}
-use Rattle.sched.proofs.context.Context as Context·
-use Rattle.sched.proofs.context.Context.Laws as Context·laws
+use Rattle.step.specs.declared.context.Context.{Context}
+use Rattle.step.proofs.context.Context as Context·
+use Rattle.step.proofs.context.Context.Laws as Context·laws
 use Rattle.thread.specs.declared.Thread.{Thread}
 use Rattle.thread.proofs.Thread as Thread·
 use Rattle.thread.proofs.Thread.Laws as Thread·laws
@@ -166,7 +166,7 @@ module _ {M : Type 1} (𝓤 : URA M) (H : Heap 𝓤) (𝓜 : Model 𝓤 H) (𝓖
         returns ! (look ! 32 refl) $
         move ! (32 ∷ 33 ∷ 30 ∷ 31 ∷ 28 ∷ 29 ∷ 26 ∷ 27 ∷ 24 ∷ 25 ∷ 22 ∷ 23 ∷ 20 ∷ 21 ∷ 18 ∷ 19 ∷ 16 ∷ 17 ∷ 14 ∷ 15 ∷ 12 ∷ 13 ∷ 10 ∷ 11 ∷ 8 ∷ 9 ∷ 6 ∷ 7 ∷ 4 ∷ 5 ∷ []) $
         all-freed ! mir.locals (l₀ ∷ l₁ ∷ l₂ ∷ l₃ ∷ l₄ ∷ l₅ ∷ l₆ ∷ l₇ ∷ l₈ ∷ l₉ ∷ l₁₀ ∷ l₁₁ ∷ l₁₂ ∷ l₁₃ ∷ l₁₄ ∷ []) (full _ ∷ full _ ∷ full _ ∷ full _ ∷ full _ ∷ full _ ∷ full _ ∷ full _ ∷ full _ ∷ full _ ∷ full _ ∷ full _ ∷ full _ ∷ full _ ∷ full _ ∷ []) tt $
-        suffices ! _ (ends-at 𝓤 H A reset-thread-time.ended stayed c W y _ (tt) (set ys (a .1 .0) V₁, (tt, (tt, (tt, tt)))) (sym ((refl ∙ sym (subst (λ (us : List Thread). length us ≡ length ys) (e₁₇) (ls₁₆ .0)))), (tt, (tt, (tt, tt))))) $ says ! (refl) $
+        suffices ! _ (ends-at 𝓤 H A reset-thread-time.ended stayed c W y _ (tt) (set ys (a .1 .0) V₁, (tt, (tt, (tt, tt)))) (sym ((refl ∙ sym (subst (λ (us : List Thread). length us ≡ length ys) (e₁₇) (ls₁₆ .0)))), (tt, (tt, (tt, tt))))) $ says ! (so {X = List Thread} ((set ys (a .1 .0) V₁)) (resetThreadTime (a .0) (a .1 .0) ys′ ys) (refl)) $
         leaves2 ! nil Ds a (tt) are (refl)))))))))))))))))))))
 
 pub reset-thread-time-spec : {M : Type 1} → stated.statement M

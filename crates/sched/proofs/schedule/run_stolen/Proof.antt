@@ -1,5 +1,5 @@
 -- `sched::schedule::run_stolen` meets its contract: a walk of its MIR, written by tools/entrygen.py.
-use mathlib.Core.Path.{_≡_, refl, sym, subst, _∙_}
+use mathlib.Core.Path.{_≡_, refl, sym, ap, subst, _∙_}
 use Prim.Native.Nat.{ℕ}
 use mathlib.Core.List.{[], _∷_, List}
 use lib.ListN.{length}
@@ -32,10 +32,10 @@ use denote.Triple.Clauses.{Clauses}
 use denote.Triple.Walked.{says, Stays, stay-none, stay-slice, walkOf, goes-none, goes-slice, ends-at}
 use denote.Exit.{yes as kept-yes}
 use Rattle.lent.proofs.Walk.{Datum, number, truth, nil, struct, Dens, AreD, listed, spell, lent-as, slice-of, kept, opened, closed, guards, bare, full, told, proved}
-use Rattle.lent.proofs.Lent.{mutable, choice, call-slices, all-freed, no, yes, begins2, leaves2}
-use Rattle.sched.specs.Queues.{isNobody, threadOf}
-use Rattle.sched.specs.Schedule.{switchTo, idleUnless, runStolen}
-use Rattle.sched.proofs.Exits.{by-memory}
+use Rattle.lent.proofs.Lent.{mutable, choice, call-slices, call-left, all-freed, no, yes, so, begins2, leaves2}
+use Rattle.lent.specs.Left.{Memory}
+use Rattle.sched.specs.Schedule.{runStolen, idleUnless, switchTo}
+use Rattle.sched_queues.specs.Queues.{isNobody, threadOf}
 use denote.Struct.Laws as LL
 use Rattle.lent.specs.declared.rq.Taken.{Taken}
 use Rattle.lent.proofs.rq.Taken as Taken·
@@ -43,15 +43,15 @@ use Rattle.lent.proofs.rq.Taken.Laws as Taken·laws
 use Rattle.thread.specs.declared.Thread.{Thread}
 use Rattle.thread.proofs.Thread as Thread·
 use Rattle.thread.proofs.Thread.Laws as Thread·laws
-use Rattle.sched.proofs.queues.is_nobody as fn-sched-queues-is-nobody
-use Rattle.sched.proofs.queues.is_nobody.Symbol as fn-sched-queues-is-nobody-def
-use Rattle.sched.proofs.queues.is_nobody.Met as fn-sched-queues-is-nobody-thm
+use Rattle.sched_queues.proofs.queues.is_nobody as fn-sched-queues-queues-is-nobody
+use Rattle.sched_queues.proofs.queues.is_nobody.Symbol as fn-sched-queues-queues-is-nobody-def
+use Rattle.sched_queues.proofs.queues.is_nobody.Met as fn-sched-queues-queues-is-nobody-thm
 use Rattle.sched.proofs.schedule.idle_unless as fn-sched-schedule-idle-unless
 use Rattle.sched.proofs.schedule.idle_unless.Symbol as fn-sched-schedule-idle-unless-def
 use Rattle.sched.proofs.schedule.idle_unless.Met as fn-sched-schedule-idle-unless-thm
-use Rattle.sched.proofs.queues.thread_of as fn-sched-queues-thread-of
-use Rattle.sched.proofs.queues.thread_of.Symbol as fn-sched-queues-thread-of-def
-use Rattle.sched.proofs.queues.thread_of.Met as fn-sched-queues-thread-of-thm
+use Rattle.sched_queues.proofs.queues.thread_of as fn-sched-queues-queues-thread-of
+use Rattle.sched_queues.proofs.queues.thread_of.Symbol as fn-sched-queues-queues-thread-of-def
+use Rattle.sched_queues.proofs.queues.thread_of.Met as fn-sched-queues-queues-thread-of-thm
 use Rattle.sched.proofs.schedule.switch_to as fn-sched-schedule-switch-to
 use Rattle.sched.proofs.schedule.switch_to.Symbol as fn-sched-schedule-switch-to-def
 use Rattle.sched.proofs.schedule.switch_to.Met as fn-sched-schedule-switch-to-thm
@@ -109,13 +109,10 @@ module _ {M : Type 1} (𝓤 : URA M) (H : Heap 𝓤) (𝓜 : Model 𝓤 H) (𝓖
     Post = walkOf 𝓤 H A run-stolen.ended stayed c .post y
 
     abbrev V₁ : List (List ℕ)
-    V₁ = idleUnless ys′ (a .0) (a .1 .0)
+    V₁ = idleUnless (a .0) (a .1 .0) ys′
 
-    abbrev V₂ : List Thread
-    V₂ = switchTo ys ys′ (a .0) (threadOf (a .1 .1 .0)) .threads
-
-    abbrev V₃ : List (List ℕ)
-    V₃ = switchTo ys ys′ (a .0) (threadOf (a .1 .1 .0)) .cpus
+    abbrev V₂ : Memory
+    V₂ = switchTo (a .0) (threadOf (a .1 .1 .0)) (record { threads = ys; cpus = ys′ })
 
     walk : ent 𝓤 (onEntry 𝓤 H A run-stolen.signature (κ, (κ′, tt)) (q, (q′, tt)) ((lent-as b o γ ys, (lent-as b′ o′ γ′ ys′, a))) ((s ∷ [], (s′ ∷ [], spell Ds a)))) (WpFn 𝓤 H C Λ code.function (s ∷ s′ ∷ listed Ds a) Post)
     unfolding runStolen
@@ -129,7 +126,7 @@ module _ {M : Type 1} (𝓤 : URA M) (H : Heap 𝓤) (𝓜 : Model 𝓤 H) (𝓖
         opened ! tt Thread·.the-row γ ys b o $
         nothing ! $
         call-slices truth (Taken° ∷ []) ((a .1 .1 .0, tt)) (emp 𝓤) ([]) ! fm (λ r ws. r ≡ (isNobody (a .1 .1 .0))) ((are .1 .1 .0, tt)) (id⊢ 𝓤 (emp 𝓤))
-        (λ νs. cited 𝓤 H (tripleOf 𝓤 H A fn-sched-queues-is-nobody.signature (fn-sched-queues-is-nobody.spec 𝓤 H A (𝓜 .mem) (𝓡 .run))) 𝓜 𝓡 code.env fn-sched-queues-is-nobody-def.name fn-sched-queues-is-nobody-def.routine code.calls-sched·queues·is-nobody (fn-sched-queues-is-nobody-thm.met 𝓤 H 𝓜 𝓖 𝓡) ((tt, tt, tt, (a .1 .1 .0, tt), spell (Taken° ∷ []) ((a .1 .1 .0, tt))), tt))
+        (λ νs. cited 𝓤 H (tripleOf 𝓤 H A fn-sched-queues-queues-is-nobody.signature (fn-sched-queues-queues-is-nobody.spec 𝓤 H A (𝓜 .mem) (𝓡 .run))) 𝓜 𝓡 code.env fn-sched-queues-queues-is-nobody-def.name fn-sched-queues-queues-is-nobody-def.routine code.calls-sched-queues·queues·is-nobody (fn-sched-queues-queues-is-nobody-thm.met 𝓤 H 𝓜 𝓖 𝓡) ((tt, tt, tt, (a .1 .1 .0, tt), spell (Taken° ∷ []) ((a .1 .1 .0, tt))), tt))
         (λ k. and-then ! (load ! (from ! (stop !)) (look ! 25 refl)) (no-more !)) (λ r₁ ws₂ is₃ ls₄ e₅.
         drop ! $
         told ! truth (e₅) is₃ (λ is₆.
@@ -141,7 +138,7 @@ module _ {M : Type 1} (𝓤 : URA M) (H : Heap 𝓤) (𝓜 : Model 𝓤 H) (𝓖
         nothing ! $
         move ! (3 ∷ 0 ∷ []) $
         join ! $
-        call-slices nil (number w64 ∷ number w64 ∷ []) ((a .0, (a .1 .0, tt))) (emp 𝓤) ((mutable (Array u64 96) ys′ b′ o′ n′ refl room′) ∷ []) ! fm (λ r ws. ws .0 ≡ V₁) ((are .0, (are .1 .0, tt))) (id⊢ 𝓤 (emp 𝓤))
+        call-left nil (number w64 ∷ number w64 ∷ []) ((a .0, (a .1 .0, tt))) (emp 𝓤) ((mutable (Array u64 96) ys′ b′ o′ n′ refl room′) ∷ []) ! fm (λ r ws. ws .0 ≡ (V₁)) (λ r ws. _≡_ {A = List (List ℕ)} (ws .0) V₁) (λ r ws e. e) ((are .0, (are .1 .0, tt))) (id⊢ 𝓤 (emp 𝓤))
         (λ νs. cited 𝓤 H (tripleOf 𝓤 H A fn-sched-schedule-idle-unless.signature (fn-sched-schedule-idle-unless.spec 𝓤 H A (𝓜 .mem) (𝓡 .run))) 𝓜 𝓡 code.env fn-sched-schedule-idle-unless-def.name fn-sched-schedule-idle-unless-def.routine code.calls-sched·schedule·idle-unless (fn-sched-schedule-idle-unless-thm.met 𝓤 H 𝓜 𝓖 𝓡) (((νs .0 .0 ∷ [], tt), (fullShare, tt), tt, (lent-as b′ o′ (νs .0 .1) ys′, (a .0, (a .1 .0, tt))), (slice-of b′ o′ ys′ ∷ [], spell (number w64 ∷ number w64 ∷ []) ((a .0, (a .1 .0, tt))))), tt))
         (λ k. and-then ! (load ! (from ! (stop !)) (look ! 14 refl)) (and-then ! (load ! (from ! (stop !)) (look ! 28 refl)) (and-then ! (load ! (from ! (stop !)) (look ! 26 refl)) (no-more !)))) (λ r₇ ws₈ is₉ ls₁₀ e₁₁.
         split ! $
@@ -157,12 +154,12 @@ module _ {M : Type 1} (𝓤 : URA M) (H : Heap 𝓤) (𝓜 : Model 𝓤 H) (𝓖
         returns-within ! Post refl (look ! 34 refl) $
         move ! (34 ∷ 35 ∷ 32 ∷ 33 ∷ 30 ∷ 31 ∷ 28 ∷ 29 ∷ 26 ∷ 27 ∷ 24 ∷ 25 ∷ 22 ∷ 23 ∷ 20 ∷ 21 ∷ 18 ∷ 19 ∷ 16 ∷ 17 ∷ 14 ∷ 15 ∷ 12 ∷ 13 ∷ 10 ∷ 11 ∷ 8 ∷ 9 ∷ 6 ∷ 7 ∷ 4 ∷ 5 ∷ []) $
         all-freed ! mir.locals (l₀ ∷ l₁ ∷ l₂ ∷ l₃ ∷ l₄ ∷ l₅ ∷ l₆ ∷ l₇ ∷ l₈ ∷ l₉ ∷ l₁₀ ∷ l₁₁ ∷ l₁₂ ∷ l₁₃ ∷ l₁₄ ∷ l₁₅ ∷ []) (full _ ∷ full _ ∷ full _ ∷ full _ ∷ full _ ∷ full _ ∷ bare ∷ full _ ∷ full _ ∷ full _ ∷ full _ ∷ bare ∷ bare ∷ bare ∷ bare ∷ bare ∷ []) tt $
-        suffices ! _ (ends-at 𝓤 H A run-stolen.ended stayed c W y _ (tt) (ys, (V₁, (tt, (tt, (tt, tt))))) (sym refl, (sym ((refl ∙ sym (subst (λ (us : List (List ℕ)). length us ≡ length ys′) (e₁₁) (ls₁₀ .0)))), (tt, (tt, (tt, tt)))))) $ says ! (by-memory (record { threads = ys; cpus = V₁ }) (runStolen ys ys′ (a .0) (a .1 .0) (a .1 .1 .0)) ((yes (isNobody (a .1 .1 .0)) h₁ _ (refl)))) $
+        suffices ! _ (ends-at 𝓤 H A run-stolen.ended stayed c W y _ (tt) (ys, (V₁, (tt, (tt, (tt, tt))))) (sym refl, (sym ((refl ∙ sym (subst (λ (us : List (List ℕ)). length us ≡ length ys′) (e₁₁) (ls₁₀ .0)))), (tt, (tt, (tt, tt)))))) $ says ! (so {X = Memory} (record { threads = ys; cpus = (V₁) }) (runStolen (a .0) (a .1 .0) (a .1 .1 .0) (record { threads = ys; cpus = ys′ })) ((yes (isNobody (a .1 .1 .0)) h₁ _ (refl)))) $
         leaves2 ! nil Ds a (tt) are (refl)))
         (λ h₁.
         nothing ! $
         call-slices (number w64) (Taken° ∷ []) ((a .1 .1 .0, tt)) (emp 𝓤) ([]) ! fm (λ r ws. r ≡ (threadOf (a .1 .1 .0))) ((are .1 .1 .0, tt)) (id⊢ 𝓤 (emp 𝓤))
-        (λ νs. cited 𝓤 H (tripleOf 𝓤 H A fn-sched-queues-thread-of.signature (fn-sched-queues-thread-of.spec 𝓤 H A (𝓜 .mem) (𝓡 .run))) 𝓜 𝓡 code.env fn-sched-queues-thread-of-def.name fn-sched-queues-thread-of-def.routine code.calls-sched·queues·thread-of (fn-sched-queues-thread-of-thm.met 𝓤 H 𝓜 𝓖 𝓡) ((tt, tt, tt, (a .1 .1 .0, tt), spell (Taken° ∷ []) ((a .1 .1 .0, tt))), tt))
+        (λ νs. cited 𝓤 H (tripleOf 𝓤 H A fn-sched-queues-queues-thread-of.signature (fn-sched-queues-queues-thread-of.spec 𝓤 H A (𝓜 .mem) (𝓡 .run))) 𝓜 𝓡 code.env fn-sched-queues-queues-thread-of-def.name fn-sched-queues-queues-thread-of-def.routine code.calls-sched-queues·queues·thread-of (fn-sched-queues-queues-thread-of-thm.met 𝓤 H 𝓜 𝓖 𝓡) ((tt, tt, tt, (a .1 .1 .0, tt), spell (Taken° ∷ []) ((a .1 .1 .0, tt))), tt))
         (λ k. and-then ! (load ! (from ! (stop !)) (look ! 25 refl)) (no-more !)) (λ r₁₂ ws₁₃ is₁₄ ls₁₅ e₁₆.
         drop ! $
         told ! (number w64) (e₁₆) is₁₄ (λ is₁₇.
@@ -176,7 +173,7 @@ module _ {M : Type 1} (𝓤 : URA M) (H : Heap 𝓤) (𝓜 : Model 𝓤 H) (𝓖
         join ! $
         move ! (1 ∷ 0 ∷ []) $
         join ! $
-        call-slices nil (number w64 ∷ number w64 ∷ []) ((a .0, (threadOf (a .1 .1 .0), tt))) (emp 𝓤) ((mutable Thread·.the-row ys b o n refl room) ∷ (mutable (Array u64 96) ys′ b′ o′ n′ refl room′) ∷ []) ! fm (λ r ws. (ws .0 ≡ V₂) × (ws .1 .0 ≡ V₃)) ((are .0, (is₁₇, tt))) (id⊢ 𝓤 (emp 𝓤))
+        call-left nil (number w64 ∷ number w64 ∷ []) ((a .0, (threadOf (a .1 .1 .0), tt))) (emp 𝓤) ((mutable Thread·.the-row ys b o n refl room) ∷ (mutable (Array u64 96) ys′ b′ o′ n′ refl room′) ∷ []) ! fm (λ r ws. (ws .0 ≡ (V₂ .threads)) × (ws .1 .0 ≡ (V₂ .cpus))) (λ r ws. _≡_ {A = Memory} (record { threads = ws .0; cpus = ws .1 .0 }) V₂) (λ r ws e. (ap (λ (z : Memory). z .threads) e, ap (λ (z : Memory). z .cpus) e)) ((are .0, (is₁₇, tt))) (id⊢ 𝓤 (emp 𝓤))
         (λ νs. cited 𝓤 H (tripleOf 𝓤 H A fn-sched-schedule-switch-to.signature (fn-sched-schedule-switch-to.spec 𝓤 H A (𝓜 .mem) (𝓡 .run))) 𝓜 𝓡 code.env fn-sched-schedule-switch-to-def.name fn-sched-schedule-switch-to-def.routine code.calls-sched·schedule·switch-to (fn-sched-schedule-switch-to-thm.met 𝓤 H 𝓜 𝓖 𝓡) (((νs .0 .0 ∷ [], (νs .1 .0 .0 ∷ [], tt)), (fullShare, (fullShare, tt)), tt, (lent-as b o (νs .0 .1) ys, (lent-as b′ o′ (νs .1 .0 .1) ys′, (a .0, (threadOf (a .1 .1 .0), tt)))), (slice-of b o ys ∷ [], (slice-of b′ o′ ys′ ∷ [], spell (number w64 ∷ number w64 ∷ []) ((a .0, (threadOf (a .1 .1 .0), tt)))))), tt))
         (λ k. and-then ! (load ! (from ! (stop !)) (look ! 7 refl)) (and-then ! (load ! (from ! (stop !)) (look ! 3 refl)) (and-then ! (load ! (from ! (stop !)) (look ! 27 refl)) (and-then ! (load ! (from ! (stop !)) (look ! 21 refl)) (no-more !))))) (λ r₁₈ ws₁₉ is₂₀ ls₂₁ e₂₂.
         split ! $
@@ -189,13 +186,13 @@ module _ {M : Type 1} (𝓤 : URA M) (H : Heap 𝓤) (𝓜 : Model 𝓤 H) (𝓖
         land ! (from ! (stop !)) (init ! 12 refl (tt, tt)) $
         assigns ! (of-opd ! (unit-lit !)) (from ! (stop !)) (init ! 34 refl (tt, tt)) $
         move ! (0 ∷ 3 ∷ []) $
-        closed ! tt (Array u64 96) ys′ (V₃) b′ o′ room′ (sym ((refl ∙ sym (subst (λ (us : List (List ℕ)). length us ≡ length ys′) (e₂₂ .1) (ls₂₁ .1 .0))))) $
+        closed ! tt (Array u64 96) ys′ (V₂ .cpus) b′ o′ room′ (sym ((refl ∙ sym (subst (λ (us : List (List ℕ)). length us ≡ length ys′) (e₂₂ .1) (ls₂₁ .1 .0))))) $
         move ! (2 ∷ 3 ∷ []) $
-        closed ! tt Thread·.the-row ys (V₂) b o room (sym ((refl ∙ sym (subst (λ (us : List Thread). length us ≡ length ys) (e₂₂ .0) (ls₂₁ .0))))) $
+        closed ! tt Thread·.the-row ys (V₂ .threads) b o room (sym ((refl ∙ sym (subst (λ (us : List Thread). length us ≡ length ys) (e₂₂ .0) (ls₂₁ .0))))) $
         returns ! (look ! 34 refl) $
         move ! (34 ∷ 35 ∷ 32 ∷ 33 ∷ 30 ∷ 31 ∷ 28 ∷ 29 ∷ 26 ∷ 27 ∷ 24 ∷ 25 ∷ 22 ∷ 23 ∷ 20 ∷ 21 ∷ 18 ∷ 19 ∷ 16 ∷ 17 ∷ 14 ∷ 15 ∷ 12 ∷ 13 ∷ 10 ∷ 11 ∷ 8 ∷ 9 ∷ 6 ∷ 7 ∷ 4 ∷ 5 ∷ []) $
         all-freed ! mir.locals (l₀ ∷ l₁ ∷ l₂ ∷ l₃ ∷ l₄ ∷ l₅ ∷ l₆ ∷ l₇ ∷ l₈ ∷ l₉ ∷ l₁₀ ∷ l₁₁ ∷ l₁₂ ∷ l₁₃ ∷ l₁₄ ∷ l₁₅ ∷ []) (full _ ∷ full _ ∷ full _ ∷ full _ ∷ full _ ∷ full _ ∷ full _ ∷ full _ ∷ bare ∷ bare ∷ bare ∷ full _ ∷ full _ ∷ full _ ∷ full _ ∷ full _ ∷ []) tt $
-        suffices ! _ (ends-at 𝓤 H A run-stolen.ended stayed c W y _ (tt) (V₂, (V₃, (tt, (tt, (tt, tt))))) (sym ((refl ∙ sym (subst (λ (us : List Thread). length us ≡ length ys) (e₂₂ .0) (ls₂₁ .0)))), (sym ((refl ∙ sym (subst (λ (us : List (List ℕ)). length us ≡ length ys′) (e₂₂ .1) (ls₂₁ .1 .0)))), (tt, (tt, (tt, tt)))))) $ says ! (by-memory (record { threads = V₂; cpus = V₃ }) (runStolen ys ys′ (a .0) (a .1 .0) (a .1 .1 .0)) ((no (isNobody (a .1 .1 .0)) h₁ _ (refl)))) $
+        suffices ! _ (ends-at 𝓤 H A run-stolen.ended stayed c W y _ (tt) (V₂ .threads, (V₂ .cpus, (tt, (tt, (tt, tt))))) (sym ((refl ∙ sym (subst (λ (us : List Thread). length us ≡ length ys) (e₂₂ .0) (ls₂₁ .0)))), (sym ((refl ∙ sym (subst (λ (us : List (List ℕ)). length us ≡ length ys′) (e₂₂ .1) (ls₂₁ .1 .0)))), (tt, (tt, (tt, tt)))))) $ says ! (so {X = Memory} (record { threads = (V₂ .threads); cpus = (V₂ .cpus) }) (runStolen (a .0) (a .1 .0) (a .1 .1 .0) (record { threads = ys; cpus = ys′ })) ((no (isNobody (a .1 .1 .0)) h₁ _ (refl)))) $
         leaves2 ! nil Ds a (tt) are (refl)))))))))))))))))))))))
 
 pub run-stolen-spec : {M : Type 1} → stated.statement M

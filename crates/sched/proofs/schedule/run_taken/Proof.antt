@@ -1,5 +1,5 @@
 -- `sched::schedule::run_taken` meets its contract: a walk of its MIR, written by tools/entrygen.py.
-use mathlib.Core.Path.{_≡_, refl, sym, subst, _∙_}
+use mathlib.Core.Path.{_≡_, refl, sym, ap, subst, _∙_}
 use Prim.Native.Nat.{ℕ}
 use mathlib.Core.List.{[], _∷_, List}
 use lib.ListN.{length}
@@ -33,9 +33,9 @@ use denote.Triple.Clauses.{Clauses}
 use denote.Triple.Walked.{says, Stays, stay-none, stay-slice, walkOf, goes-none, goes-slice, ends-at}
 use denote.Exit.{yes as kept-yes}
 use Rattle.lent.proofs.Walk.{Datum, number, nil, struct, Dens, AreD, listed, spell, lent-as, slice-of, kept, opened, closed, guards, bare, full, proved}
-use Rattle.lent.proofs.Lent.{mutable, call-slices, all-freed, no, yes, begins2, leaves2}
-use Rattle.sched.specs.Schedule.{switchTo, runTaken}
-use Rattle.sched.proofs.Exits.{by-memory}
+use Rattle.lent.proofs.Lent.{mutable, call-left, all-freed, no, yes, so, begins2, leaves2}
+use Rattle.lent.specs.Left.{Memory}
+use Rattle.sched.specs.Schedule.{runTaken, switchTo}
 use denote.Struct.Laws as LL
 use Rattle.thread.specs.declared.Thread.{Thread}
 use Rattle.thread.proofs.Thread as Thread·
@@ -93,11 +93,8 @@ module _ {M : Type 1} (𝓤 : URA M) (H : Heap 𝓤) (𝓜 : Model 𝓤 H) (𝓖
     abbrev Post : Val → SProp 𝓤
     Post = walkOf 𝓤 H A run-taken.ended stayed c .post y
 
-    abbrev V₁ : List Thread
-    V₁ = switchTo ys ys′ (a .0) (a .1 .1 .0) .threads
-
-    abbrev V₂ : List (List ℕ)
-    V₂ = switchTo ys ys′ (a .0) (a .1 .1 .0) .cpus
+    abbrev V₁ : Memory
+    V₁ = switchTo (a .0) (a .1 .1 .0) (record { threads = ys; cpus = ys′ })
 
     walk : ent 𝓤 (onEntry 𝓤 H A run-taken.signature (κ, (κ′, tt)) (q, (q′, tt)) ((lent-as b o γ ys, (lent-as b′ o′ γ′ ys′, a))) ((s ∷ [], (s′ ∷ [], spell Ds a)))) (WpFn 𝓤 H C Λ code.function (s ∷ s′ ∷ listed Ds a) Post)
     unfolding runTaken
@@ -120,7 +117,7 @@ module _ {M : Type 1} (𝓤 : URA M) (H : Heap 𝓤) (𝓜 : Model 𝓤 H) (𝓖
         returns-within ! Post refl (look ! 26 refl) $
         move ! (26 ∷ 27 ∷ 24 ∷ 25 ∷ 22 ∷ 23 ∷ 20 ∷ 21 ∷ 18 ∷ 19 ∷ 16 ∷ 17 ∷ 14 ∷ 15 ∷ 12 ∷ 13 ∷ 10 ∷ 11 ∷ 8 ∷ 9 ∷ 6 ∷ 7 ∷ 4 ∷ 5 ∷ []) $
         all-freed ! mir.locals (l₀ ∷ l₁ ∷ l₂ ∷ l₃ ∷ l₄ ∷ l₅ ∷ l₆ ∷ l₇ ∷ l₈ ∷ l₉ ∷ l₁₀ ∷ l₁₁ ∷ []) (full _ ∷ full _ ∷ full _ ∷ full _ ∷ full _ ∷ full _ ∷ full _ ∷ bare ∷ bare ∷ bare ∷ bare ∷ bare ∷ []) tt $
-        suffices ! _ (ends-at 𝓤 H A run-taken.ended stayed c W y _ (tt) (ys, (ys′, (tt, (tt, (tt, tt))))) (sym refl, (sym refl, (tt, (tt, (tt, tt)))))) $ says ! (by-memory (record { threads = ys; cpus = ys′ }) (runTaken ys ys′ (a .0) (a .1 .0) (a .1 .1 .0)) ((yes (eqb (a .1 .1 .0) (a .1 .0)) h₁ _ (refl)))) $
+        suffices ! _ (ends-at 𝓤 H A run-taken.ended stayed c W y _ (tt) (ys, (ys′, (tt, (tt, (tt, tt))))) (sym refl, (sym refl, (tt, (tt, (tt, tt)))))) $ says ! (so {X = Memory} (record { threads = ys; cpus = ys′ }) (runTaken (a .0) (a .1 .0) (a .1 .1 .0) (record { threads = ys; cpus = ys′ })) ((yes (eqb (a .1 .1 .0) (a .1 .0)) h₁ _ (refl)))) $
         leaves2 ! nil Ds a (tt) are (refl))
         (λ h₁.
         assigns ! (addr ! (from ! (fld ! refl (hop ! (look-in ! 24 (sub ! 0 refl (whole !))) (stop !))))) (from ! (stop !)) (init ! 10 refl (tt, tt)) $
@@ -132,7 +129,7 @@ module _ {M : Type 1} (𝓤 : URA M) (H : Heap 𝓤) (𝓜 : Model 𝓤 H) (𝓖
         join ! $
         move ! (1 ∷ 0 ∷ []) $
         join ! $
-        call-slices nil (number w64 ∷ number w64 ∷ []) ((a .0, (a .1 .1 .0, tt))) (emp 𝓤) ((mutable Thread·.the-row ys b o n refl room) ∷ (mutable (Array u64 96) ys′ b′ o′ n′ refl room′) ∷ []) ! fm (λ r ws. (ws .0 ≡ V₁) × (ws .1 .0 ≡ V₂)) ((are .0, (are .1 .1 .0, tt))) (id⊢ 𝓤 (emp 𝓤))
+        call-left nil (number w64 ∷ number w64 ∷ []) ((a .0, (a .1 .1 .0, tt))) (emp 𝓤) ((mutable Thread·.the-row ys b o n refl room) ∷ (mutable (Array u64 96) ys′ b′ o′ n′ refl room′) ∷ []) ! fm (λ r ws. (ws .0 ≡ (V₁ .threads)) × (ws .1 .0 ≡ (V₁ .cpus))) (λ r ws. _≡_ {A = Memory} (record { threads = ws .0; cpus = ws .1 .0 }) V₁) (λ r ws e. (ap (λ (z : Memory). z .threads) e, ap (λ (z : Memory). z .cpus) e)) ((are .0, (are .1 .1 .0, tt))) (id⊢ 𝓤 (emp 𝓤))
         (λ νs. cited 𝓤 H (tripleOf 𝓤 H A fn-sched-schedule-switch-to.signature (fn-sched-schedule-switch-to.spec 𝓤 H A (𝓜 .mem) (𝓡 .run))) 𝓜 𝓡 code.env fn-sched-schedule-switch-to-def.name fn-sched-schedule-switch-to-def.routine code.calls-sched·schedule·switch-to (fn-sched-schedule-switch-to-thm.met 𝓤 H 𝓜 𝓖 𝓡) (((νs .0 .0 ∷ [], (νs .1 .0 .0 ∷ [], tt)), (fullShare, (fullShare, tt)), tt, (lent-as b o (νs .0 .1) ys, (lent-as b′ o′ (νs .1 .0 .1) ys′, (a .0, (a .1 .1 .0, tt)))), (slice-of b o ys ∷ [], (slice-of b′ o′ ys′ ∷ [], spell (number w64 ∷ number w64 ∷ []) ((a .0, (a .1 .1 .0, tt)))))), tt))
         (λ k. and-then ! (load ! (from ! (stop !)) (look ! 7 refl)) (and-then ! (load ! (from ! (stop !)) (look ! 3 refl)) (and-then ! (load ! (from ! (stop !)) (look ! 19 refl)) (and-then ! (load ! (from ! (stop !)) (look ! 15 refl)) (no-more !))))) (λ r₁ ws₂ is₃ ls₄ e₅.
         split ! $
@@ -145,13 +142,13 @@ module _ {M : Type 1} (𝓤 : URA M) (H : Heap 𝓤) (𝓜 : Model 𝓤 H) (𝓖
         land ! (from ! (stop !)) (init ! 12 refl (tt, tt)) $
         assigns ! (of-opd ! (unit-lit !)) (from ! (stop !)) (init ! 26 refl (tt, tt)) $
         move ! (0 ∷ 3 ∷ []) $
-        closed ! tt (Array u64 96) ys′ (V₂) b′ o′ room′ (sym ((refl ∙ sym (subst (λ (us : List (List ℕ)). length us ≡ length ys′) (e₅ .1) (ls₄ .1 .0))))) $
+        closed ! tt (Array u64 96) ys′ (V₁ .cpus) b′ o′ room′ (sym ((refl ∙ sym (subst (λ (us : List (List ℕ)). length us ≡ length ys′) (e₅ .1) (ls₄ .1 .0))))) $
         move ! (2 ∷ 3 ∷ []) $
-        closed ! tt Thread·.the-row ys (V₁) b o room (sym ((refl ∙ sym (subst (λ (us : List Thread). length us ≡ length ys) (e₅ .0) (ls₄ .0))))) $
+        closed ! tt Thread·.the-row ys (V₁ .threads) b o room (sym ((refl ∙ sym (subst (λ (us : List Thread). length us ≡ length ys) (e₅ .0) (ls₄ .0))))) $
         returns ! (look ! 26 refl) $
         move ! (26 ∷ 27 ∷ 24 ∷ 25 ∷ 22 ∷ 23 ∷ 20 ∷ 21 ∷ 18 ∷ 19 ∷ 16 ∷ 17 ∷ 14 ∷ 15 ∷ 12 ∷ 13 ∷ 10 ∷ 11 ∷ 8 ∷ 9 ∷ 6 ∷ 7 ∷ 4 ∷ 5 ∷ []) $
         all-freed ! mir.locals (l₀ ∷ l₁ ∷ l₂ ∷ l₃ ∷ l₄ ∷ l₅ ∷ l₆ ∷ l₇ ∷ l₈ ∷ l₉ ∷ l₁₀ ∷ l₁₁ ∷ []) (full _ ∷ full _ ∷ full _ ∷ full _ ∷ full _ ∷ full _ ∷ full _ ∷ full _ ∷ full _ ∷ full _ ∷ full _ ∷ full _ ∷ []) tt $
-        suffices ! _ (ends-at 𝓤 H A run-taken.ended stayed c W y _ (tt) (V₁, (V₂, (tt, (tt, (tt, tt))))) (sym ((refl ∙ sym (subst (λ (us : List Thread). length us ≡ length ys) (e₅ .0) (ls₄ .0)))), (sym ((refl ∙ sym (subst (λ (us : List (List ℕ)). length us ≡ length ys′) (e₅ .1) (ls₄ .1 .0)))), (tt, (tt, (tt, tt)))))) $ says ! (by-memory (record { threads = V₁; cpus = V₂ }) (runTaken ys ys′ (a .0) (a .1 .0) (a .1 .1 .0)) ((no (eqb (a .1 .1 .0) (a .1 .0)) h₁ _ (refl)))) $
+        suffices ! _ (ends-at 𝓤 H A run-taken.ended stayed c W y _ (tt) (V₁ .threads, (V₁ .cpus, (tt, (tt, (tt, tt))))) (sym ((refl ∙ sym (subst (λ (us : List Thread). length us ≡ length ys) (e₅ .0) (ls₄ .0)))), (sym ((refl ∙ sym (subst (λ (us : List (List ℕ)). length us ≡ length ys′) (e₅ .1) (ls₄ .1 .0)))), (tt, (tt, (tt, tt)))))) $ says ! (so {X = Memory} (record { threads = (V₁ .threads); cpus = (V₁ .cpus) }) (runTaken (a .0) (a .1 .0) (a .1 .1 .0) (record { threads = ys; cpus = ys′ })) ((no (eqb (a .1 .1 .0) (a .1 .0)) h₁ _ (refl)))) $
         leaves2 ! nil Ds a (tt) are (refl)))))))))))))))
 
 pub run-taken-spec : {M : Type 1} → stated.statement M

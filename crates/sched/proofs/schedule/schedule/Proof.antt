@@ -1,5 +1,5 @@
 -- `sched::schedule::schedule` meets its contract: a walk of its MIR, written by tools/entrygen.py.
-use mathlib.Core.Path.{_≡_, refl, sym, subst, _∙_}
+use mathlib.Core.Path.{_≡_, refl, sym, ap, subst, _∙_}
 use Prim.Native.Nat.{ℕ}
 use mathlib.Core.Bool.{Bool}
 use mathlib.Core.List.{[], _∷_, List}
@@ -33,19 +33,19 @@ use denote.Triple.Clauses.{Clauses}
 use denote.Triple.Walked.{says, Stays, stay-none, stay-slice, stay-none-slice, walkOf, goes-none, goes-slice, goes-none-slice, ends-at}
 use denote.Exit.{yes as kept-yes}
 use Rattle.lent.proofs.Walk.{Datum, number, truth, struct, Dens, AreD, listed, spell, lent-as, slice-of, kept, opened, closed, guards, bare, full, told, proved}
-use Rattle.lent.proofs.Lent.{mutable, shared, passed, call-slices, all-freed, no, yes, begins3, leaves3}
-use Rattle.thread.specs.Thread.{blank}
-use Rattle.thread.specs.Reads.{critical-in}
+use Rattle.lent.proofs.Lent.{mutable, shared, passed, call-slices, call-left, all-freed, no, yes, so, begins3, leaves3}
+use Rattle.lent.specs.Left.{Memory, Left}
+use Rattle.sched.specs.Schedule.{scheduleDef, doSchedule}
 use Rattle.step.specs.Running.{runningAt}
-use Rattle.sched.specs.Schedule.{doSchedule, scheduleDef}
-use Rattle.sched.proofs.Exits.{by-world}
+use Rattle.thread.specs.Reads.{critical-in}
+use Rattle.thread.specs.Thread.{blank}
 use denote.Struct.Laws as LL
-use Rattle.sched.specs.declared.context.Context.{Context}
-use Rattle.sched.proofs.context.Context as Context·
-use Rattle.sched.proofs.context.Context.Laws as Context·laws
-use Rattle.sched.specs.declared.context.SchedFlags.{SchedFlags}
-use Rattle.sched.proofs.context.SchedFlags as SchedFlags·
-use Rattle.sched.proofs.context.SchedFlags.Laws as SchedFlags·laws
+use Rattle.step.specs.declared.context.Context.{Context}
+use Rattle.step.proofs.context.Context as Context·
+use Rattle.step.proofs.context.Context.Laws as Context·laws
+use Rattle.step.specs.declared.context.SchedFlags.{SchedFlags}
+use Rattle.step.proofs.context.SchedFlags as SchedFlags·
+use Rattle.step.proofs.context.SchedFlags.Laws as SchedFlags·laws
 use Rattle.thread.specs.declared.Thread.{Thread}
 use Rattle.thread.proofs.Thread as Thread·
 use Rattle.thread.proofs.Thread.Laws as Thread·laws
@@ -129,14 +129,8 @@ module _ {M : Type 1} (𝓤 : URA M) (H : Heap 𝓤) (𝓜 : Model 𝓤 H) (𝓖
     abbrev V₂ : Bool
     V₂ = critical-in ((getD ys V₁ blank) .critical)
 
-    abbrev V₃ : ℕ
-    V₃ = doSchedule ys ys′ ys″ (a .0) (a .1 .0) (a .1 .1 .0) .wakeups
-
-    abbrev V₄ : List Thread
-    V₄ = doSchedule ys ys′ ys″ (a .0) (a .1 .0) (a .1 .1 .0) .threads
-
-    abbrev V₅ : List (List ℕ)
-    V₅ = doSchedule ys ys′ ys″ (a .0) (a .1 .0) (a .1 .1 .0) .cpus
+    abbrev V₃ : Left ℕ Memory
+    V₃ = doSchedule (a .0) (a .1 .0) (a .1 .1 .0) ys″ (record { threads = ys; cpus = ys′ })
 
     walk : ent 𝓤 (onEntry 𝓤 H A schedule.signature (κ, (κ′, (κ″, tt))) (q, (q′, (q″, tt))) ((lent-as b o γ ys, (lent-as b′ o′ γ′ ys′, (lent-as b″ o″ γ″ ys″, a)))) ((s ∷ [], (s′ ∷ [], (s″ ∷ [], spell Ds a))))) (WpFn 𝓤 H C Λ code.function (s ∷ s′ ∷ s″ ∷ listed Ds a) Post)
     unfolding scheduleDef
@@ -194,7 +188,7 @@ module _ {M : Type 1} (𝓤 : URA M) (H : Heap 𝓤) (𝓜 : Model 𝓤 H) (𝓖
         returns-within ! Post refl (look ! 42 refl) $
         move ! (42 ∷ 43 ∷ 40 ∷ 41 ∷ 38 ∷ 39 ∷ 36 ∷ 37 ∷ 34 ∷ 35 ∷ 32 ∷ 33 ∷ 30 ∷ 31 ∷ 28 ∷ 29 ∷ 26 ∷ 27 ∷ 24 ∷ 25 ∷ 22 ∷ 23 ∷ 20 ∷ 21 ∷ 18 ∷ 19 ∷ 16 ∷ 17 ∷ 14 ∷ 15 ∷ 12 ∷ 13 ∷ 10 ∷ 11 ∷ 8 ∷ 9 ∷ 6 ∷ 7 ∷ []) $
         all-freed ! mir.locals (l₀ ∷ l₁ ∷ l₂ ∷ l₃ ∷ l₄ ∷ l₅ ∷ l₆ ∷ l₇ ∷ l₈ ∷ l₉ ∷ l₁₀ ∷ l₁₁ ∷ l₁₂ ∷ l₁₃ ∷ l₁₄ ∷ l₁₅ ∷ l₁₆ ∷ l₁₇ ∷ l₁₈ ∷ []) (full _ ∷ full _ ∷ full _ ∷ full _ ∷ full _ ∷ full _ ∷ full _ ∷ full _ ∷ full _ ∷ full _ ∷ full _ ∷ full _ ∷ full _ ∷ full _ ∷ full _ ∷ bare ∷ bare ∷ bare ∷ bare ∷ []) tt $
-        suffices ! _ (ends-at 𝓤 H A schedule.ended stayed c W y _ (a .1 .1 .0) (ys, (ys′, (tt, (tt, (tt, (tt, tt)))))) (sym refl, (sym refl, (tt, (tt, (tt, (tt, tt))))))) $ says ! (by-world (record { wakeups = (a .1 .1 .0); threads = ys; cpus = ys′ }) (scheduleDef ys ys′ ys″ (a .0) (a .1 .0) (a .1 .1 .0)) ((yes (V₂) h₁ _ (refl)))) $
+        suffices ! _ (ends-at 𝓤 H A schedule.ended stayed c W y _ (a .1 .1 .0) (ys, (ys′, (tt, (tt, (tt, (tt, tt)))))) (sym refl, (sym refl, (tt, (tt, (tt, (tt, tt))))))) $ says ! (so {X = Left ℕ Memory} (record { answer = (a .1 .1 .0); memory = record { threads = ys; cpus = ys′ } }) (scheduleDef (a .0) (a .1 .0) (a .1 .1 .0) ys″ (record { threads = ys; cpus = ys′ })) ((yes (V₂) h₁ _ (refl)))) $
         leaves3 ! (number w64) Ds a (a .1 .1 .0) are (are .1 .1 .0))
         (λ h₁.
         assigns ! (addr ! (from ! (fld ! refl (hop ! (look-in ! 40 (sub ! 0 refl (whole !))) (stop !))))) (from ! (stop !)) (init ! 12 refl (tt, tt)) $
@@ -209,7 +203,7 @@ module _ {M : Type 1} (𝓤 : URA M) (H : Heap 𝓤) (𝓜 : Model 𝓤 H) (𝓖
         join ! $
         move ! (1 ∷ 0 ∷ []) $
         join ! $
-        call-slices (number w64) (Context° ∷ SchedFlags° ∷ number w64 ∷ []) ((a .0, (a .1 .0, (a .1 .1 .0, tt)))) (emp 𝓤) ((mutable Thread·.the-row ys b o n refl room) ∷ (mutable (Array u64 96) ys′ b′ o′ n′ refl room′) ∷ (passed (Array u64 32) ys″ b″ o″ κ″ q″ γ″) ∷ []) ! fm (λ r ws. (r ≡ V₃) × ((ws .0 ≡ V₄) × (ws .1 .0 ≡ V₅))) ((are .0, (are .1 .0, (are .1 .1 .0, tt)))) (id⊢ 𝓤 (emp 𝓤))
+        call-left (number w64) (Context° ∷ SchedFlags° ∷ number w64 ∷ []) ((a .0, (a .1 .0, (a .1 .1 .0, tt)))) (emp 𝓤) ((mutable Thread·.the-row ys b o n refl room) ∷ (mutable (Array u64 96) ys′ b′ o′ n′ refl room′) ∷ (passed (Array u64 32) ys″ b″ o″ κ″ q″ γ″) ∷ []) ! fm (λ r ws. (r ≡ (V₃ .answer)) × ((ws .0 ≡ (V₃ .memory .threads)) × (ws .1 .0 ≡ (V₃ .memory .cpus)))) (λ r ws. _≡_ {A = Left ℕ Memory} (record { answer = r; memory = record { threads = ws .0; cpus = ws .1 .0 } }) V₃) (λ r ws e. (ap (λ (z : Left ℕ Memory). z .answer) e, (ap (λ (z : Left ℕ Memory). z .memory .threads) e, ap (λ (z : Left ℕ Memory). z .memory .cpus) e))) ((are .0, (are .1 .0, (are .1 .1 .0, tt)))) (id⊢ 𝓤 (emp 𝓤))
         (λ νs. cited 𝓤 H (tripleOf 𝓤 H A fn-sched-schedule-do-schedule.signature (fn-sched-schedule-do-schedule.spec 𝓤 H A (𝓜 .mem) (𝓡 .run))) 𝓜 𝓡 code.env fn-sched-schedule-do-schedule-def.name fn-sched-schedule-do-schedule-def.routine code.calls-sched·schedule·do-schedule (fn-sched-schedule-do-schedule-thm.met 𝓤 H 𝓜 𝓖 𝓡) (((νs .0 .0 ∷ [], (νs .1 .0 .0 ∷ [], (κ″, tt))), (fullShare, (fullShare, (q″, tt))), tt, (lent-as b o (νs .0 .1) ys, (lent-as b′ o′ (νs .1 .0 .1) ys′, (lent-as b″ o″ γ″ ys″, (a .0, (a .1 .0, (a .1 .1 .0, tt)))))), (slice-of b o ys ∷ [], (slice-of b′ o′ ys′ ∷ [], (slice-of b″ o″ ys″ ∷ [], spell (Context° ∷ SchedFlags° ∷ number w64 ∷ []) ((a .0, (a .1 .0, (a .1 .1 .0, tt)))))))), tt))
         (λ k. and-then ! (load ! (from ! (stop !)) (look ! 7 refl)) (and-then ! (load ! (from ! (stop !)) (look ! 3 refl)) (and-then ! (load ! (from ! (stop !)) (look ! 33 refl)) (and-then ! (load ! (from ! (stop !)) (look ! 31 refl)) (and-then ! (load ! (from ! (stop !)) (look ! 29 refl)) (and-then ! (load ! (from ! (stop !)) (look ! 27 refl)) (no-more !))))))) (λ r₁₉ ws₂₀ is₂₁ ls₂₂ e₂₃.
         split ! $
@@ -223,16 +217,16 @@ module _ {M : Type 1} (𝓤 : URA M) (H : Heap 𝓤) (𝓜 : Model 𝓤 H) (𝓖
         rewrite ! 3 (λ (us : List Thread). ‵ (row Thread·.the-row fullShare us b o)) (e₂₃ .1 .0) refl $
         rewrite ! 2 (λ (us : List (List ℕ)). ‵ (row (Array u64 96) fullShare us b′ o′)) (e₂₃ .1 .1) refl $
         told ! (number w64) (e₂₃ .0) is₂₁ (λ is₂₄.
-        land ! (from ! (stop !)) (init ! 42 refl ((number w64) .typed 𝓤 H A W (V₃) (is₂₄) .0)) $
+        land ! (from ! (stop !)) (init ! 42 refl ((number w64) .typed 𝓤 H A W (V₃ .answer) (is₂₄) .0)) $
         move ! (2 ∷ 5 ∷ []) $
-        closed ! tt (Array u64 96) ys′ (V₅) b′ o′ room′ (sym ((refl ∙ sym (subst (λ (us : List (List ℕ)). length us ≡ length ys′) (e₂₃ .1 .1) (ls₂₂ .1 .0))))) $
+        closed ! tt (Array u64 96) ys′ (V₃ .memory .cpus) b′ o′ room′ (sym ((refl ∙ sym (subst (λ (us : List (List ℕ)). length us ≡ length ys′) (e₂₃ .1 .1) (ls₂₂ .1 .0))))) $
         move ! (4 ∷ 5 ∷ []) $
-        closed ! tt Thread·.the-row ys (V₄) b o room (sym ((refl ∙ sym (subst (λ (us : List Thread). length us ≡ length ys) (e₂₃ .1 .0) (ls₂₂ .0))))) $
+        closed ! tt Thread·.the-row ys (V₃ .memory .threads) b o room (sym ((refl ∙ sym (subst (λ (us : List Thread). length us ≡ length ys) (e₂₃ .1 .0) (ls₂₂ .0))))) $
         returns ! (look ! 42 refl) $
         move ! (42 ∷ 43 ∷ 40 ∷ 41 ∷ 38 ∷ 39 ∷ 36 ∷ 37 ∷ 34 ∷ 35 ∷ 32 ∷ 33 ∷ 30 ∷ 31 ∷ 28 ∷ 29 ∷ 26 ∷ 27 ∷ 24 ∷ 25 ∷ 22 ∷ 23 ∷ 20 ∷ 21 ∷ 18 ∷ 19 ∷ 16 ∷ 17 ∷ 14 ∷ 15 ∷ 12 ∷ 13 ∷ 10 ∷ 11 ∷ 8 ∷ 9 ∷ 6 ∷ 7 ∷ []) $
         all-freed ! mir.locals (l₀ ∷ l₁ ∷ l₂ ∷ l₃ ∷ l₄ ∷ l₅ ∷ l₆ ∷ l₇ ∷ l₈ ∷ l₉ ∷ l₁₀ ∷ l₁₁ ∷ l₁₂ ∷ l₁₃ ∷ l₁₄ ∷ l₁₅ ∷ l₁₆ ∷ l₁₇ ∷ l₁₈ ∷ []) (full _ ∷ full _ ∷ full _ ∷ full _ ∷ full _ ∷ full _ ∷ full _ ∷ full _ ∷ full _ ∷ full _ ∷ full _ ∷ full _ ∷ full _ ∷ full _ ∷ full _ ∷ full _ ∷ full _ ∷ full _ ∷ full _ ∷ []) tt $
-        suffices ! _ (ends-at 𝓤 H A schedule.ended stayed c W y _ (V₃) (V₄, (V₅, (tt, (tt, (tt, (tt, tt)))))) (sym ((refl ∙ sym (subst (λ (us : List Thread). length us ≡ length ys) (e₂₃ .1 .0) (ls₂₂ .0)))), (sym ((refl ∙ sym (subst (λ (us : List (List ℕ)). length us ≡ length ys′) (e₂₃ .1 .1) (ls₂₂ .1 .0)))), (tt, (tt, (tt, (tt, tt))))))) $ says ! (by-world (record { wakeups = V₃; threads = V₄; cpus = V₅ }) (scheduleDef ys ys′ ys″ (a .0) (a .1 .0) (a .1 .1 .0)) ((no (V₂) h₁ _ (refl)))) $
-        leaves3 ! (number w64) Ds a (V₃) are (is₂₄)))))))))))))))))))))))))))))
+        suffices ! _ (ends-at 𝓤 H A schedule.ended stayed c W y _ (V₃ .answer) (V₃ .memory .threads, (V₃ .memory .cpus, (tt, (tt, (tt, (tt, tt)))))) (sym ((refl ∙ sym (subst (λ (us : List Thread). length us ≡ length ys) (e₂₃ .1 .0) (ls₂₂ .0)))), (sym ((refl ∙ sym (subst (λ (us : List (List ℕ)). length us ≡ length ys′) (e₂₃ .1 .1) (ls₂₂ .1 .0)))), (tt, (tt, (tt, (tt, tt))))))) $ says ! (so {X = Left ℕ Memory} (record { answer = (V₃ .answer); memory = record { threads = (V₃ .memory .threads); cpus = (V₃ .memory .cpus) } }) (scheduleDef (a .0) (a .1 .0) (a .1 .1 .0) ys″ (record { threads = ys; cpus = ys′ })) ((no (V₂) h₁ _ (refl)))) $
+        leaves3 ! (number w64) Ds a (V₃ .answer) are (is₂₄)))))))))))))))))))))))))))))
 
 pub schedule-spec : {M : Type 1} → stated.statement M
 unfolding code.routine

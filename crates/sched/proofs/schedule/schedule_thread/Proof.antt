@@ -1,5 +1,5 @@
 -- `sched::schedule::schedule_thread` meets its contract: a walk of its MIR, written by tools/entrygen.py.
-use mathlib.Core.Path.{_≡_, refl, sym, subst, _∙_}
+use mathlib.Core.Path.{_≡_, refl, sym, ap, subst, _∙_}
 use Prim.Native.Nat.{ℕ}
 use mathlib.Core.Bool.{not}
 use mathlib.Core.List.{[], _∷_, List}
@@ -35,24 +35,24 @@ use denote.Triple.Clauses.{Clauses}
 use denote.Triple.Walked.{says, Stays, stay-none, stay-slice, stay-none-slice, walkOf, goes-none, goes-slice, goes-none-slice, ends-at}
 use denote.Exit.{yes as kept-yes}
 use Rattle.lent.proofs.Walk.{Datum, number, truth, struct, Dens, AreD, listed, spell, lent-as, slice-of, shared-as, kept, opened, closed, guards, env-of, standing, bare, full, told, proved}
-use Rattle.lent.proofs.Lent.{mutable, shared, passed, choice, call-slices, all-freed, no, yes, begins3, leaves3}
-use Rattle.thread.specs.Thread.{blank}
-use Rattle.step.specs.Option.{isNone, cpuOf}
+use Rattle.lent.proofs.Lent.{mutable, shared, passed, choice, call-slices, call-left, all-freed, no, yes, so, begins3, leaves3}
+use Rattle.lent.specs.Left.{Memory, Left}
+use Rattle.sched.specs.Schedule.{scheduleThread, scheduled, scheduledOn}
+use Rattle.sched_queues.specs.Queues.{wakeDef}
 use Rattle.step.specs.Choose.{selectFor, selectedFor}
-use Rattle.sched.specs.Queues.{wakeDef}
-use Rattle.sched.specs.Schedule.{scheduled, scheduledOn, scheduleThread}
-use Rattle.sched.proofs.Exits.{by-chosen}
+use Rattle.step.specs.Option.{isNone, cpuOf}
+use Rattle.thread.specs.Thread.{blank}
 use Rattle.thread.specs.declared.time.OptionCpu.the-variants as cpu
 use denote.Struct.Laws as LL
-use Rattle.sched.specs.declared.context.Context.{Context}
-use Rattle.sched.proofs.context.Context as Context·
-use Rattle.sched.proofs.context.Context.Laws as Context·laws
+use Rattle.step.specs.declared.context.Context.{Context}
+use Rattle.step.proofs.context.Context as Context·
+use Rattle.step.proofs.context.Context.Laws as Context·laws
 use Rattle.thread.specs.declared.time.OptionCpu.{OptionCpu}
 use Rattle.thread.proofs.time.OptionCpu as OptionCpu·
 use Rattle.thread.proofs.time.OptionCpu.Laws as OptionCpu·laws
-use Rattle.sched.specs.declared.context.Scheduled.{Scheduled}
-use Rattle.sched.proofs.context.Scheduled as Scheduled·
-use Rattle.sched.proofs.context.Scheduled.Laws as Scheduled·laws
+use Rattle.step.specs.declared.context.Scheduled.{Scheduled}
+use Rattle.step.proofs.context.Scheduled as Scheduled·
+use Rattle.step.proofs.context.Scheduled.Laws as Scheduled·laws
 use Rattle.thread.specs.declared.Thread.{Thread}
 use Rattle.thread.proofs.Thread as Thread·
 use Rattle.thread.proofs.Thread.Laws as Thread·laws
@@ -74,9 +74,9 @@ use Rattle.sched.proofs.schedule.scheduled.Met as fn-sched-schedule-sch
 use Rattle.step.proofs.option.cpu_of as fn-step-option-cpu-of
 use Rattle.step.proofs.option.cpu_of.Symbol as fn-step-option-cpu-of-def
 use Rattle.step.proofs.option.cpu_of.Met as fn-step-option-cpu-of-thm
-use Rattle.sched.proofs.queues.wake as fn-sched-queues-wake
-use Rattle.sched.proofs.queues.wake.Symbol as fn-sched-queues-wake-def
-use Rattle.sched.proofs.queues.wake.Met as fn-sched-queues-wake-thm
+use Rattle.sched_queues.proofs.queues.wake as fn-sched-queues-queues-wake
+use Rattle.sched_queues.proofs.queues.wake.Symbol as fn-sched-queues-queues-wake-def
+use Rattle.sched_queues.proofs.queues.wake.Met as fn-sched-queues-queues-wake-thm
 use Rattle.sched.proofs.schedule.schedule_thread.Key.{name as #schedule-thread}
 use Rattle.sched.proofs.schedule.schedule_thread as schedule-thread
 use Rattle.sched.proofs.schedule.schedule_thread.Statement as stated
@@ -151,14 +151,11 @@ module _ {M : Type 1} (𝓤 : URA M) (H : Heap 𝓤) (𝓜 : Model 𝓤 H) (𝓖
     abbrev V₃ : Scheduled
     V₃ = scheduled ((a .0) .us) 0
 
-    abbrev V₄ : ℕ
-    V₄ = wakeDef ys V₂ (a .0) (cpuOf V₁) (a .1 .0) 0 .wakeups
+    abbrev V₄ : Left ℕ Memory
+    V₄ = wakeDef (a .0) (cpuOf V₁) (a .1 .0) 0 (record { threads = ys; cpus = V₂ })
 
-    abbrev V₅ : List Thread
-    V₅ = wakeDef ys V₂ (a .0) (cpuOf V₁) (a .1 .0) 0 .threads
-
-    abbrev V₆ : List (List ℕ)
-    V₆ = wakeDef ys V₂ (a .0) (cpuOf V₁) (a .1 .0) 0 .cpus
+    abbrev V₅ : Scheduled
+    V₅ = scheduled (cpuOf V₁) (V₄ .answer)
 
     module _ (l₀ l₁ l₂ l₃ l₄ l₅ l₆ l₇ l₈ l₉ l₁₀ l₁₁ l₁₂ l₁₃ l₁₄ l₁₅ l₁₆ l₁₇ l₁₈ l₁₉ l₂₀ l₂₁ : ℕ) where
       abbrev En : Env 𝓤 H
@@ -176,8 +173,8 @@ module _ {M : Type 1} (𝓤 : URA M) (H : Heap 𝓤) (𝓜 : Model 𝓤 H) (𝓖
           join ! $
           move ! (1 ∷ 0 ∷ []) $
           join ! $
-          call-slices (number w64) (Context° ∷ number w64 ∷ number w64 ∷ number w64 ∷ []) ((a .0, (cpuOf V₁, (a .1 .0, (0, tt))))) (emp 𝓤) ((mutable Thread·.the-row ys b o n refl room) ∷ (mutable (Array u64 96) V₂ b′ o′ n′ e₁₀₁ room′) ∷ []) ! fm (λ r ws. (r ≡ V₄) × ((ws .0 ≡ V₅) × (ws .1 .0 ≡ V₆))) ((are .0, (c₁₁, (are .1 .0, ((refl, lit< tt), tt))))) (id⊢ 𝓤 (emp 𝓤))
-          (λ νs. cited 𝓤 H (tripleOf 𝓤 H A fn-sched-queues-wake.signature (fn-sched-queues-wake.spec 𝓤 H A (𝓜 .mem) (𝓡 .run))) 𝓜 𝓡 code.env fn-sched-queues-wake-def.name fn-sched-queues-wake-def.routine code.calls-sched·queues·wake (fn-sched-queues-wake-thm.met 𝓤 H 𝓜 𝓖 𝓡) (((νs .0 .0 ∷ [], (νs .1 .0 .0 ∷ [], tt)), (fullShare, (fullShare, tt)), tt, (lent-as b o (νs .0 .1) ys, (lent-as b′ o′ (νs .1 .0 .1) V₂, (a .0, (cpuOf V₁, (a .1 .0, (0, tt)))))), (slice-of b o ys ∷ [], (slice-of b′ o′ V₂ ∷ [], spell (Context° ∷ number w64 ∷ number w64 ∷ number w64 ∷ []) ((a .0, (cpuOf V₁, (a .1 .0, (0, tt)))))))), tt))
+          call-left (number w64) (Context° ∷ number w64 ∷ number w64 ∷ number w64 ∷ []) ((a .0, (cpuOf V₁, (a .1 .0, (0, tt))))) (emp 𝓤) ((mutable Thread·.the-row ys b o n refl room) ∷ (mutable (Array u64 96) V₂ b′ o′ n′ e₁₀₁ room′) ∷ []) ! fm (λ r ws. (r ≡ (V₄ .answer)) × ((ws .0 ≡ (V₄ .memory .threads)) × (ws .1 .0 ≡ (V₄ .memory .cpus)))) (λ r ws. _≡_ {A = Left ℕ Memory} (record { answer = r; memory = record { threads = ws .0; cpus = ws .1 .0 } }) V₄) (λ r ws e. (ap (λ (z : Left ℕ Memory). z .answer) e, (ap (λ (z : Left ℕ Memory). z .memory .threads) e, ap (λ (z : Left ℕ Memory). z .memory .cpus) e))) ((are .0, (c₁₁, (are .1 .0, ((refl, lit< tt), tt))))) (id⊢ 𝓤 (emp 𝓤))
+          (λ νs. cited 𝓤 H (tripleOf 𝓤 H A fn-sched-queues-queues-wake.signature (fn-sched-queues-queues-wake.spec 𝓤 H A (𝓜 .mem) (𝓡 .run))) 𝓜 𝓡 code.env fn-sched-queues-queues-wake-def.name fn-sched-queues-queues-wake-def.routine code.calls-sched-queues·queues·wake (fn-sched-queues-queues-wake-thm.met 𝓤 H 𝓜 𝓖 𝓡) (((νs .0 .0 ∷ [], (νs .1 .0 .0 ∷ [], tt)), (fullShare, (fullShare, tt)), tt, (lent-as b o (νs .0 .1) ys, (lent-as b′ o′ (νs .1 .0 .1) V₂, (a .0, (cpuOf V₁, (a .1 .0, (0, tt)))))), (slice-of b o ys ∷ [], (slice-of b′ o′ V₂ ∷ [], spell (Context° ∷ number w64 ∷ number w64 ∷ number w64 ∷ []) ((a .0, (cpuOf V₁, (a .1 .0, (0, tt)))))))), tt))
           (λ k. and-then ! (load ! (from ! (stop !)) (look ! 9 refl)) (and-then ! (load ! (from ! (stop !)) (look ! 5 refl)) (and-then ! (load ! (from ! (stop !)) (look ! 39 refl)) (and-then ! (load ! (from ! (stop !)) (look ! 25 refl)) (and-then ! (load ! (from ! (stop !)) (look ! 37 refl)) (and-then ! (lit ! tt) (no-more !))))))) (λ r₃₇ ws₃₈ is₃₉ ls₄₀ e₄₁.
           split ! $
           move ! (1 ∷ []) $
@@ -187,24 +184,24 @@ module _ {M : Type 1} (𝓤 : URA M) (H : Heap 𝓤) (𝓜 : Model 𝓤 H) (𝓖
           rewrite ! 1 (λ (us : List Thread). ‵ (row Thread·.the-row fullShare us b o)) (e₄₁ .1 .0) refl $
           rewrite ! 0 (λ (us : List (List ℕ)). ‵ (row (Array u64 96) fullShare us b′ o′)) (e₄₁ .1 .1) refl $
           told ! (number w64) (e₄₁ .0) is₃₉ (λ is₄₂.
-          land ! (from ! (stop !)) (init ! 24 refl ((number w64) .typed 𝓤 H A W (V₄) (is₄₂) .0)) $
+          land ! (from ! (stop !)) (init ! 24 refl ((number w64) .typed 𝓤 H A W (V₄ .answer) (is₄₂) .0)) $
           nothing ! $
-          call-slices Scheduled° (number w64 ∷ number w64 ∷ []) ((cpuOf V₁, (V₄, tt))) (emp 𝓤) ([]) ! fm (λ r ws. r ≡ (scheduled (cpuOf V₁) V₄)) ((c₁₁, (is₄₂, tt))) (id⊢ 𝓤 (emp 𝓤))
-          (λ νs. cited 𝓤 H (tripleOf 𝓤 H A fn-sched-schedule-scheduled.signature (fn-sched-schedule-scheduled.spec 𝓤 H A (𝓜 .mem) (𝓡 .run))) 𝓜 𝓡 code.env fn-sched-schedule-scheduled-def.name fn-sched-schedule-scheduled-def.routine code.calls-sched·schedule·scheduled (fn-sched-schedule-scheduled-thm.met 𝓤 H 𝓜 𝓖 𝓡) ((tt, tt, tt, (cpuOf V₁, (V₄, tt)), spell (number w64 ∷ number w64 ∷ []) ((cpuOf V₁, (V₄, tt)))), tt))
+          call-slices Scheduled° (number w64 ∷ number w64 ∷ []) ((cpuOf V₁, (V₄ .answer, tt))) (emp 𝓤) ([]) ! fm (λ r ws. r ≡ V₅) ((c₁₁, (is₄₂, tt))) (id⊢ 𝓤 (emp 𝓤))
+          (λ νs. cited 𝓤 H (tripleOf 𝓤 H A fn-sched-schedule-scheduled.signature (fn-sched-schedule-scheduled.spec 𝓤 H A (𝓜 .mem) (𝓡 .run))) 𝓜 𝓡 code.env fn-sched-schedule-scheduled-def.name fn-sched-schedule-scheduled-def.routine code.calls-sched·schedule·scheduled (fn-sched-schedule-scheduled-thm.met 𝓤 H 𝓜 𝓖 𝓡) ((tt, tt, tt, (cpuOf V₁, (V₄ .answer, tt)), spell (number w64 ∷ number w64 ∷ []) ((cpuOf V₁, (V₄ .answer, tt)))), tt))
           (λ k. and-then ! (load ! (from ! (stop !)) (look ! 27 refl)) (and-then ! (load ! (from ! (stop !)) (look ! 25 refl)) (no-more !))) (λ r₄₃ ws₄₄ is₄₅ ls₄₆ e₄₇.
           drop ! $
           told ! Scheduled° (e₄₇) is₄₅ (λ is₄₈.
-          land ! (from ! (stop !)) (init ! 48 refl (Scheduled° .typed 𝓤 H A W (scheduled (cpuOf V₁) V₄) (is₄₈) .0)) $
+          land ! (from ! (stop !)) (init ! 48 refl (Scheduled° .typed 𝓤 H A W (V₅) (is₄₈) .0)) $
           move ! (4 ∷ 5 ∷ []) $
           move ! (2 ∷ 5 ∷ []) $
-          closed ! tt (Array u64 96) ys′ (V₆) b′ o′ room′ (sym ((e₁₀₁ ∙ sym (subst (λ (us : List (List ℕ)). length us ≡ length V₂) (e₄₁ .1 .1) (ls₄₀ .1 .0))))) $
+          closed ! tt (Array u64 96) ys′ (V₄ .memory .cpus) b′ o′ room′ (sym ((e₁₀₁ ∙ sym (subst (λ (us : List (List ℕ)). length us ≡ length V₂) (e₄₁ .1 .1) (ls₄₀ .1 .0))))) $
           move ! (4 ∷ 5 ∷ []) $
-          closed ! tt Thread·.the-row ys (V₅) b o room (sym ((refl ∙ sym (subst (λ (us : List Thread). length us ≡ length ys) (e₄₁ .1 .0) (ls₄₀ .0))))) $
+          closed ! tt Thread·.the-row ys (V₄ .memory .threads) b o room (sym ((refl ∙ sym (subst (λ (us : List Thread). length us ≡ length ys) (e₄₁ .1 .0) (ls₄₀ .0))))) $
           returns ! (look ! 48 refl) $
           move ! (48 ∷ 49 ∷ 46 ∷ 47 ∷ 44 ∷ 45 ∷ 42 ∷ 43 ∷ 40 ∷ 41 ∷ 38 ∷ 39 ∷ 36 ∷ 37 ∷ 34 ∷ 35 ∷ 32 ∷ 33 ∷ 30 ∷ 31 ∷ 28 ∷ 29 ∷ 26 ∷ 27 ∷ 24 ∷ 25 ∷ 22 ∷ 23 ∷ 20 ∷ 21 ∷ 18 ∷ 19 ∷ 16 ∷ 17 ∷ 14 ∷ 15 ∷ 12 ∷ 13 ∷ 10 ∷ 11 ∷ 8 ∷ 9 ∷ 6 ∷ 7 ∷ []) $
           all-freed ! mir.locals (l₀ ∷ l₁ ∷ l₂ ∷ l₃ ∷ l₄ ∷ l₅ ∷ l₆ ∷ l₇ ∷ l₈ ∷ l₉ ∷ l₁₀ ∷ l₁₁ ∷ l₁₂ ∷ l₁₃ ∷ l₁₄ ∷ l₁₅ ∷ l₁₆ ∷ l₁₇ ∷ l₁₈ ∷ l₁₉ ∷ l₂₀ ∷ l₂₁ ∷ []) (full _ ∷ full _ ∷ full _ ∷ full _ ∷ full _ ∷ full _ ∷ bare ∷ bare ∷ bare ∷ bare ∷ bare ∷ full _ ∷ full _ ∷ bare ∷ bare ∷ bare ∷ bare ∷ bare ∷ full _ ∷ full _ ∷ full _ ∷ full _ ∷ []) tt $
-          suffices ! _ (ends-at 𝓤 H A schedule-thread.ended stayed c W y _ (scheduled (cpuOf V₁) V₄) (V₅, (V₆, (tt, (tt, (tt, tt))))) (sym ((refl ∙ sym (subst (λ (us : List Thread). length us ≡ length ys) (e₄₁ .1 .0) (ls₄₀ .0)))), (sym ((e₁₀₁ ∙ sym (subst (λ (us : List (List ℕ)). length us ≡ length V₂) (e₄₁ .1 .1) (ls₄₀ .1 .0)))), (tt, (tt, (tt, tt)))))) $ says ! (by-chosen (record { answer = (scheduled (cpuOf V₁) V₄); threads = V₅; cpus = V₆ }) (scheduleThread ys ys′ ys″ (a .0) (a .1 .0)) ((no (isNone V₁) h₁ _ (refl)))) $
-          leaves3 ! Scheduled° Ds a (scheduled (cpuOf V₁) V₄) are (is₄₈)))))
+          suffices ! _ (ends-at 𝓤 H A schedule-thread.ended stayed c W y _ (V₅) (V₄ .memory .threads, (V₄ .memory .cpus, (tt, (tt, (tt, tt))))) (sym ((refl ∙ sym (subst (λ (us : List Thread). length us ≡ length ys) (e₄₁ .1 .0) (ls₄₀ .0)))), (sym ((e₁₀₁ ∙ sym (subst (λ (us : List (List ℕ)). length us ≡ length V₂) (e₄₁ .1 .1) (ls₄₀ .1 .0)))), (tt, (tt, (tt, tt)))))) $ says ! (so {X = Left Scheduled Memory} (record { answer = V₅; memory = record { threads = (V₄ .memory .threads); cpus = (V₄ .memory .cpus) } }) (scheduleThread (a .0) (a .1 .0) ys″ (record { threads = ys; cpus = ys′ })) ((no (isNone V₁) h₁ _ (refl)))) $
+          leaves3 ! Scheduled° Ds a (V₅) are (is₄₈)))))
 
     walk : ent 𝓤 (onEntry 𝓤 H A schedule-thread.signature (κ, (κ′, (κ″, tt))) (q, (q′, (q″, tt))) ((lent-as b o γ ys, (lent-as b′ o′ γ′ ys′, (lent-as b″ o″ γ″ ys″, a)))) ((s ∷ [], (s′ ∷ [], (s″ ∷ [], spell Ds a))))) (WpFn 𝓤 H C Λ code.function (s ∷ s′ ∷ s″ ∷ listed Ds a) Post)
     unfolding scheduleThread scheduledOn
@@ -282,7 +279,7 @@ module _ {M : Type 1} (𝓤 : URA M) (H : Heap 𝓤) (𝓜 : Model 𝓤 H) (𝓖
         returns-within ! Post refl (look ! 48 refl) $
         move ! (48 ∷ 49 ∷ 46 ∷ 47 ∷ 44 ∷ 45 ∷ 42 ∷ 43 ∷ 40 ∷ 41 ∷ 38 ∷ 39 ∷ 36 ∷ 37 ∷ 34 ∷ 35 ∷ 32 ∷ 33 ∷ 30 ∷ 31 ∷ 28 ∷ 29 ∷ 26 ∷ 27 ∷ 24 ∷ 25 ∷ 22 ∷ 23 ∷ 20 ∷ 21 ∷ 18 ∷ 19 ∷ 16 ∷ 17 ∷ 14 ∷ 15 ∷ 12 ∷ 13 ∷ 10 ∷ 11 ∷ 8 ∷ 9 ∷ 6 ∷ 7 ∷ []) $
         all-freed ! mir.locals (l₀ ∷ l₁ ∷ l₂ ∷ l₃ ∷ l₄ ∷ l₅ ∷ l₆ ∷ l₇ ∷ l₈ ∷ l₉ ∷ l₁₀ ∷ l₁₁ ∷ l₁₂ ∷ l₁₃ ∷ l₁₄ ∷ l₁₅ ∷ l₁₆ ∷ l₁₇ ∷ l₁₈ ∷ l₁₉ ∷ l₂₀ ∷ l₂₁ ∷ []) (full _ ∷ full _ ∷ full _ ∷ full _ ∷ full _ ∷ full _ ∷ full _ ∷ full _ ∷ full _ ∷ full _ ∷ full _ ∷ bare ∷ bare ∷ full _ ∷ full _ ∷ full _ ∷ full _ ∷ full _ ∷ bare ∷ bare ∷ bare ∷ bare ∷ []) tt $
-        suffices ! _ (ends-at 𝓤 H A schedule-thread.ended stayed c W y _ (V₃) (ys, (V₂, (tt, (tt, (tt, tt))))) (sym refl, (sym ((refl ∙ sym (subst (λ (us : List (List ℕ)). length us ≡ length ys′) (e₁₇ .1) (ls₁₆ .0)))), (tt, (tt, (tt, tt)))))) $ says ! (by-chosen (record { answer = V₃; threads = ys; cpus = V₂ }) (scheduleThread ys ys′ ys″ (a .0) (a .1 .0)) ((yes (isNone V₁) h₁ _ (refl)))) $
+        suffices ! _ (ends-at 𝓤 H A schedule-thread.ended stayed c W y _ (V₃) (ys, (V₂, (tt, (tt, (tt, tt))))) (sym refl, (sym ((refl ∙ sym (subst (λ (us : List (List ℕ)). length us ≡ length ys′) (e₁₇ .1) (ls₁₆ .0)))), (tt, (tt, (tt, tt)))))) $ says ! (so {X = Left Scheduled Memory} (record { answer = V₃; memory = record { threads = ys; cpus = V₂ } }) (scheduleThread (a .0) (a .1 .0) ys″ (record { threads = ys; cpus = ys′ })) ((yes (isNone V₁) h₁ _ (refl)))) $
         leaves3 ! Scheduled° Ds a (V₃) are (is₃₀))))
         (λ h₁.
         nothing ! $

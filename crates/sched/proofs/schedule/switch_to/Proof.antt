@@ -32,12 +32,12 @@ use denote.Triple.Clauses.{Clauses}
 use denote.Triple.Walked.{says, Stays, stay-none, stay-slice, walkOf, goes-none, goes-slice, ends-at}
 use denote.Exit.{yes as kept-yes}
 use Rattle.lent.proofs.Walk.{Datum, number, nil, struct, Dens, AreD, listed, spell, lent-as, slice-of, kept, opened, closed, full, told, proved}
-use Rattle.lent.proofs.Lent.{mutable, shared, call-slices, all-freed, begins2, leaves2}
+use Rattle.lent.proofs.Lent.{mutable, shared, call-slices, all-freed, so, begins2, leaves2}
+use Rattle.lent.specs.Left.{Memory}
+use Rattle.sched.specs.Schedule.{switchTo}
+use Rattle.step.specs.Running.{ranBy}
 use Rattle.thread.specs.Thread.{blank}
 use Rattle.thread.specs.Time.{moving-to-active}
-use Rattle.step.specs.Running.{ranBy}
-use Rattle.sched.specs.Schedule.{switchTo}
-use Rattle.sched.proofs.Exits.{by-memory}
 use denote.Struct.Laws as LL
 use Rattle.thread.specs.declared.Thread.{Thread}
 use Rattle.thread.proofs.Thread as Thread·
@@ -174,7 +174,7 @@ module _ {M : Type 1} (𝓤 : URA M) (H : Heap 𝓤) (𝓜 : Model 𝓤 H) (𝓖
         returns ! (look ! 30 refl) $
         move ! (30 ∷ 31 ∷ 28 ∷ 29 ∷ 26 ∷ 27 ∷ 24 ∷ 25 ∷ 22 ∷ 23 ∷ 20 ∷ 21 ∷ 18 ∷ 19 ∷ 16 ∷ 17 ∷ 14 ∷ 15 ∷ 12 ∷ 13 ∷ 10 ∷ 11 ∷ 8 ∷ 9 ∷ 6 ∷ 7 ∷ 4 ∷ 5 ∷ []) $
         all-freed ! mir.locals (l₀ ∷ l₁ ∷ l₂ ∷ l₃ ∷ l₄ ∷ l₅ ∷ l₆ ∷ l₇ ∷ l₈ ∷ l₉ ∷ l₁₀ ∷ l₁₁ ∷ l₁₂ ∷ l₁₃ ∷ []) (full _ ∷ full _ ∷ full _ ∷ full _ ∷ full _ ∷ full _ ∷ full _ ∷ full _ ∷ full _ ∷ full _ ∷ full _ ∷ full _ ∷ full _ ∷ full _ ∷ []) tt $
-        suffices ! _ (ends-at 𝓤 H A switch-to.ended stayed c W y _ (tt) (set ys (a .1 .0) V₁, (V₂, (tt, (tt, tt)))) (sym ((refl ∙ sym (subst (λ (us : List Thread). length us ≡ length ys) (e₁₇) (ls₁₆ .0)))), (sym ((refl ∙ sym (subst (λ (us : List (List ℕ)). length us ≡ length ys′) (e₂₂) (ls₂₁ .0)))), (tt, (tt, tt))))) $ says ! (by-memory (record { threads = (set ys (a .1 .0) V₁); cpus = V₂ }) (switchTo ys ys′ (a .0) (a .1 .0)) (refl)) $
+        suffices ! _ (ends-at 𝓤 H A switch-to.ended stayed c W y _ (tt) (set ys (a .1 .0) V₁, (V₂, (tt, (tt, tt)))) (sym ((refl ∙ sym (subst (λ (us : List Thread). length us ≡ length ys) (e₁₇) (ls₁₆ .0)))), (sym ((refl ∙ sym (subst (λ (us : List (List ℕ)). length us ≡ length ys′) (e₂₂) (ls₂₁ .0)))), (tt, (tt, tt))))) $ says ! (so {X = Memory} (record { threads = (set ys (a .1 .0) V₁); cpus = V₂ }) (switchTo (a .0) (a .1 .0) (record { threads = ys; cpus = ys′ })) (refl)) $
         leaves2 ! nil Ds a (tt) are (refl)))))))))))))))))))))
 
 pub switch-to-spec : {M : Type 1} → stated.statement M

@@ -2,23 +2,17 @@ use Rattle.scheduler.specs.Numbers.{column-of}
 use borrow.Author.Needs.{needs}
 use Rattle.scheduler.proofs.numbers.column_of.Statement.{statement}
 use Rattle.scheduler.proofs.numbers.column_of.Tie as tie
-use Rattle.scheduler.proofs.numbers.column_of.Reads as reads
-use Rattle.scheduler.proofs.numbers.column_of.Lts as lts
 
--- src/numbers.rt:66:23
 enum-known-shown : tie.Need-enum-known-shown
 enum-known-shown c = search needs
 
--- src/numbers.rt:70:24
 enum-told : tie.Need-enum-told
 enum-told c = search needs
 
--- src/numbers.rt:62:1
 returns : tie.Need-returns
 unfolding column-of
 returns c = cc
 
--- src/numbers.rt:62:1
 returns-2 : tie.Need-returns-2
 unfolding column-of
 returns-2 c = cc

@@ -2,32 +2,24 @@ use Rattle.scheduler.specs.Numbers.{runs-of}
 use borrow.Author.Needs.{needs}
 use Rattle.scheduler.proofs.numbers.runs_of.Statement.{statement}
 use Rattle.scheduler.proofs.numbers.runs_of.Tie as tie
-use Rattle.scheduler.proofs.numbers.runs_of.Reads as reads
-use Rattle.scheduler.proofs.numbers.runs_of.Lts as lts
 
--- src/numbers.rt:90:25
 enum-known-running : tie.Need-enum-known-running
 enum-known-running c = search needs
 
--- src/numbers.rt:95:26
 enum-told : tie.Need-enum-told
 enum-told c = search needs
 
--- src/numbers.rt:100:26
 enum-told-2 : tie.Need-enum-told-2
 enum-told-2 c = search needs
 
--- src/numbers.rt:86:1
 returns : tie.Need-returns
 unfolding runs-of
 returns c = cc
 
--- src/numbers.rt:86:1
 returns-2 : tie.Need-returns-2
 unfolding runs-of
 returns-2 c = cc
 
--- src/numbers.rt:86:1
 returns-3 : tie.Need-returns-3
 unfolding runs-of
 returns-3 c = cc

@@ -1,15 +1,11 @@
 use Rattle.scheduler.specs.Numbers.{shown-in}
 use Rattle.scheduler.proofs.numbers.shown_in.Statement.{statement}
 use Rattle.scheduler.proofs.numbers.shown_in.Tie as tie
-use Rattle.scheduler.proofs.numbers.shown_in.Reads as reads
-use Rattle.scheduler.proofs.numbers.shown_in.Lts as lts
 
--- src/numbers.rt:81:9
 returns : tie.Need-returns
 unfolding shown-in
 returns c = simp (c .if1 .taken)
 
--- src/numbers.rt:77:1
 returns-2 : tie.Need-returns-2
 unfolding shown-in
 returns-2 c = simp (c .if1 .left)

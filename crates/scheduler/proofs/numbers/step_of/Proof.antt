@@ -2,15 +2,10 @@ use Rattle.scheduler.specs.Numbers.{step-of}
 use borrow.Author.Needs.{needs}
 use Rattle.scheduler.proofs.numbers.step_of.Statement.{statement}
 use Rattle.scheduler.proofs.numbers.step_of.Tie as tie
-use Rattle.scheduler.proofs.numbers.step_of.Reads as reads
-use Rattle.scheduler.proofs.numbers.step_of.Lts as lts
-use Rattle.scheduler.proofs.numbers.row_of.Reads as row-of-reads
 
--- src/numbers.rt:179:14
 row-of-requires : tie.Need-row-of-requires
 row-of-requires c κs = search needs
 
--- src/numbers.rt:173:1
 returns : tie.Need-returns
 unfolding step-of
 returns c = cc

@@ -6,30 +6,21 @@ use borrow.Author.Tests.{eq-eqb}
 use borrow.Author.Needs.{needs}
 use Rattle.thread.proofs.Thread.get_donated_priority.Statement.{statement}
 use Rattle.thread.proofs.Thread.get_donated_priority.Tie as tie
-use Rattle.thread.proofs.Thread.get_donated_priority.Reads as reads
-use Rattle.thread.proofs.Thread.get_donated_priority.Lts as lts
-use Rattle.thread.proofs.flags.has_donated_priority.Reads as has-donated-priority-reads
-use Rattle.thread.proofs.priority.from_raw.Reads as from-raw-reads
 
--- src/priority.rt:142:12
 has-donated-priority-requires : tie.Need-has-donated-priority-requires
 has-donated-priority-requires c κs = search needs
 
--- src/priority.rt:144:17
 returns : tie.Need-returns
 unfolding donated-in
 returns c = rw (← c .before .before .before .has-donated-priority .ensures, c .before .before .if1 .taken, eq-eqb _ _ (c .if2 .taken))
 
--- src/priority.rt:146:41
 from-raw-requires : tie.Need-from-raw-requires
 from-raw-requires c κs = search needs
 
--- src/priority.rt:146:13
 returns-2 : tie.Need-returns-2
 unfolding donated-in
 returns-2 c = rw (← c .before .before .before .before .has-donated-priority .ensures, c .before .before .before .if1 .taken, ne-eqb _ _ (c .before .if2 .left), c .from-raw .ensures)
 
--- src/priority.rt:139:5
 returns-3 : tie.Need-returns-3
 unfolding donated-in
 returns-3 c = rw (← c .before .has-donated-priority .ensures, c .if1 .left)

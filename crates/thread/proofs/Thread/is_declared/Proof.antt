@@ -2,46 +2,34 @@ use Rattle.thread.specs.Place.{is-declared}
 use borrow.Author.Needs.{needs}
 use Rattle.thread.proofs.Thread.is_declared.Statement.{statement}
 use Rattle.thread.proofs.Thread.is_declared.Tie as tie
-use Rattle.thread.proofs.Thread.is_declared.Reads as reads
-use Rattle.thread.proofs.Thread.is_declared.Lts as lts
-use Rattle.thread.proofs.Thread.place.Reads as place-reads
 
--- src/place.rt:66:13
 place-requires : tie.Need-place-requires
 place-requires c κs = search needs
 
--- src/place.rt:68:34
 enum-told : tie.Need-enum-told
 enum-told c = search needs
 
--- src/place.rt:69:31
 enum-told-2 : tie.Need-enum-told-2
 enum-told-2 c = search needs
 
--- src/place.rt:70:31
 enum-told-3 : tie.Need-enum-told-3
 enum-told-3 c = search needs
 
--- src/place.rt:71:31
 enum-told-4 : tie.Need-enum-told-4
 enum-told-4 c = search needs
 
--- src/place.rt:63:5
 returns : tie.Need-returns
 unfolding is-declared
 returns c = rw (← c .before .before .place .ensures, c .enum-told .given .1)
 
--- src/place.rt:63:5
 returns-2 : tie.Need-returns-2
 unfolding is-declared
 returns-2 c = rw (← c .before .before .place .ensures, c .enum-told2 .given .1)
 
--- src/place.rt:63:5
 returns-3 : tie.Need-returns-3
 unfolding is-declared
 returns-3 c = rw (← c .before .before .place .ensures, c .enum-told3 .given .1)
 
--- src/place.rt:63:5
 returns-4 : tie.Need-returns-4
 unfolding is-declared
 returns-4 c = rw (← c .before .before .place .ensures, c .enum-told4 .given .1)

@@ -3,15 +3,10 @@ use Rattle.thread.specs.Time.{moving-to-active, stored-field}
 use borrow.Author.Needs.{needs}
 use Rattle.thread.proofs.Thread.moving_to_active.Statement.{statement}
 use Rattle.thread.proofs.Thread.moving_to_active.Tie as tie
-use Rattle.thread.proofs.Thread.moving_to_active.Reads as reads
-use Rattle.thread.proofs.Thread.moving_to_active.Lts as lts
-use Rattle.thread.proofs.time.field_of.Reads as field-of-reads
 
--- src/time.rt:135:13
 field-of-requires : tie.Need-field-of-requires
 field-of-requires c κs = search needs
 
--- src/time.rt:132:5
 returns : tie.Need-returns
 unfolding moving-to-active with-last with-queue
 returns c = rw (c .field-of .ensures, stored-field (c .before .args .cpu))

@@ -3,15 +3,10 @@ use Rattle.thread.specs.Time.{moving-to-queue, stored-field}
 use borrow.Author.Needs.{needs}
 use Rattle.thread.proofs.Thread.moving_to_queue.Statement.{statement}
 use Rattle.thread.proofs.Thread.moving_to_queue.Tie as tie
-use Rattle.thread.proofs.Thread.moving_to_queue.Reads as reads
-use Rattle.thread.proofs.Thread.moving_to_queue.Lts as lts
-use Rattle.thread.proofs.time.field_of.Reads as field-of-reads
 
--- src/time.rt:127:13
 field-of-requires : tie.Need-field-of-requires
 field-of-requires c κs = search needs
 
--- src/time.rt:124:5
 returns : tie.Need-returns
 unfolding moving-to-queue with-queue
 returns c = rw (c .field-of .ensures, stored-field (c .before .args .cpu))

@@ -4,25 +4,17 @@ use Rattle.thread.specs.Time.{pay-ticks}
 use borrow.Author.Needs.{needs}
 use Rattle.thread.proofs.Thread.pay_ticks.Statement.{statement}
 use Rattle.thread.proofs.Thread.pay_ticks.Tie as tie
-use Rattle.thread.proofs.Thread.pay_ticks.Reads as reads
-use Rattle.thread.proofs.Thread.pay_ticks.Lts as lts
-use Rattle.thread.proofs.time.narrow_sum.Reads as narrow-sum-reads
-use Rattle.thread.proofs.time.reaches.Reads as reaches-reads
 
--- src/time.rt:103:12
 reaches-requires : tie.Need-reaches-requires
 reaches-requires c κs = search needs
 
--- src/time.rt:105:13
 returns : tie.Need-returns
 unfolding pay-ticks with-timeslice
 returns c = rw (← c .before .reaches .ensures, c .if1 .taken)
 
--- src/time.rt:110:9
 narrow-sum-requires : tie.Need-narrow-sum-requires
 narrow-sum-requires c κs = search needs
 
--- src/time.rt:100:5
 returns-2 : tie.Need-returns-2
 unfolding pay-ticks with-timeslice
 returns-2 c = rw (← c .before .before .reaches .ensures, c .before .if1 .left, c .narrow-sum .ensures)

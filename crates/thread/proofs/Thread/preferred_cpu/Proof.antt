@@ -5,24 +5,16 @@ use mir.ValLaws.{toZ-ofZ}
 use borrow.Author.Needs.{needs}
 use Rattle.thread.proofs.Thread.preferred_cpu.Statement.{statement}
 use Rattle.thread.proofs.Thread.preferred_cpu.Tie as tie
-use Rattle.thread.proofs.Thread.preferred_cpu.Reads as reads
-use Rattle.thread.proofs.Thread.preferred_cpu.Lts as lts
-use Rattle.thread.proofs.time.cpu_in.Reads as cpu-in-reads
-use Rattle.thread.proofs.time.pin_or_last.Reads as pin-or-last-reads
 
--- src/time.rt:153:21
 cpu-in-requires : tie.Need-cpu-in-requires
 cpu-in-requires c κs = search needs
 
--- src/time.rt:153:37
 cpu-in-requires-2 : tie.Need-cpu-in-requires-2
 cpu-in-requires-2 c κs = search needs
 
--- src/time.rt:153:9
 pin-or-last-requires : tie.Need-pin-or-last-requires
 pin-or-last-requires c κs = search needs
 
--- src/time.rt:148:5
 returns : tie.Need-returns
 unfolding preferred-cpu
 returns c = c .pin-or-last .ensures ∙ rw (c .before .cpu-in2 .ensures, c .before .before .cpu-in .ensures, toZ-ofZ w32 (c .before .before .before .before .before .args .self .«pinned_cpu») (record { sfits = c .before .before .before .before .struct-told .given .1 .1 .1 .1 .1 .1 .1 .1 .0 .1 }), toZ-ofZ w32 (c .before .before .before .before .before .args .self .«last_cpu») (record { sfits = c .before .before .before .before .struct-told .given .1 .1 .1 .1 .1 .1 .1 .0 .1 }))

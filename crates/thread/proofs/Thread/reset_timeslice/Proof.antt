@@ -3,10 +3,7 @@ use Rattle.thread.specs.Thread.{with-timeslice}
 use Rattle.thread.specs.Time.{reset-timeslice}
 use Rattle.thread.proofs.Thread.reset_timeslice.Statement.{statement}
 use Rattle.thread.proofs.Thread.reset_timeslice.Tie as tie
-use Rattle.thread.proofs.Thread.reset_timeslice.Reads as reads
-use Rattle.thread.proofs.Thread.reset_timeslice.Lts as lts
 
--- src/time.rt:117:5
 returns : tie.Need-returns
 unfolding reset-timeslice with-timeslice
 returns c = search needs

@@ -2,10 +2,7 @@ use borrow.Author.Needs.{needs}
 use Rattle.thread.specs.Thread.{with-place}
 use Rattle.thread.proofs.Thread.running.Statement.{statement}
 use Rattle.thread.proofs.Thread.running.Tie as tie
-use Rattle.thread.proofs.Thread.running.Reads as reads
-use Rattle.thread.proofs.Thread.running.Lts as lts
 
--- src/place.rt:88:5
 returns : tie.Need-returns
 unfolding with-place
 returns c = search needs

@@ -3,10 +3,7 @@ use Rattle.thread.specs.Thread.{with-deadline}
 use Rattle.thread.specs.Time.{set-deadline}
 use Rattle.thread.proofs.Thread.set_deadline.Statement.{statement}
 use Rattle.thread.proofs.Thread.set_deadline.Tie as tie
-use Rattle.thread.proofs.Thread.set_deadline.Reads as reads
-use Rattle.thread.proofs.Thread.set_deadline.Lts as lts
 
--- src/time.rt:156:5
 returns : tie.Need-returns
 unfolding set-deadline with-deadline
 returns c = search needs

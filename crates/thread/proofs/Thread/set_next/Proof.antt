@@ -2,10 +2,7 @@ use borrow.Author.Needs.{needs}
 use Rattle.thread.specs.Thread.{with-next}
 use Rattle.thread.proofs.Thread.set_next.Statement.{statement}
 use Rattle.thread.proofs.Thread.set_next.Tie as tie
-use Rattle.thread.proofs.Thread.set_next.Reads as reads
-use Rattle.thread.proofs.Thread.set_next.Lts as lts
 
--- src/place.rt:103:5
 returns : tie.Need-returns
 unfolding with-next
 returns c = search needs

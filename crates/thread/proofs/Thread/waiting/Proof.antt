@@ -2,10 +2,7 @@ use borrow.Author.Needs.{needs}
 use Rattle.thread.specs.Thread.{with-place}
 use Rattle.thread.proofs.Thread.waiting.Statement.{statement}
 use Rattle.thread.proofs.Thread.waiting.Tie as tie
-use Rattle.thread.proofs.Thread.waiting.Reads as reads
-use Rattle.thread.proofs.Thread.waiting.Lts as lts
 
--- src/place.rt:95:5
 returns : tie.Need-returns
 unfolding with-place
 returns c = search needs

@@ -2,10 +2,7 @@ use borrow.Author.Needs.{needs}
 use Rattle.thread.specs.Flags.{has-donated-priority}
 use Rattle.thread.proofs.flags.has_donated_priority.Statement.{statement}
 use Rattle.thread.proofs.flags.has_donated_priority.Tie as tie
-use Rattle.thread.proofs.flags.has_donated_priority.Reads as reads
-use Rattle.thread.proofs.flags.has_donated_priority.Lts as lts
 
--- src/flags.rt:7:1
 returns : tie.Need-returns
 unfolding has-donated-priority
 returns c = search needs

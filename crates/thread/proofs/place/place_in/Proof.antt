@@ -4,25 +4,19 @@ use borrow.Author.Tests.{eq-eqb}
 use borrow.Author.Needs.{needs}
 use Rattle.thread.proofs.place.place_in.Statement.{statement}
 use Rattle.thread.proofs.place.place_in.Tie as tie
-use Rattle.thread.proofs.place.place_in.Reads as reads
-use Rattle.thread.proofs.place.place_in.Lts as lts
 
--- src/place.rt:24:1
 returns : tie.Need-returns
 unfolding place-in
 returns c = rw (c .match .keys1)
 
--- src/place.rt:24:1
 returns-2 : tie.Need-returns-2
 unfolding place-in
 returns-2 c = rw (c .match .keys2)
 
--- src/place.rt:24:1
 returns-3 : tie.Need-returns-3
 unfolding place-in
 returns-3 c = rw (c .match .keys3)
 
--- src/place.rt:24:1
 returns-4 : tie.Need-returns-4
 unfolding place-in
 returns-4 c = rw (ne-eqb _ _ (c .match .rest .0 .0 .1), ne-eqb _ _ (c .match .rest .0 .1), ne-eqb _ _ (c .match .rest .1))

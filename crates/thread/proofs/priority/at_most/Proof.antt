@@ -3,20 +3,14 @@ use Rattle.rules.specs.Priority.{at-most}
 use borrow.Author.Needs.{needs}
 use Rattle.thread.proofs.priority.at_most.Statement.{statement}
 use Rattle.thread.proofs.priority.at_most.Tie as tie
-use Rattle.thread.proofs.priority.at_most.Reads as reads
-use Rattle.thread.proofs.priority.at_most.Lts as lts
-use Rattle.thread.proofs.priority.less.Reads as less-reads
 
--- src/priority.rt:132:8
 less-requires : tie.Need-less-requires
 less-requires c κs = search needs
 
--- src/priority.rt:133:9
 returns : tie.Need-returns
 unfolding at-most
 returns c = rw (← c .before .less .ensures, c .if1 .taken)
 
--- src/priority.rt:129:1
 returns-2 : tie.Need-returns-2
 unfolding at-most
 returns-2 c = rw (← c .before .less .ensures, c .if1 .left)

@@ -4,25 +4,19 @@ use borrow.Author.Tests.{eq-eqb}
 use borrow.Author.Needs.{needs}
 use Rattle.thread.proofs.priority.class_at.Statement.{statement}
 use Rattle.thread.proofs.priority.class_at.Tie as tie
-use Rattle.thread.proofs.priority.class_at.Reads as reads
-use Rattle.thread.proofs.priority.class_at.Lts as lts
 
--- src/priority.rt:49:1
 returns : tie.Need-returns
 unfolding class-at
 returns c = rw (c .match .keys1)
 
--- src/priority.rt:49:1
 returns-2 : tie.Need-returns-2
 unfolding class-at
 returns-2 c = rw (c .match .keys2)
 
--- src/priority.rt:49:1
 returns-3 : tie.Need-returns-3
 unfolding class-at
 returns-3 c = rw (c .match .keys3)
 
--- src/priority.rt:49:1
 returns-4 : tie.Need-returns-4
 unfolding class-at
 returns-4 c = rw (ne-eqb _ _ (c .match .rest .0 .0 .1), ne-eqb _ _ (c .match .rest .0 .1), ne-eqb _ _ (c .match .rest .1))

@@ -2,41 +2,31 @@ use Rattle.rules.specs.Priority.{class-number}
 use borrow.Author.Needs.{needs}
 use Rattle.thread.proofs.priority.class_number.Statement.{statement}
 use Rattle.thread.proofs.priority.class_number.Tie as tie
-use Rattle.thread.proofs.priority.class_number.Reads as reads
-use Rattle.thread.proofs.priority.class_number.Lts as lts
 
--- src/priority.rt:41:32
 enum-told : tie.Need-enum-told
 enum-told c = search needs
 
--- src/priority.rt:42:38
 enum-told-2 : tie.Need-enum-told-2
 enum-told-2 c = search needs
 
--- src/priority.rt:43:32
 enum-told-3 : tie.Need-enum-told-3
 enum-told-3 c = search needs
 
--- src/priority.rt:44:36
 enum-told-4 : tie.Need-enum-told-4
 enum-told-4 c = search needs
 
--- src/priority.rt:37:1
 returns : tie.Need-returns
 unfolding class-number
 returns c = search needs
 
--- src/priority.rt:37:1
 returns-2 : tie.Need-returns-2
 unfolding class-number
 returns-2 c = search needs
 
--- src/priority.rt:37:1
 returns-3 : tie.Need-returns-3
 unfolding class-number
 returns-3 c = search needs
 
--- src/priority.rt:37:1
 returns-4 : tie.Need-returns-4
 unfolding class-number
 returns-4 c = search needs

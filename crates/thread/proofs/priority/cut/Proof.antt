@@ -4,19 +4,14 @@ use borrow.Author.Tests.{lt-ltb}
 use borrow.Author.Needs.{needs}
 use Rattle.thread.proofs.priority.cut.Statement.{statement}
 use Rattle.thread.proofs.priority.cut.Tie as tie
-use Rattle.thread.proofs.priority.cut.Reads as reads
-use Rattle.thread.proofs.priority.cut.Lts as lts
 
--- src/priority.rt:64:9
 returns : tie.Need-returns
 unfolding cut nr-values
 returns c = simp (lt-ltb _ _ (c .if1 .taken))
 
--- src/priority.rt:66:5
 sub-result : tie.Need-sub-result
 sub-result c = search needs
 
--- src/priority.rt:60:1
 returns-2 : tie.Need-returns-2
 unfolding cut nr-values
 returns-2 c = simp (le-ltb _ _ (c .if1 .left))

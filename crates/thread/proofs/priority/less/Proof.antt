@@ -5,29 +5,21 @@ use borrow.Author.Tests.{lt-ltb}
 use borrow.Author.Needs.{needs}
 use Rattle.thread.proofs.priority.less.Statement.{statement}
 use Rattle.thread.proofs.priority.less.Tie as tie
-use Rattle.thread.proofs.priority.less.Reads as reads
-use Rattle.thread.proofs.priority.less.Lts as lts
-use Rattle.thread.proofs.priority.class_number.Reads as class-number-reads
 
--- src/priority.rt:89:9
 class-number-requires : tie.Need-class-number-requires
 class-number-requires c κs = search needs
 
--- src/priority.rt:90:9
 class-number-requires-2 : tie.Need-class-number-requires-2
 class-number-requires-2 c κs = search needs
 
--- src/priority.rt:92:9
 returns : tie.Need-returns
 unfolding less
 returns c = rw (← c .before .class-number2 .ensures, ← c .before .before .class-number .ensures, lt-ltb _ _ (c .if1 .taken))
 
--- src/priority.rt:95:9
 returns-2 : tie.Need-returns-2
 unfolding less
 returns-2 c = rw (← c .before .before .before .before .class-number2 .ensures, ← c .before .before .before .before .before .class-number .ensures, le-ltb _ _ (c .before .before .before .if1 .left), eq-eqb _ _ (c .before .before .if2 .taken))
 
--- src/priority.rt:84:1
 returns-3 : tie.Need-returns-3
 unfolding less
 returns-3 c = rw (← c .before .before .class-number2 .ensures, ← c .before .before .before .class-number .ensures, le-ltb _ _ (c .before .if1 .left), ne-eqb _ _ (c .if2 .left))

@@ -2,20 +2,14 @@ use Rattle.rules.specs.Priority.{greater-of, less}
 use borrow.Author.Needs.{needs}
 use Rattle.thread.proofs.priority.max.Statement.{statement}
 use Rattle.thread.proofs.priority.max.Tie as tie
-use Rattle.thread.proofs.priority.max.Reads as reads
-use Rattle.thread.proofs.priority.max.Lts as lts
-use Rattle.thread.proofs.priority.less.Reads as less-reads
 
--- src/priority.rt:103:8
 less-requires : tie.Need-less-requires
 less-requires c κs = search needs
 
--- src/priority.rt:104:9
 returns : tie.Need-returns
 unfolding greater-of
 returns c = rw (← c .before .less .ensures, c .if1 .taken)
 
--- src/priority.rt:100:1
 returns-2 : tie.Need-returns-2
 unfolding greater-of
 returns-2 c = rw (← c .before .less .ensures, c .if1 .left)

@@ -3,18 +3,13 @@ use Rattle.thread.specs.Time.{sign-below}
 use borrow.Author.Needs.{needs}
 use Rattle.thread.proofs.time.cpu_in.Statement.{statement}
 use Rattle.thread.proofs.time.cpu_in.Tie as tie
-use Rattle.thread.proofs.time.cpu_in.Reads as reads
-use Rattle.thread.proofs.time.cpu_in.Lts as lts
 
--- src/time.rt:33:9
 returns : tie.Need-returns
 returns c = sign-below (c .before .args .field) (c .before .fits .field) (c .if1 .taken)
 
--- src/time.rt:35:21
 cast-t3 : tie.Need-cast-t3
 cast-t3 c = sign-above (c .before .args .field) (c .before .fits .field) (c .if1 .left) .0
 
--- src/time.rt:29:1
 returns-2 : tie.Need-returns-2
 returns-2 c = sign-above (c .before .args .field) (c .before .fits .field) (c .if1 .left) .1
 

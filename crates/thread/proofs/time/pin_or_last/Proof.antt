@@ -5,28 +5,20 @@ use Rattle.thread.specs.Time.{preferred-of}
 use borrow.Author.Needs.{needs}
 use Rattle.thread.proofs.time.pin_or_last.Statement.{statement}
 use Rattle.thread.proofs.time.pin_or_last.Tie as tie
-use Rattle.thread.proofs.time.pin_or_last.Reads as reads
-use Rattle.thread.proofs.time.pin_or_last.Lts as lts
-use Rattle.thread.proofs.time.preferred_last.Reads as preferred-last-reads
 
--- src/time.rt:70:25
 enum-known-pinned : tie.Need-enum-known-pinned
 enum-known-pinned c = search needs
 
--- src/time.rt:71:28
 enum-told : tie.Need-enum-told
 enum-told c = search needs
 
--- src/time.rt:71:28
 preferred-last-requires : tie.Need-preferred-last-requires
 preferred-last-requires c κs = search needs
 
--- src/time.rt:66:1
 returns : tie.Need-returns
 unfolding preferred-of
 returns c = rw (c .before .pinned .given .1)
 
--- src/time.rt:66:1
 returns-2 : tie.Need-returns-2
 unfolding preferred-of
 returns-2 c = rw (c .before .enum-told .given .1) (c .preferred-last .ensures)

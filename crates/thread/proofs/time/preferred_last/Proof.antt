@@ -3,23 +3,17 @@ use Rattle.thread.specs.Time.{preferred-last}
 use borrow.Author.Needs.{needs}
 use Rattle.thread.proofs.time.preferred_last.Statement.{statement}
 use Rattle.thread.proofs.time.preferred_last.Tie as tie
-use Rattle.thread.proofs.time.preferred_last.Reads as reads
-use Rattle.thread.proofs.time.preferred_last.Lts as lts
 
--- src/time.rt:79:25
 enum-known-last : tie.Need-enum-known-last
 enum-known-last c = search needs
 
--- src/time.rt:80:28
 enum-told : tie.Need-enum-told
 enum-told c = search needs
 
--- src/time.rt:75:1
 returns : tie.Need-returns
 unfolding preferred-last
 returns c = rw (c .before .last .given .1)
 
--- src/time.rt:75:1
 returns-2 : tie.Need-returns-2
 unfolding preferred-last
 returns-2 c = search needs

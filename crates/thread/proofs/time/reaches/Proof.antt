@@ -6,18 +6,13 @@ use native.Mathlib.Omega.{arith}
 use borrow.Author.Needs.{needs}
 use Rattle.thread.proofs.time.reaches.Statement.{statement}
 use Rattle.thread.proofs.time.reaches.Tie as tie
-use Rattle.thread.proofs.time.reaches.Reads as reads
-use Rattle.thread.proofs.time.reaches.Lts as lts
 
--- src/time.rt:53:9
 returns : tie.Need-returns
 returns c = sym (le-leb (c .before .args .allowed) (c .before .args .paid + c .before .args .ticks) (omega arith))
 
--- src/time.rt:55:5
 sub-result : tie.Need-sub-result
 sub-result c = search needs
 
--- src/time.rt:49:1
 returns-2 : tie.Need-returns-2
 returns-2 c = reach _ _ _ (c .if1 .left)
 

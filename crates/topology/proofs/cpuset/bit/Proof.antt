@@ -2,14 +2,10 @@ use Rattle.topology.specs.CpuSet.{bit}
 use borrow.Author.Needs.{needs}
 use Rattle.topology.proofs.cpuset.bit.Statement.{statement}
 use Rattle.topology.proofs.cpuset.bit.Tie as tie
-use Rattle.topology.proofs.cpuset.bit.Reads as reads
-use Rattle.topology.proofs.cpuset.bit.Lts as lts
 
--- src/cpuset.rt:22:6
 shr-result : tie.Need-shr-result
 shr-result c = search needs
 
--- src/cpuset.rt:19:1
 returns : tie.Need-returns
 unfolding bit
 returns c = search needs

@@ -6,29 +6,20 @@ use Rattle.topology.specs.CpuSet.{bit, clear-bit}
 use borrow.Author.Needs.{needs}
 use Rattle.topology.proofs.cpuset.clear_bit.Statement.{statement}
 use Rattle.topology.proofs.cpuset.clear_bit.Tie as tie
-use Rattle.topology.proofs.cpuset.clear_bit.Reads as reads
-use Rattle.topology.proofs.cpuset.clear_bit.Lts as lts
-use Rattle.topology.proofs.cpuset.bit.Reads as bit-reads
-use Rattle.topology.proofs.cpuset.power.Reads as power-reads
 
--- src/cpuset.rt:39:8
 bit-requires : tie.Need-bit-requires
 bit-requires c κs = search needs
 
--- src/cpuset.rt:40:23
 power-requires : tie.Need-power-requires
 power-requires c κs = search needs
 
--- src/cpuset.rt:40:16
 sub-result : tie.Need-sub-result
 sub-result c = omega (arith, c .power .ensures, sub-fits (c .before .before .before .args .word) (c .before .before .before .args .i) (sym (c .before .before .bit .ensures) ∙ c .before .if1 .taken))
 
--- src/cpuset.rt:40:9
 returns : tie.Need-returns
 unfolding clear-bit
 returns c = rw (← c .before .before .bit .ensures, c .before .if1 .taken, c .power .ensures)
 
--- src/cpuset.rt:36:1
 returns-2 : tie.Need-returns-2
 unfolding clear-bit
 returns-2 c = rw (← c .before .bit .ensures, c .if1 .left)

@@ -3,10 +3,7 @@ use Rattle.questions.specs.Questions.{node-exists}
 use Rattle.rules.specs.Questions.{question}
 use Rattle.questions.proofs.state.State.node_exists.Statement.{statement}
 use Rattle.questions.proofs.state.State.node_exists.Tie as tie
-use Rattle.questions.proofs.state.State.node_exists.Reads as reads
-use Rattle.questions.proofs.state.State.node_exists.Lts as lts
 
--- src/state.rt:28:5
 returns : tie.Need-returns
 unfolding node-exists question
 returns c = search needs

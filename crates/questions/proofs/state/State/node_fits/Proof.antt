@@ -3,10 +3,7 @@ use Rattle.questions.specs.Questions.{node-fits}
 use Rattle.rules.specs.Questions.{question}
 use Rattle.questions.proofs.state.State.node_fits.Statement.{statement}
 use Rattle.questions.proofs.state.State.node_fits.Tie as tie
-use Rattle.questions.proofs.state.State.node_fits.Reads as reads
-use Rattle.questions.proofs.state.State.node_fits.Lts as lts
 
--- src/state.rt:34:5
 returns : tie.Need-returns
 unfolding node-fits question
 returns c = search needs

@@ -3,10 +3,7 @@ use Rattle.questions.specs.Questions.{room}
 use Rattle.rules.specs.Questions.{most-accepted, question}
 use Rattle.questions.proofs.state.State.room.Statement.{statement}
 use Rattle.questions.proofs.state.State.room.Tie as tie
-use Rattle.questions.proofs.state.State.room.Reads as reads
-use Rattle.questions.proofs.state.State.room.Lts as lts
 
--- src/state.rt:49:5
 returns : tie.Need-returns
 unfolding room question most-accepted
 returns c = search needs

@@ -5,15 +5,11 @@ use borrow.Author.Tests.{le-leb}
 use borrow.Author.Needs.{needs}
 use Rattle.questions.proofs.state.State.tick_fits.Statement.{statement}
 use Rattle.questions.proofs.state.State.tick_fits.Tie as tie
-use Rattle.questions.proofs.state.State.tick_fits.Reads as reads
-use Rattle.questions.proofs.state.State.tick_fits.Lts as lts
 
--- src/state.rt:44:13
 returns : tie.Need-returns
 unfolding tick-fits question
 returns c = rw (le-leb _ _ (c .if1 .taken))
 
--- src/state.rt:40:5
 returns-2 : tie.Need-returns-2
 unfolding tick-fits question
 returns-2 c = rw (lt-leb _ _ (c .if1 .left))

@@ -13,8 +13,6 @@ use mathlib.Core.Path.{_≡_}
 use borrow.Author.Needs.{needs}
 use Rattle.queue.proofs.lists.Lists.first_from.Statement.{statement}
 use Rattle.queue.proofs.lists.Lists.first_from.Tie as tie
-use Rattle.queue.proofs.lists.Lists.first_from.Reads as reads
-use Rattle.queue.proofs.lists.Lists.first_from.Lts as lts
 
 abbrev Inv-loop : tie.InvT-loop
 Inv-loop from self start i₀ i = (i ≤ 8) × (firstFrom self from ≡ scanHeads 8 (self .heads) (start + i) (8 - i))
@@ -22,44 +20,34 @@ Inv-loop from self start i₀ i = (i ≤ 8) × (firstFrom self from ≡ scanHead
 abbrev μ-loop : tie.MeasureT-loop
 μ-loop from self start i₀ i = 8 - i
 
--- src/lists.rt:77:9
 loop-holds : tie.Need-loop-holds Inv-loop μ-loop
 unfolding firstFrom nr-buckets
 loop-holds c = (omega arith, scan-start _ _ _ _)
 
--- src/lists.rt:81:23
 add-q : tie.Need-add-q Inv-loop μ-loop
 add-q c = search needs
 
--- src/lists.rt:82:24
 mul-head : tie.Need-mul-head Inv-loop μ-loop
 mul-head c = search needs
 
--- src/lists.rt:82:24
 element-copy-out-head : tie.Need-element-copy-out-head Inv-loop μ-loop
 element-copy-out-head c = search needs
 
--- src/lists.rt:85:30
 add-t15 : tie.Need-add-t15 Inv-loop μ-loop
 add-t15 c = search needs
 
--- src/lists.rt:89:13
 add-i : tie.Need-add-i Inv-loop μ-loop
 add-i c = search needs
 
--- src/lists.rt:77:9
 loop-less : tie.Need-loop-less Inv-loop μ-loop
 loop-less c = search needs
 
--- src/lists.rt:77:9
 loop-again : tie.Need-loop-again Inv-loop μ-loop
 loop-again c = (omega arith, c .before .before .before .loop .inv .1 ∙ scan-step _ _ _ _ _ (omega arith) ∙ rw (eq-eqb _ _ (c .if2 .left)))
 
--- src/lists.rt:72:5
 returns : tie.Need-returns Inv-loop μ-loop
 returns c = sym (c .before .loop .inv .1 ∙ scan-end _ _ _ _ _ (omega arith))
 
--- src/lists.rt:72:5
 returns-2 : tie.Need-returns-2 Inv-loop μ-loop
 returns-2 c = sym (c .before .before .before .loop .inv .1 ∙ scan-step _ _ _ _ _ (omega arith) ∙ rw (ne-eqb _ _ (c .if2 .taken)))
 

@@ -13,8 +13,6 @@ use mathlib.Core.Path.{_≡_}
 use borrow.Author.Needs.{needs}
 use Rattle.queue.proofs.lists.Lists.highest.Statement.{statement}
 use Rattle.queue.proofs.lists.Lists.highest.Tie as tie
-use Rattle.queue.proofs.lists.Lists.highest.Reads as reads
-use Rattle.queue.proofs.lists.Lists.highest.Lts as lts
 
 abbrev Inv-loop : tie.InvT-loop
 Inv-loop self i₀ i = (i ≤ 8) × (highestHeld self ≡ topHeads (self .heads) i)
@@ -22,41 +20,32 @@ Inv-loop self i₀ i = (i ≤ 8) × (highestHeld self ≡ topHeads (self .heads)
 abbrev μ-loop : tie.MeasureT-loop
 μ-loop self i₀ i = i
 
--- src/lists.rt:98:9
 loop-holds : tie.Need-loop-holds Inv-loop μ-loop
 unfolding highestHeld nr-buckets
 loop-holds c = (omega arith, refl)
 
--- src/lists.rt:102:13
 sub-i : tie.Need-sub-i Inv-loop μ-loop
 sub-i c = search needs
 
--- src/lists.rt:104:24
 mul-head : tie.Need-mul-head Inv-loop μ-loop
 mul-head c = search needs
 
--- src/lists.rt:104:24
 element-copy-out-head : tie.Need-element-copy-out-head Inv-loop μ-loop
 element-copy-out-head c = search needs
 
--- src/lists.rt:106:23
 mul-result : tie.Need-mul-result Inv-loop μ-loop
 mul-result c = search needs
 
--- src/lists.rt:98:9
 loop-less : tie.Need-loop-less Inv-loop μ-loop
 loop-less c = search needs
 
--- src/lists.rt:98:9
 loop-again : tie.Need-loop-again Inv-loop μ-loop
 loop-again c = (omega arith, c .before .before .before .loop .inv .1 ∙ top-step _ _ (omega arith) ∙ rw (eq-eqb _ _ (c .if2 .left)))
 
--- src/lists.rt:94:5
 returns : tie.Need-returns Inv-loop μ-loop
 unfolding topHeads
 returns c = sym (c .before .loop .inv .1 ∙ rw (c .if1 .taken))
 
--- src/lists.rt:94:5
 returns-2 : tie.Need-returns-2 Inv-loop μ-loop
 unfolding width
 returns-2 c = sym (c .before .before .before .loop .inv .1 ∙ top-step _ _ (omega arith) ∙ rw (ne-eqb _ _ (c .if2 .taken)))

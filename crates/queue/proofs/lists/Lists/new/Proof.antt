@@ -3,10 +3,7 @@ use Rattle.queue.specs.Lists.{noLists}
 use Rattle.rules.specs.Queue.{nr-buckets}
 use Rattle.queue.proofs.lists.Lists.new.Statement.{statement}
 use Rattle.queue.proofs.lists.Lists.new.Tie as tie
-use Rattle.queue.proofs.lists.Lists.new.Reads as reads
-use Rattle.queue.proofs.lists.Lists.new.Lts as lts
 
--- src/lists.rt:25:5
 returns : tie.Need-returns
 unfolding noLists nr-buckets
 returns c = search needs

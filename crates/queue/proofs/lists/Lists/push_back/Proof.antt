@@ -5,47 +5,35 @@ use borrow.Author.Tests.{eq-eqb}
 use borrow.Author.Needs.{needs}
 use Rattle.queue.proofs.lists.Lists.push_back.Statement.{statement}
 use Rattle.queue.proofs.lists.Lists.push_back.Tie as tie
-use Rattle.queue.proofs.lists.Lists.push_back.Reads as reads
-use Rattle.queue.proofs.lists.Lists.push_back.Lts as lts
 
--- src/lists.rt:39:20
 mul-head : tie.Need-mul-head
 mul-head c = search needs
 
--- src/lists.rt:39:20
 element-copy-out-head : tie.Need-element-copy-out-head
 element-copy-out-head c = search needs
 
--- src/lists.rt:40:20
 mul-tail : tie.Need-mul-tail
 mul-tail c = search needs
 
--- src/lists.rt:40:20
 element-copy-out-tail : tie.Need-element-copy-out-tail
 element-copy-out-tail c = search needs
 
--- src/lists.rt:41:9
 mul-self : tie.Need-mul-self
 mul-self c = search needs
 
--- src/lists.rt:41:9
 element-write-self : tie.Need-element-write-self
 element-write-self c = search needs
 
--- src/lists.rt:43:13
 mul-self-2 : tie.Need-mul-self-2
 mul-self-2 c = search needs
 
--- src/lists.rt:43:13
 element-write-self-2 : tie.Need-element-write-self-2
 element-write-self-2 c = search needs
 
--- src/lists.rt:44:13
 returns : tie.Need-returns
 unfolding pushBack nr-buckets
 returns c = simp (eq-eqb _ _ (c .if1 .taken))
 
--- src/lists.rt:35:5
 returns-2 : tie.Need-returns-2
 unfolding pushBack nr-buckets
 returns-2 c = simp (ne-eqb _ _ (c .if1 .left))

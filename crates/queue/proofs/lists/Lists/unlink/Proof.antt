@@ -5,36 +5,27 @@ use borrow.Author.Tests.{eq-eqb}
 use borrow.Author.Needs.{needs}
 use Rattle.queue.proofs.lists.Lists.unlink.Statement.{statement}
 use Rattle.queue.proofs.lists.Lists.unlink.Tie as tie
-use Rattle.queue.proofs.lists.Lists.unlink.Reads as reads
-use Rattle.queue.proofs.lists.Lists.unlink.Lts as lts
 
--- src/lists.rt:61:13
 mul-self : tie.Need-mul-self
 mul-self c = search needs
 
--- src/lists.rt:61:13
 element-write-self : tie.Need-element-write-self
 element-write-self c = search needs
 
--- src/lists.rt:62:13
 returns : tie.Need-returns
 unfolding unlinked nr-buckets
 returns c = simp (eq-eqb _ _ (c .if1 .taken))
 
--- src/lists.rt:65:13
 mul-self-2 : tie.Need-mul-self-2
 mul-self-2 c = search needs
 
--- src/lists.rt:65:13
 element-write-self-2 : tie.Need-element-write-self-2
 element-write-self-2 c = search needs
 
--- src/lists.rt:66:13
 returns-2 : tie.Need-returns-2
 unfolding unlinked nr-buckets
 returns-2 c = simp (ne-eqb _ _ (c .before .if1 .left), eq-eqb _ _ (c .if2 .taken))
 
--- src/lists.rt:56:5
 returns-3 : tie.Need-returns-3
 unfolding unlinked nr-buckets
 returns-3 c = simp (ne-eqb _ _ (c .before .if1 .left), ne-eqb _ _ (c .if2 .left))

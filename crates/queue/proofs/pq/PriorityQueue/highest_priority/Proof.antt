@@ -4,20 +4,14 @@ use borrow.Author.Tests.{eq-eqb}
 use borrow.Author.Needs.{needs}
 use Rattle.queue.proofs.pq.PriorityQueue.highest_priority.Statement.{statement}
 use Rattle.queue.proofs.pq.PriorityQueue.highest_priority.Tie as tie
-use Rattle.queue.proofs.pq.PriorityQueue.highest_priority.Reads as reads
-use Rattle.queue.proofs.pq.PriorityQueue.highest_priority.Lts as lts
-use Rattle.queue.proofs.lists.Lists.highest.Reads as highest-reads
 
--- src/pq.rt:51:13
 returns : tie.Need-returns
 unfolding pqHighest
 returns c = simp (eq-eqb _ _ (c .if1 .taken))
 
--- src/pq.rt:54:9
 highest-requires : tie.Need-highest-requires
 highest-requires c κs = search needs
 
--- src/pq.rt:47:5
 returns-2 : tie.Need-returns-2
 unfolding pqHighest
 returns-2 c = simp (ne-eqb _ _ (c .before .before .if1 .left)) (c .highest .ensures)

@@ -2,10 +2,7 @@ use borrow.Author.Needs.{needs}
 use Rattle.queue.specs.PriorityQueue.{pqEmpty}
 use Rattle.queue.proofs.pq.PriorityQueue.is_empty.Statement.{statement}
 use Rattle.queue.proofs.pq.PriorityQueue.is_empty.Tie as tie
-use Rattle.queue.proofs.pq.PriorityQueue.is_empty.Reads as reads
-use Rattle.queue.proofs.pq.PriorityQueue.is_empty.Lts as lts
 
--- src/pq.rt:41:5
 returns : tie.Need-returns
 unfolding pqEmpty
 returns c = search needs

@@ -4,34 +4,25 @@ use borrow.Author.Tests.{eq-eqb}
 use borrow.Author.Needs.{needs}
 use Rattle.queue.proofs.timeshare.TimeshareQueue.advance_insert_index.Statement.{statement}
 use Rattle.queue.proofs.timeshare.TimeshareQueue.advance_insert_index.Tie as tie
-use Rattle.queue.proofs.timeshare.TimeshareQueue.advance_insert_index.Reads as reads
-use Rattle.queue.proofs.timeshare.TimeshareQueue.advance_insert_index.Lts as lts
-use Rattle.queue.proofs.timeshare.TimeshareQueue.stepped.Reads as stepped-reads
 
--- src/timeshare.rt:181:13
 returns : tie.Need-returns
 unfolding tsAdvance
 returns c = simp (eq-eqb _ _ (c .if1 .taken))
 
--- src/timeshare.rt:184:13
 stepped-requires : tie.Need-stepped-requires
 stepped-requires c κs = search needs
 
--- src/timeshare.rt:184:13
 returns-2 : tie.Need-returns-2
 unfolding tsAdvance
 returns-2 c = simp (ne-eqb _ _ (c .before .before .before .if1 .left), eq-eqb _ _ (c .before .if2 .taken)) (c .stepped .ensures)
 
--- src/timeshare.rt:187:13
 stepped-requires-2 : tie.Need-stepped-requires-2
 stepped-requires-2 c κs = search needs
 
--- src/timeshare.rt:187:13
 returns-3 : tie.Need-returns-3
 unfolding tsAdvance
 returns-3 c = simp (ne-eqb _ _ (c .before .before .before .before .if1 .left), ne-eqb _ _ (c .before .before .if2 .left), c .before .if3 .taken) (c .stepped2 .ensures)
 
--- src/timeshare.rt:177:5
 returns-4 : tie.Need-returns-4
 unfolding tsAdvance
 returns-4 c = simp (ne-eqb _ _ (c .before .before .before .if1 .left), ne-eqb _ _ (c .before .if2 .left), c .if3 .left)

@@ -8,43 +8,32 @@ use Rattle.queue.specs.Timeshare.{tsBucket}
 use borrow.Author.Needs.{needs}
 use Rattle.queue.proofs.timeshare.TimeshareQueue.bucket.Statement.{statement}
 use Rattle.queue.proofs.timeshare.TimeshareQueue.bucket.Tie as tie
-use Rattle.queue.proofs.timeshare.TimeshareQueue.bucket.Reads as reads
-use Rattle.queue.proofs.timeshare.TimeshareQueue.bucket.Lts as lts
-use Rattle.queue.proofs.timeshare.offset.Reads as offset-reads
 
--- src/timeshare.rt:93:13
 returns : tie.Need-returns
 unfolding tsBucket
 returns c = search needs
 
--- src/timeshare.rt:95:35
 offset-requires : tie.Need-offset-requires
 offset-requires c κs = search needs
 
--- src/timeshare.rt:95:18
 add-q : tie.Need-add-q
 add-q c = search needs
 
--- src/timeshare.rt:97:13
 returns-2 : tie.Need-returns-2
 unfolding tsBucket tsIndex
 returns-2 c = rw (c .before .before .if1 .left, ← round-sum, ← c .before .offset .ensures, ne-eqb _ _ (c .if2 .taken))
 
--- src/timeshare.rt:100:13
 returns-3 : tie.Need-returns-3
 unfolding tsBucket tsIndex
 returns-3 c = rw (c .before .before .before .if1 .left, ← round-sum, ← c .before .before .offset .ensures, eq-eqb _ _ (c .before .if2 .left), eq-eqb _ _ (c .if3 .taken))
 
--- src/timeshare.rt:103:13
 returns-4 : tie.Need-returns-4
 unfolding tsBucket tsIndex
 returns-4 c = rw (c .before .before .before .before .if1 .left, ← round-sum, ← c .before .before .before .offset .ensures, eq-eqb _ _ (c .before .before .if2 .left), ne-eqb _ _ (c .before .if3 .left)) (back-zero _ (c .if4 .taken))
 
--- src/timeshare.rt:105:9
 sub-result : tie.Need-sub-result
 sub-result c = search needs
 
--- src/timeshare.rt:87:5
 returns-5 : tie.Need-returns-5
 unfolding tsBucket tsIndex
 returns-5 c = rw (c .before .before .before .before .if1 .left, ← round-sum, ← c .before .before .before .offset .ensures, eq-eqb _ _ (c .before .before .if2 .left), ne-eqb _ _ (c .before .if3 .left)) (back-one _ (c .if4 .left))

@@ -4,20 +4,14 @@ use borrow.Author.Tests.{eq-eqb}
 use borrow.Author.Needs.{needs}
 use Rattle.queue.proofs.timeshare.TimeshareQueue.front.Statement.{statement}
 use Rattle.queue.proofs.timeshare.TimeshareQueue.front.Tie as tie
-use Rattle.queue.proofs.timeshare.TimeshareQueue.front.Reads as reads
-use Rattle.queue.proofs.timeshare.TimeshareQueue.front.Lts as lts
-use Rattle.queue.proofs.lists.Lists.first_from.Reads as first-from-reads
 
--- src/timeshare.rt:132:13
 returns : tie.Need-returns
 unfolding tsFront
 returns c = simp (eq-eqb _ _ (c .if1 .taken))
 
--- src/timeshare.rt:135:9
 first-from-requires : tie.Need-first-from-requires
 first-from-requires c κs = search needs
 
--- src/timeshare.rt:128:5
 returns-2 : tie.Need-returns-2
 unfolding tsFront
 returns-2 c = simp (ne-eqb _ _ (c .before .before .if1 .left)) (c .first-from .ensures)

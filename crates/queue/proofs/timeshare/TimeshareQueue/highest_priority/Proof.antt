@@ -12,8 +12,6 @@ use mathlib.Core.Path.{_≡_}
 use borrow.Author.Needs.{needs}
 use Rattle.queue.proofs.timeshare.TimeshareQueue.highest_priority.Statement.{statement}
 use Rattle.queue.proofs.timeshare.TimeshareQueue.highest_priority.Tie as tie
-use Rattle.queue.proofs.timeshare.TimeshareQueue.highest_priority.Reads as reads
-use Rattle.queue.proofs.timeshare.TimeshareQueue.highest_priority.Lts as lts
 
 abbrev Inv-loop : tie.InvT-loop
 Inv-loop self i₀ i = (i ≤ 8) × (tsHighest self ≡ topCounts (self .priorities) i)
@@ -21,46 +19,36 @@ Inv-loop self i₀ i = (i ≤ 8) × (tsHighest self ≡ topCounts (self .priorit
 abbrev μ-loop : tie.MeasureT-loop
 μ-loop self i₀ i = i
 
--- src/timeshare.rt:70:13
 returns : tie.Need-returns Inv-loop μ-loop
 unfolding tsHighest
 returns c = simp (eq-eqb _ _ (c .if1 .taken))
 
--- src/timeshare.rt:73:9
 loop-holds : tie.Need-loop-holds Inv-loop μ-loop
 unfolding tsHighest nr-buckets
 loop-holds c = (omega arith, simp (ne-eqb _ _ (c .if1 .left)))
 
--- src/timeshare.rt:77:13
 sub-i : tie.Need-sub-i Inv-loop μ-loop
 sub-i c = search needs
 
--- src/timeshare.rt:79:27
 mul-waiting : tie.Need-mul-waiting Inv-loop μ-loop
 mul-waiting c = search needs
 
--- src/timeshare.rt:79:27
 element-copy-out-waiting : tie.Need-element-copy-out-waiting Inv-loop μ-loop
 element-copy-out-waiting c = search needs
 
--- src/timeshare.rt:81:23
 mul-result : tie.Need-mul-result Inv-loop μ-loop
 mul-result c = search needs
 
--- src/timeshare.rt:73:9
 loop-less : tie.Need-loop-less Inv-loop μ-loop
 loop-less c = search needs
 
--- src/timeshare.rt:73:9
 loop-again : tie.Need-loop-again Inv-loop μ-loop
 loop-again c = (omega arith, c .before .before .before .loop .inv .1 ∙ tops-step _ _ (omega arith) ∙ rw (eq-eqb _ _ (c .if3 .left)))
 
--- src/timeshare.rt:66:5
 returns-2 : tie.Need-returns-2 Inv-loop μ-loop
 unfolding topCounts
 returns-2 c = sym (c .before .loop .inv .1 ∙ rw (c .if2 .taken))
 
--- src/timeshare.rt:66:5
 returns-3 : tie.Need-returns-3 Inv-loop μ-loop
 unfolding width
 returns-3 c = sym (c .before .before .before .loop .inv .1 ∙ tops-step _ _ (omega arith) ∙ rw (ne-eqb _ _ (c .if3 .taken)))

@@ -2,10 +2,7 @@ use borrow.Author.Needs.{needs}
 use Rattle.queue.specs.Timeshare.{tsEmpty}
 use Rattle.queue.proofs.timeshare.TimeshareQueue.is_empty.Statement.{statement}
 use Rattle.queue.proofs.timeshare.TimeshareQueue.is_empty.Tie as tie
-use Rattle.queue.proofs.timeshare.TimeshareQueue.is_empty.Reads as reads
-use Rattle.queue.proofs.timeshare.TimeshareQueue.is_empty.Lts as lts
 
--- src/timeshare.rt:59:5
 returns : tie.Need-returns
 unfolding tsEmpty
 returns c = search needs

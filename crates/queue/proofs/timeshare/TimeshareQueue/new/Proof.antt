@@ -3,15 +3,10 @@ use Rattle.rules.specs.Queue.{nr-buckets}
 use borrow.Author.Needs.{needs}
 use Rattle.queue.proofs.timeshare.TimeshareQueue.new.Statement.{statement}
 use Rattle.queue.proofs.timeshare.TimeshareQueue.new.Tie as tie
-use Rattle.queue.proofs.timeshare.TimeshareQueue.new.Reads as reads
-use Rattle.queue.proofs.timeshare.TimeshareQueue.new.Lts as lts
-use Rattle.queue.proofs.lists.Lists.new.Reads as new-reads
 
--- src/timeshare.rt:48:13
 new-requires : tie.Need-new-requires
 new-requires c κs = search needs
 
--- src/timeshare.rt:45:5
 returns : tie.Need-returns
 unfolding noTimeshare nr-buckets
 returns c = cc

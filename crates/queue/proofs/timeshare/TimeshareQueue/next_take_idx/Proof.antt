@@ -6,29 +6,22 @@ use borrow.Author.Tests.{ne-eqb}
 use borrow.Author.Needs.{needs}
 use Rattle.queue.proofs.timeshare.TimeshareQueue.next_take_idx.Statement.{statement}
 use Rattle.queue.proofs.timeshare.TimeshareQueue.next_take_idx.Tie as tie
-use Rattle.queue.proofs.timeshare.TimeshareQueue.next_take_idx.Reads as reads
-use Rattle.queue.proofs.timeshare.TimeshareQueue.next_take_idx.Lts as lts
 
--- src/timeshare.rt:143:13
 returns : tie.Need-returns
 unfolding tsNext nr-buckets
 returns c = simp (ne-eqb _ _ (c .if1 .taken))
 
--- src/timeshare.rt:146:13
 returns-2 : tie.Need-returns-2
 unfolding tsNext nr-buckets
 returns-2 c = simp (ne-eqb _ _ (c .if2 .taken), eq-eqb _ _ (c .before .if1 .left))
 
--- src/timeshare.rt:149:13
 returns-3 : tie.Need-returns-3
 unfolding tsNext nr-buckets
 returns-3 c = simp (eq-eqb _ _ (c .if3 .taken), eq-eqb _ _ (c .before .before .if2 .left), eq-eqb _ _ (c .before .before .before .if1 .left))
 
--- src/timeshare.rt:151:10
 add-result : tie.Need-add-result
 add-result c = search needs
 
--- src/timeshare.rt:139:5
 returns-4 : tie.Need-returns-4
 unfolding tsNext
 returns-4 c = simp (ne-eqb _ _ (c .if3 .left), eq-eqb _ _ (c .before .before .if2 .left), eq-eqb _ _ (c .before .before .before .if1 .left)) (round-next _)

@@ -2,14 +2,10 @@ use Rattle.queue.specs.Timeshare.{round-sum, tsStep}
 use borrow.Author.Needs.{needs}
 use Rattle.queue.proofs.timeshare.TimeshareQueue.stepped.Statement.{statement}
 use Rattle.queue.proofs.timeshare.TimeshareQueue.stepped.Tie as tie
-use Rattle.queue.proofs.timeshare.TimeshareQueue.stepped.Reads as reads
-use Rattle.queue.proofs.timeshare.TimeshareQueue.stepped.Lts as lts
 
--- src/timeshare.rt:173:28
 add-self : tie.Need-add-self
 add-self c = search needs
 
--- src/timeshare.rt:170:5
 returns : tie.Need-returns
 unfolding tsStep
 returns c = rw (round-sum _ _)

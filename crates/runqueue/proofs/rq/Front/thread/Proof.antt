@@ -2,23 +2,17 @@ use Rattle.runqueue.specs.RunQueue.{frontThread}
 use borrow.Author.Needs.{needs}
 use Rattle.runqueue.proofs.rq.Front.thread.Statement.{statement}
 use Rattle.runqueue.proofs.rq.Front.thread.Tie as tie
-use Rattle.runqueue.proofs.rq.Front.thread.Reads as reads
-use Rattle.runqueue.proofs.rq.Front.thread.Lts as lts
 
--- src/rq.rt:159:17
 enum-known-self : tie.Need-enum-known-self
 enum-known-self c = search needs
 
--- src/rq.rt:161:31
 enum-told : tie.Need-enum-told
 enum-told c = search needs
 
--- src/rq.rt:152:5
 returns : tie.Need-returns
 unfolding frontThread
 returns c = search needs
 
--- src/rq.rt:152:5
 returns-2 : tie.Need-returns-2
 unfolding frontThread
 returns-2 c = search needs

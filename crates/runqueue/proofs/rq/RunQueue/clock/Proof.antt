@@ -2,15 +2,10 @@ use Rattle.runqueue.specs.RunQueue.{rqClock, withTimeshare}
 use borrow.Author.Needs.{needs}
 use Rattle.runqueue.proofs.rq.RunQueue.clock.Statement.{statement}
 use Rattle.runqueue.proofs.rq.RunQueue.clock.Tie as tie
-use Rattle.runqueue.proofs.rq.RunQueue.clock.Reads as reads
-use Rattle.runqueue.proofs.rq.RunQueue.clock.Lts as lts
-use Rattle.queue.proofs.timeshare.TimeshareQueue.advance_insert_index.Reads as advance-insert-index-reads
 
--- src/rq.rt:439:13
 advance-insert-index-requires : tie.Need-advance-insert-index-requires
 advance-insert-index-requires c κs = search needs
 
--- src/rq.rt:435:5
 returns : tie.Need-returns
 unfolding rqClock withTimeshare
 returns c = cc

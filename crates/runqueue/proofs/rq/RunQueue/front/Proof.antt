@@ -4,29 +4,21 @@ use borrow.Author.Tests.{eq-eqb}
 use borrow.Author.Needs.{needs}
 use Rattle.runqueue.proofs.rq.RunQueue.front.Statement.{statement}
 use Rattle.runqueue.proofs.rq.RunQueue.front.Tie as tie
-use Rattle.runqueue.proofs.rq.RunQueue.front.Reads as reads
-use Rattle.runqueue.proofs.rq.RunQueue.front.Lts as lts
-use Rattle.runqueue.proofs.rq.RunQueue.front_realtime.Reads as front-realtime-reads
 
--- src/rq.rt:340:17
 returns : tie.Need-returns
 unfolding rqFront
 returns c = simp (c .before .before .if1 .taken, eq-eqb _ _ (c .if2 .taken))
 
--- src/rq.rt:342:13
 front-realtime-requires : tie.Need-front-realtime-requires
 front-realtime-requires c κs = search needs
 
--- src/rq.rt:342:13
 returns-2 : tie.Need-returns-2
 unfolding rqFront
 returns-2 c = simp (c .before .before .before .if1 .taken, ne-eqb _ _ (c .before .if2 .left)) (c .front-realtime .ensures)
 
--- src/rq.rt:344:9
 front-realtime-requires-2 : tie.Need-front-realtime-requires-2
 front-realtime-requires-2 c κs = search needs
 
--- src/rq.rt:335:5
 returns-3 : tie.Need-returns-3
 unfolding rqFront
 returns-3 c = simp (c .before .if1 .left) (c .front-realtime2 .ensures)

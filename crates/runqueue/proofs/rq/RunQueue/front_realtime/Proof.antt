@@ -5,33 +5,23 @@ use mathlib.Core.Path.{_∙_, ap, sym}
 use borrow.Author.Needs.{needs}
 use Rattle.runqueue.proofs.rq.RunQueue.front_realtime.Statement.{statement}
 use Rattle.runqueue.proofs.rq.RunQueue.front_realtime.Tie as tie
-use Rattle.runqueue.proofs.rq.RunQueue.front_realtime.Reads as reads
-use Rattle.runqueue.proofs.rq.RunQueue.front_realtime.Lts as lts
-use Rattle.queue.proofs.pq.PriorityQueue.front.Reads as front-reads
-use Rattle.runqueue.proofs.rq.RunQueue.front_timeshare.Reads as front-timeshare-reads
 
--- src/rq.rt:323:13
 front-requires : tie.Need-front-requires
 front-requires c κs = search needs
 
--- src/rq.rt:325:25
 enum-known-found : tie.Need-enum-known-found
 enum-known-found c = search needs
 
--- src/rq.rt:330:31
 enum-told : tie.Need-enum-told
 enum-told c = search needs
 
--- src/rq.rt:330:31
 front-timeshare-requires : tie.Need-front-timeshare-requires
 front-timeshare-requires c κs = search needs
 
--- src/rq.rt:319:5
 returns : tie.Need-returns
 unfolding rqFrontRealtime firstIn
 returns c = ap (λ (f : Found). firstIn part.Realtime f (rqFrontTimeshare (c .before .before .before .before .before .args .self))) (sym (c .before .found .given .1) ∙ c .before .before .before .front .ensures)
 
--- src/rq.rt:319:5
 returns-2 : tie.Need-returns-2
 unfolding rqFrontRealtime firstIn
 returns-2 c = c .front-timeshare .ensures ∙ ap (λ (f : Found). firstIn part.Realtime f (rqFrontTimeshare (c .before .before .before .before .before .args .self))) (sym (c .before .enum-told .given .1) ∙ c .before .before .before .front .ensures)

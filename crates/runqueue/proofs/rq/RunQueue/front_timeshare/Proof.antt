@@ -5,33 +5,23 @@ use mathlib.Core.Path.{_∙_, ap, sym}
 use borrow.Author.Needs.{needs}
 use Rattle.runqueue.proofs.rq.RunQueue.front_timeshare.Statement.{statement}
 use Rattle.runqueue.proofs.rq.RunQueue.front_timeshare.Tie as tie
-use Rattle.runqueue.proofs.rq.RunQueue.front_timeshare.Reads as reads
-use Rattle.runqueue.proofs.rq.RunQueue.front_timeshare.Lts as lts
-use Rattle.queue.proofs.timeshare.TimeshareQueue.front.Reads as front-reads
-use Rattle.runqueue.proofs.rq.RunQueue.front_idle.Reads as front-idle-reads
 
--- src/rq.rt:308:13
 front-requires : tie.Need-front-requires
 front-requires c κs = search needs
 
--- src/rq.rt:310:25
 enum-known-found : tie.Need-enum-known-found
 enum-known-found c = search needs
 
--- src/rq.rt:315:31
 enum-told : tie.Need-enum-told
 enum-told c = search needs
 
--- src/rq.rt:315:31
 front-idle-requires : tie.Need-front-idle-requires
 front-idle-requires c κs = search needs
 
--- src/rq.rt:304:5
 returns : tie.Need-returns
 unfolding rqFrontTimeshare firstIn
 returns c = ap (λ (f : Found). firstIn part.Timeshare f (rqFrontIdle (c .before .before .before .before .before .args .self))) (sym (c .before .found .given .1) ∙ c .before .before .before .front .ensures)
 
--- src/rq.rt:304:5
 returns-2 : tie.Need-returns-2
 unfolding rqFrontTimeshare firstIn
 returns-2 c = c .front-idle .ensures ∙ ap (λ (f : Found). firstIn part.Timeshare f (rqFrontIdle (c .before .before .before .before .before .args .self))) (sym (c .before .enum-told .given .1) ∙ c .before .before .before .front .ensures)

@@ -5,69 +5,50 @@ use mathlib.Core.Path.{_∙_}
 use borrow.Author.Needs.{needs}
 use Rattle.runqueue.proofs.rq.RunQueue.insert.Statement.{statement}
 use Rattle.runqueue.proofs.rq.RunQueue.insert.Tie as tie
-use Rattle.runqueue.proofs.rq.RunQueue.insert.Reads as reads
-use Rattle.runqueue.proofs.rq.RunQueue.insert.Lts as lts
-use Rattle.runqueue.proofs.rq.RunQueue.insert_idle.Reads as insert-idle-reads
-use Rattle.runqueue.proofs.rq.RunQueue.insert_realtime.Reads as insert-realtime-reads
-use Rattle.runqueue.proofs.rq.RunQueue.insert_timeshare.Reads as insert-timeshare-reads
 
--- src/rq.rt:276:40
 enum-told : tie.Need-enum-told
 enum-told c = search needs
 
--- src/rq.rt:276:40
 insert-realtime-requires : tie.Need-insert-realtime-requires
 insert-realtime-requires c κs = search needs
 
--- src/rq.rt:278:20
 enum-told-2 : tie.Need-enum-told-2
 enum-told-2 c = search needs
 
--- src/rq.rt:279:21
 insert-realtime-requires-2 : tie.Need-insert-realtime-requires-2
 insert-realtime-requires-2 c κs = search needs
 
--- src/rq.rt:281:21
 insert-timeshare-requires : tie.Need-insert-timeshare-requires
 insert-timeshare-requires c κs = search needs
 
--- src/rq.rt:284:42
 enum-told-3 : tie.Need-enum-told-3
 enum-told-3 c = search needs
 
--- src/rq.rt:284:42
 insert-idle-requires : tie.Need-insert-idle-requires
 insert-idle-requires c κs = search needs
 
--- src/rq.rt:285:36
 enum-told-4 : tie.Need-enum-told-4
 enum-told-4 c = search needs
 
--- src/rq.rt:285:36
 insert-idle-requires-2 : tie.Need-insert-idle-requires-2
 insert-idle-requires-2 c κs = search needs
 
--- src/rq.rt:270:5
 returns : tie.Need-returns
 unfolding part-of rqInsertInto
 returns c = c .insert-realtime .ensures ∙ insert-into _ _ part.Realtime (rw (c .before .enum-told .given .1))
 
--- src/rq.rt:270:5
 returns-2 : tie.Need-returns-2
 unfolding part-of rqInsertInto
 returns-2 c = c .insert-realtime2 .ensures ∙ insert-into _ _ part.Realtime (rw (c .before .before .enum-told2 .given .1, c .before .if1 .taken))
 
--- src/rq.rt:270:5
 returns-3 : tie.Need-returns-3
 unfolding part-of rqInsertInto
 returns-3 c = c .insert-timeshare .ensures ∙ insert-into _ _ part.Timeshare (rw (c .before .before .enum-told2 .given .1, c .before .if1 .left))
 
--- src/rq.rt:270:5
 returns-4 : tie.Need-returns-4
 unfolding part-of rqInsertInto
 returns-4 c = c .insert-idle .ensures ∙ insert-into _ _ part.Idle (rw (c .before .enum-told3 .given .1))
 
--- src/rq.rt:270:5
 returns-5 : tie.Need-returns-5
 unfolding part-of rqInsertInto
 returns-5 c = c .insert-idle2 .ensures ∙ insert-into _ _ part.Idle (rw (c .before .enum-told4 .given .1))

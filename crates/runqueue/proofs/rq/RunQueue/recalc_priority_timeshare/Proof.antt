@@ -3,15 +3,10 @@ use Rattle.runqueue.specs.RunQueue.{advertising, rqRecalc}
 use borrow.Author.Needs.{needs}
 use Rattle.runqueue.proofs.rq.RunQueue.recalc_priority_timeshare.Statement.{statement}
 use Rattle.runqueue.proofs.rq.RunQueue.recalc_priority_timeshare.Tie as tie
-use Rattle.runqueue.proofs.rq.RunQueue.recalc_priority_timeshare.Reads as reads
-use Rattle.runqueue.proofs.rq.RunQueue.recalc_priority_timeshare.Lts as lts
-use Rattle.runqueue.proofs.rq.said_timeshare.Reads as said-timeshare-reads
 
--- src/rq.rt:372:9
 said-timeshare-requires : tie.Need-said-timeshare-requires
 said-timeshare-requires c κs = search needs
 
--- src/rq.rt:367:5
 returns : tie.Need-returns
 unfolding rqRecalc advertising
 returns c = rw (c .said-timeshare .ensures)

@@ -4,60 +4,43 @@ use mathlib.Core.Path.{_∙_}
 use borrow.Author.Needs.{needs}
 use Rattle.runqueue.proofs.rq.RunQueue.taken.Statement.{statement}
 use Rattle.runqueue.proofs.rq.RunQueue.taken.Tie as tie
-use Rattle.runqueue.proofs.rq.RunQueue.taken.Reads as reads
-use Rattle.runqueue.proofs.rq.RunQueue.taken.Lts as lts
-use Rattle.runqueue.proofs.rq.RunQueue.taken_idle.Reads as taken-idle-reads
-use Rattle.runqueue.proofs.rq.RunQueue.taken_realtime.Reads as taken-realtime-reads
-use Rattle.runqueue.proofs.rq.RunQueue.taken_timeshare.Reads as taken-timeshare-reads
 
--- src/rq.rt:405:17
 enum-known-front : tie.Need-enum-known-front
 enum-known-front c = search needs
 
--- src/rq.rt:409:35
 enum-told : tie.Need-enum-told
 enum-told c = search needs
 
--- src/rq.rt:409:35
 taken-realtime-requires : tie.Need-taken-realtime-requires
 taken-realtime-requires c κs = search needs
 
--- src/rq.rt:410:36
 enum-told-2 : tie.Need-enum-told-2
 enum-told-2 c = search needs
 
--- src/rq.rt:410:36
 taken-timeshare-requires : tie.Need-taken-timeshare-requires
 taken-timeshare-requires c κs = search needs
 
--- src/rq.rt:411:31
 enum-told-3 : tie.Need-enum-told-3
 enum-told-3 c = search needs
 
--- src/rq.rt:411:31
 taken-idle-requires : tie.Need-taken-idle-requires
 taken-idle-requires c κs = search needs
 
--- src/rq.rt:413:31
 enum-told-4 : tie.Need-enum-told-4
 enum-told-4 c = search needs
 
--- src/rq.rt:400:5
 returns : tie.Need-returns
 unfolding rqTakenFrom
 returns c = c .taken-realtime .ensures ∙ taken-from _ _ _ _ _ _ _ _ _ _ (c .before .before .before .before .front .given .1) (c .before .enum-told .given .1)
 
--- src/rq.rt:400:5
 returns-2 : tie.Need-returns-2
 unfolding rqTakenFrom
 returns-2 c = c .taken-timeshare .ensures ∙ taken-from _ _ _ _ _ _ _ _ _ _ (c .before .before .before .before .front .given .1) (c .before .enum-told2 .given .1)
 
--- src/rq.rt:400:5
 returns-3 : tie.Need-returns-3
 unfolding rqTakenFrom
 returns-3 c = c .taken-idle .ensures ∙ taken-from _ _ _ _ _ _ _ _ _ _ (c .before .before .before .before .front .given .1) (c .before .enum-told3 .given .1)
 
--- src/rq.rt:400:5
 returns-4 : tie.Need-returns-4
 unfolding rqTaken
 returns-4 c = rw (c .enum-told4 .given .1)

@@ -2,46 +2,34 @@ use Rattle.rules.specs.Times.{timeslice}
 use borrow.Author.Needs.{needs}
 use Rattle.runqueue.proofs.rq.RunQueue.timeslice.Statement.{statement}
 use Rattle.runqueue.proofs.rq.RunQueue.timeslice.Tie as tie
-use Rattle.runqueue.proofs.rq.RunQueue.timeslice.Reads as reads
-use Rattle.runqueue.proofs.rq.RunQueue.timeslice.Lts as lts
-use Rattle.runqueue.proofs.rq.user_timeslice.Reads as user-timeslice-reads
 
--- src/rq.rt:421:36
 enum-told : tie.Need-enum-told
 enum-told c = search needs
 
--- src/rq.rt:421:36
 user-timeslice-requires : tie.Need-user-timeslice-requires
 user-timeslice-requires c κs = search needs
 
--- src/rq.rt:422:40
 enum-told-2 : tie.Need-enum-told-2
 enum-told-2 c = search needs
 
--- src/rq.rt:423:42
 enum-told-3 : tie.Need-enum-told-3
 enum-told-3 c = search needs
 
--- src/rq.rt:424:36
 enum-told-4 : tie.Need-enum-told-4
 enum-told-4 c = search needs
 
--- src/rq.rt:417:5
 returns : tie.Need-returns
 unfolding timeslice
 returns c = rw (c .before .enum-told .given .1) (c .user-timeslice .ensures)
 
--- src/rq.rt:417:5
 returns-2 : tie.Need-returns-2
 unfolding timeslice
 returns-2 c = rw (c .enum-told2 .given .1)
 
--- src/rq.rt:417:5
 returns-3 : tie.Need-returns-3
 unfolding timeslice
 returns-3 c = rw (c .enum-told3 .given .1)
 
--- src/rq.rt:417:5
 returns-4 : tie.Need-returns-4
 unfolding timeslice
 returns-4 c = rw (c .enum-told4 .given .1)

@@ -2,10 +2,7 @@ use borrow.Author.Needs.{needs}
 use Rattle.topology.specs.CpuSet.{all}
 use Rattle.topology.proofs.cpuset.CpuSet.all.Statement.{statement}
 use Rattle.topology.proofs.cpuset.CpuSet.all.Tie as tie
-use Rattle.topology.proofs.cpuset.CpuSet.all.Reads as reads
-use Rattle.topology.proofs.cpuset.CpuSet.all.Lts as lts
 
--- src/cpuset.rt:46:5
 returns : tie.Need-returns
 unfolding all
 returns c = search needs

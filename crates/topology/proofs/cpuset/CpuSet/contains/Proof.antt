@@ -5,28 +5,20 @@ use Rattle.topology.specs.CpuSet.{contains, max-cpu-id, word-of}
 use borrow.Author.Needs.{needs}
 use Rattle.topology.proofs.cpuset.CpuSet.contains.Statement.{statement}
 use Rattle.topology.proofs.cpuset.CpuSet.contains.Tie as tie
-use Rattle.topology.proofs.cpuset.CpuSet.contains.Reads as reads
-use Rattle.topology.proofs.cpuset.CpuSet.contains.Lts as lts
-use Rattle.topology.proofs.cpuset.bit.Reads as bit-reads
 
--- src/cpuset.rt:67:24
 mul-bit : tie.Need-mul-bit
 mul-bit c = search needs
 
--- src/cpuset.rt:67:24
 element-copy-out-bit : tie.Need-element-copy-out-bit
 element-copy-out-bit c = search needs
 
--- src/cpuset.rt:67:13
 bit-requires : tie.Need-bit-requires
 bit-requires c κs = search needs
 
--- src/cpuset.rt:67:13
 returns : tie.Need-returns
 unfolding contains max-cpu-id word-of
 returns c = rw (lt-ltb _ _ (c .before .before .if1 .taken)) (c .bit .ensures)
 
--- src/cpuset.rt:62:5
 returns-2 : tie.Need-returns-2
 unfolding contains max-cpu-id
 returns-2 c = simp (le-ltb _ _ (c .if1 .left))

@@ -2,10 +2,7 @@ use borrow.Author.Needs.{needs}
 use Rattle.topology.specs.CpuSet.{empty}
 use Rattle.topology.proofs.cpuset.CpuSet.empty.Statement.{statement}
 use Rattle.topology.proofs.cpuset.CpuSet.empty.Tie as tie
-use Rattle.topology.proofs.cpuset.CpuSet.empty.Reads as reads
-use Rattle.topology.proofs.cpuset.CpuSet.empty.Lts as lts
 
--- src/cpuset.rt:54:5
 returns : tie.Need-returns
 unfolding empty
 returns c = search needs

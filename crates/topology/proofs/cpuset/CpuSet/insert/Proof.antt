@@ -5,36 +5,26 @@ use borrow.Author.Tests.{le-ltb}
 use borrow.Author.Needs.{needs}
 use Rattle.topology.proofs.cpuset.CpuSet.insert.Statement.{statement}
 use Rattle.topology.proofs.cpuset.CpuSet.insert.Tie as tie
-use Rattle.topology.proofs.cpuset.CpuSet.insert.Reads as reads
-use Rattle.topology.proofs.cpuset.CpuSet.insert.Lts as lts
-use Rattle.topology.proofs.cpuset.set_bit.Reads as set-bit-reads
 
--- src/cpuset.rt:77:24
 mul-word : tie.Need-mul-word
 mul-word c = search needs
 
--- src/cpuset.rt:77:24
 element-copy-out-word : tie.Need-element-copy-out-word
 element-copy-out-word c = search needs
 
--- src/cpuset.rt:78:27
 set-bit-requires : tie.Need-set-bit-requires
 set-bit-requires c κs = search needs
 
--- src/cpuset.rt:78:13
 mul-self : tie.Need-mul-self
 mul-self c = search needs
 
--- src/cpuset.rt:78:13
 element-write-self : tie.Need-element-write-self
 element-write-self c = search needs
 
--- src/cpuset.rt:79:13
 returns : tie.Need-returns
 unfolding insert max-cpu-id word-of
 returns c = rw (lt-ltb _ _ (c .before .before .if1 .taken), c .set-bit .ensures)
 
--- src/cpuset.rt:72:5
 returns-2 : tie.Need-returns-2
 unfolding insert max-cpu-id
 returns-2 c = simp (le-ltb _ _ (c .if1 .left))

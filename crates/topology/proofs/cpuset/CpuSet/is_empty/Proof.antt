@@ -10,8 +10,6 @@ use mathlib.Core.Path.{_≡_}
 use borrow.Author.Needs.{needs}
 use Rattle.topology.proofs.cpuset.CpuSet.is_empty.Statement.{statement}
 use Rattle.topology.proofs.cpuset.CpuSet.is_empty.Tie as tie
-use Rattle.topology.proofs.cpuset.CpuSet.is_empty.Reads as reads
-use Rattle.topology.proofs.cpuset.CpuSet.is_empty.Lts as lts
 
 abbrev Inv-loop : tie.InvT-loop
 Inv-loop self i₀ i = (i ≤ 16) × (is-empty self ≡ no-bits (self .set) i)
@@ -19,36 +17,28 @@ Inv-loop self i₀ i = (i ≤ 16) × (is-empty self ≡ no-bits (self .set) i)
 abbrev μ-loop : tie.MeasureT-loop
 μ-loop self i₀ i = i
 
--- src/cpuset.rt:100:9
 loop-holds : tie.Need-loop-holds Inv-loop μ-loop
 unfolding is-empty
 loop-holds c = (omega arith, refl)
 
--- src/cpuset.rt:101:13
 sub-i : tie.Need-sub-i Inv-loop μ-loop
 sub-i c = search needs
 
--- src/cpuset.rt:102:16
 mul-if1 : tie.Need-mul-if1 Inv-loop μ-loop
 mul-if1 c = search needs
 
--- src/cpuset.rt:102:16
 element-copy-out-if1 : tie.Need-element-copy-out-if1 Inv-loop μ-loop
 element-copy-out-if1 c = search needs
 
--- src/cpuset.rt:103:17
 returns : tie.Need-returns Inv-loop μ-loop
 returns c = sym (c .before .before .before .loop .inv .1 ∙ no-bits-step _ _ (omega arith) ∙ rw (ne-eqb _ _ (c .if1 .taken)))
 
--- src/cpuset.rt:100:9
 loop-less : tie.Need-loop-less Inv-loop μ-loop
 loop-less c = search needs
 
--- src/cpuset.rt:100:9
 loop-again : tie.Need-loop-again Inv-loop μ-loop
 loop-again c = (omega arith, c .before .before .before .loop .inv .1 ∙ no-bits-step _ _ (omega arith) ∙ rw (eq-eqb _ _ (c .if1 .left)))
 
--- src/cpuset.rt:96:5
 returns-2 : tie.Need-returns-2 Inv-loop μ-loop
 unfolding no-bits
 returns-2 c = let e : c .before .loop .i ≡ 0 = omega arith in sym (c .before .loop .inv .1 ∙ rw e)

@@ -5,36 +5,26 @@ use borrow.Author.Tests.{le-ltb}
 use borrow.Author.Needs.{needs}
 use Rattle.topology.proofs.cpuset.CpuSet.remove.Statement.{statement}
 use Rattle.topology.proofs.cpuset.CpuSet.remove.Tie as tie
-use Rattle.topology.proofs.cpuset.CpuSet.remove.Reads as reads
-use Rattle.topology.proofs.cpuset.CpuSet.remove.Lts as lts
-use Rattle.topology.proofs.cpuset.clear_bit.Reads as clear-bit-reads
 
--- src/cpuset.rt:89:24
 mul-word : tie.Need-mul-word
 mul-word c = search needs
 
--- src/cpuset.rt:89:24
 element-copy-out-word : tie.Need-element-copy-out-word
 element-copy-out-word c = search needs
 
--- src/cpuset.rt:90:27
 clear-bit-requires : tie.Need-clear-bit-requires
 clear-bit-requires c κs = search needs
 
--- src/cpuset.rt:90:13
 mul-self : tie.Need-mul-self
 mul-self c = search needs
 
--- src/cpuset.rt:90:13
 element-write-self : tie.Need-element-write-self
 element-write-self c = search needs
 
--- src/cpuset.rt:91:13
 returns : tie.Need-returns
 unfolding remove max-cpu-id word-of
 returns c = rw (lt-ltb _ _ (c .before .before .if1 .taken), c .clear-bit .ensures)
 
--- src/cpuset.rt:84:5
 returns-2 : tie.Need-returns-2
 unfolding remove max-cpu-id
 returns-2 c = simp (le-ltb _ _ (c .if1 .left))

@@ -1,0 +1,2 @@
+pub mod Donate
+pub mod Queues

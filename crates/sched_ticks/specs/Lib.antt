@@ -1,0 +1,2 @@
+pub mod Balance
+pub mod Ticks
