@@ -58,11 +58,13 @@ def stamps(told):
     found = {}
     for name, file in FILES.items():
         code = digest(code_of(name))
-        below = digest(*[str((f, contracts[f])) for f in sorted(contracts) if f.split('::')[0] in used[name]])
+        near = [name, *used[name]]
+        below = digest(*[str((f, contracts[f])) for f in sorted(contracts) if f.split('::')[0] in near])
+        said = digest(*[str((k, v)) for part in told for k, v in sorted(part.items()) if re.split('::|[.]', k)[0] in near])
         for function, walk in file.WALKS.items():
             proof = os.path.join(ROOT, 'crates', name, 'proofs', function.replace('::', '/'), 'Proof.antt')
             made = digest(read(proof)) if os.path.exists(proof) else '-'
-            found[name + '::' + function] = (digest(generator, code, below, str(walk), *map(str, told)), made)
+            found[name + '::' + function] = (digest(generator, code, below, said, str(walk)), made)
     return found
 
 

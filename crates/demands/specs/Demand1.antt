@@ -1,11 +1,13 @@
 -- DEMAND 1, of the library's calls.
--- "A command that cannot be obeyed is refused by the first question of document 01 answered no, and leaves every thread, queue, CPU and lent byte as found. No
--- caller checks anything beforehand".
+-- "The program takes every byte stream to an end line, and its library every call to an answer. A command it cannot obey is refused by the first question in
+-- document 01 answered no, and leaves every thread, queue, CPU and lent byte as found. No caller does any checking beforehand."
 use Prim.Native.Nat.{ℕ}
 use mathlib.Core.Path.{_≡_, ap, _∙_}
 use mathlib.Core.Logic.{_≢_}
 use mathlib.Core.List.{List}
-use lib.ListN.{length}
+use native.Mathlib.Omega.{arith}
+use lib.ListN.{length, take}
+use lib.Seq.{take-all}
 use Rattle.rules.specs.State.{base-limits, start, Limits}
 use Rattle.rules.specs.Requests.{read}
 use Rattle.rules.specs.Questions.{refusal}
@@ -13,8 +15,10 @@ use Rattle.rules.specs.Commands.{Answer, after-calls}
 use Rattle.rules.specs.Reached.{limits-kept}
 use Rattle.rules.specs.Refused.{refused-number}
 use Rattle.lines.specs.Lines.{refusal-number, answer-of}
-use Rattle.command_laws.specs.Command.{command-refuses}
+use Rattle.rules.specs.Lines.{used}
+use Rattle.command_laws.specs.Command.{command-used, command-refuses}
 use Rattle.demands.specs.Calls.{Held, Ready, call, left-by, after}
+use Rattle.demands.specs.Kept.{follows-start, follows-after}
 use Rattle.demands.specs.Demand2.{demand-2-step}
 
 -- The number that a call answers is that of the first question answered no, 0 if there is none; the questions are put to the state that the rules reach.
@@ -25,6 +29,16 @@ demand-1-question h ready calls bytes =
     let s = after-calls (start base-limits) calls in
     ap (λ (a : Answer). a .refused) (demand-2-step h ready calls bytes .answer) ∙ refused-number s bytes
     ∙ ap (λ (l : Limits). refusal s (read l bytes)) (limits-kept (start base-limits) calls)
+
+-- A call takes the bytes of its command; where its bytes are no command, or one cut short, none.
+pub demand-1-used : (h : Held) → Ready h → (calls : List (List ℕ)) (bytes : List ℕ) → call (after h calls) bytes .answer .used ≡ used (read base-limits bytes)
+unfolding start
+demand-1-used h ready calls bytes =
+    let s = after-calls (start base-limits) calls in
+    let f = follows-after h (start base-limits) calls (follows-start h ready) in
+    command-used (f .stood) (f .reachable) bytes (length bytes) 0
+    ∙ ap (λ (b : List ℕ). used (read (s .limits) b)) (take-all (length bytes) bytes (omega arith))
+    ∙ ap (λ (l : Limits). used (read l bytes)) (limits-kept (start base-limits) calls)
 
 -- A refused call leaves everything as found: of all memory and states, also such as nobody made.
 pub demand-1-as-found : (h : Held) (bytes : List ℕ) → refusal-number (call h bytes .answer .answer .refusal) ≢ 0 → left-by (call h bytes) ≡ h

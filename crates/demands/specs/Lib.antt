@@ -1,4 +1,7 @@
 pub mod Calls
+pub mod Start
+pub mod Provisos
+pub mod Selects
 pub mod Kept
 pub mod Demand1
 pub mod Demand2

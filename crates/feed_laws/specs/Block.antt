@@ -324,7 +324,7 @@ module _ (bytes : List ℕ) (n : ℕ) (fits : n ≤ length bytes) (to-come : Lis
       end-room = both (due n last g) (λ d. rw d at e) (λ d. absurd (false≢true (rw d at e)))
 
       end-short : length (endLineOf g) ≤ 48
-      end-short = end-fits (g .number) (g .refused) (omega (arith, k .0 .number-fits)) (omega (arith, k .0 .number-fits, k .0 .refused-fits))
+      end-short = end-fits (g .number) (g .refused)
 
       end-done : with-end .fed .done ≡ g .done + length (endLineOf g)
       unfolding withOutput

@@ -24,6 +24,7 @@ use Rattle.lines.specs.declared.Refusal.the-variants as refusal
 use Rattle.lines.specs.Lines.{refusal-number}
 use Rattle.lines.proofs.Digits.{digits-length}
 use Rattle.lines.proofs.Laws.{Below, Runs-below}
+use Rattle.feed_laws.specs.Wakeups.{wakeups-two}
 
 -- ---- what a command shows is within the limits
 
@@ -109,11 +110,6 @@ decimal-length : (k n : ℕ) → n < 10 ^ suc k → length (decimal n) ≤ suc k
 unfolding decimal
 decimal-length k n h = digits-length 20 k n h
 
-number-most : (o : Option ℕ) → length (number-or-dash o) ≤ 20
-unfolding number-or-dash dash
-number-most none = omega arith
-number-most (some n) = decimal-most n
-
 number-length : (k limit : ℕ) (o : Option ℕ) → limit ≤ 10 ^ suc k → Below limit o → length (number-or-dash o) ≤ suc k
 unfolding number-or-dash dash Below
 number-length k limit none l h = omega arith
@@ -140,31 +136,32 @@ refusal-most refusal.NotPlaced = omega arith
 refusal-most refusal.TooMany = omega arith
 refusal-most refusal.SmallBuffer = omega arith
 
-line-most : (l : Limits) (number : ℕ) (a : Answer) → l .cpus ≤ 100 → l .threads < 10000 → number < 2 ^ 32 → a .refused ≤ 11 → Shown-within l a → length (line number a) ≤ 48
+line-most : (l : Limits) (number : ℕ) (a : Answer) → l .cpus ≤ 100 → l .threads < 10000 → a .refused ≤ 11 → Shown-within l a → Below 3 (a .wakeups)
+    → length (line number a) ≤ 48
 unfolding line space line-feed
-line-most l number a cpus threads h r w =
+line-most l number a cpus threads r w few =
     simp length-append
     (omega (
       arith,
-      decimal-length 9 number (omega arith),
+      decimal-most number,
       decimal-length 1 (a .refused) (omega arith),
       number-length 1 (l .cpus) (a .cpu) (omega arith) (w .cpu),
       running-length (l .threads) (a .running) (omega arith) (w .running),
       number-length 3 (suc (l .threads)) (a .load) (omega arith) (w .load),
-      number-most (a .wakeups),
+      number-length 0 3 (a .wakeups) (omega arith) few,
     ))
 
--- the line of a command, under the base's limits
-pub line-fits : {H : ℕ → List PutOrTake} (s : State) (bytes : List ℕ) (number : ℕ) (r : Refusal) → Reached H s → s .limits ≡ base-limits → number < 2 ^ 32
+-- the line of a command, under the base's limits, with any number
+pub line-fits : {H : ℕ → List PutOrTake} (s : State) (bytes : List ℕ) (number : ℕ) (r : Refusal) → Reached H s → s .limits ≡ base-limits
     → step s bytes .answer .refused ≡ refusal-number r → length (line number (step s bytes .answer)) ≤ 48
 unfolding base-limits
-line-fits s bytes number r d e h f =
-    line-most (s .limits) number (step s bytes .answer) (rw (ap (λ (l : Limits). l .cpus) e) (omega arith)) (rw (ap (λ (l : Limits). l .threads) e) (omega arith)) h
-    (rw f (refusal-most r)) (step-within s bytes d)
+line-fits s bytes number r d e f =
+    line-most (s .limits) number (step s bytes .answer) (rw (ap (λ (l : Limits). l .cpus) e) (omega arith)) (rw (ap (λ (l : Limits). l .threads) e) (omega arith))
+    (rw f (refusal-most r)) (step-within s bytes d) (wakeups-two s bytes)
 
-pub end-fits : (number refused : ℕ) → number < 2 ^ 32 → refused < 2 ^ 32 → length (end-line number refused) ≤ 48
+pub end-fits : (number refused : ℕ) → length (end-line number refused) ≤ 48
 unfolding end-line end-word space line-feed
-end-fits number refused h i = simp length-append (omega (arith, decimal-length 9 number (omega arith), decimal-length 9 refused (omega arith)))
+end-fits number refused = simp length-append (omega (arith, decimal-most number, decimal-most refused))
 
 pub header-length : length header ≡ 8
 unfolding header

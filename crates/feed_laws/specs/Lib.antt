@@ -1,4 +1,5 @@
 pub mod Reading
+pub mod Wakeups
 pub mod Length
 pub mod Going
 pub mod Step
@@ -7,4 +8,5 @@ pub mod Calls
 pub mod Fold
 pub mod EndLine
 pub mod Output
+pub mod WholeLine
 pub mod Witness

@@ -1,4 +1,4 @@
--- A STREAM'S OUTPUT. "The replay program takes every byte stream to an end line": `feed` over any cutting of a stream into blocks gives the rules' output of
+-- A STREAM'S OUTPUT. "The program takes every byte stream to an end line": `feed` over any cutting of a stream into blocks gives the rules' output of
 -- the stream. A reader reads all of this file, after Calls.
 use Prim.Native.Nat.{ℕ}
 use mathlib.Core.Path.{_≡_, sym, subst}

@@ -183,7 +183,7 @@ module _ (bytes : List ℕ) (n : ℕ) (fits : n ≤ length bytes) (to-come : Lis
   number-most = g .goes-on (rw p (omega arith))
 
   line-short : length (lineOf (next .answer) f) ≤ 48
-  line-short = rw line-is (line-fits s (drop (f .at) block) (f .number) (next .answer .answer .refusal) (g .reachable .reached) (g .base) (omega (arith, number-most)) (sym refused-is))
+  line-short = rw line-is (line-fits s (drop (f .at) block) (f .number) (next .answer .answer .refusal) (g .reachable .reached) (g .base) (sym refused-is))
 
   done-is : v .fed .done ≡ f .done + length (lineOf (next .answer) f)
   unfolding answeredFed counted

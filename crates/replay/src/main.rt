@@ -17,17 +17,35 @@ pub struct Serving {
     pub left: usize,
 }
 
-// Bytes of standard input behind the first `left`; answers how many there are then. A read that fails ends the input.
-fn fill(input: &mut [u8], left: usize) -> usize {
-    if left < input.len() {
-        let got = io::read_full(libc::STDIN_FILENO, &mut input[left..]);
-        return more_by(left, got);
-    }
-    left
+// The bytes at the front of the input after a read, and whether it failed.
+pub struct Filled {
+    pub bytes: usize,
+    pub failed: bool,
 }
 
-fn more_by(left: usize, got: usize) -> usize {
-    std::num::wrapping_add_usize(left, got)
+fn behind(input: &[u8], left: usize, got: isize) -> Filled {
+    if got < 0 {
+        return Filled {
+            bytes: left,
+            failed: true,
+        };
+    }
+    Filled {
+        bytes: std::num::wrapping_add_usize(left, io::count(got, input)),
+        failed: false,
+    }
+}
+
+// One read of standard input behind the first `left` bytes. One that adds nothing and does not fail is the end of the input.
+fn fill(input: &mut [u8], left: usize) -> Filled {
+    if left < input.len() {
+        let got = libc::read(libc::STDIN_FILENO, &mut input[left..]);
+        return behind(input, left, got);
+    }
+    Filled {
+        bytes: left,
+        failed: false,
+    }
 }
 
 fn show(output: &[u8], n: usize) -> bool {
@@ -56,11 +74,27 @@ fn keep(input: &mut [u8], from: usize, n: usize) -> usize {
     count
 }
 
-// The end line is written, or the output takes no more bytes.
-fn stops(f: Fed, shown: bool) -> bool {
-    if f.phase == ENDED {
-        return true;
-    }
+// A file failed: the output has no end line, and standard error says why.
+fn input_failed() -> bool {
+    io::write_all(
+        libc::STDERR_FILENO,
+        b"replay: standard input could not be read\n",
+    )
+}
+
+fn output_failed() -> bool {
+    io::write_all(
+        libc::STDERR_FILENO,
+        b"replay: standard output could not be written\n",
+    )
+}
+
+// The end line is written.
+fn stops(f: Fed) -> bool {
+    f.phase == ENDED
+}
+
+fn not(shown: bool) -> bool {
     if shown {
         return false;
     }
@@ -89,12 +123,22 @@ fn serve(
     while 0 < budget {
         let left = s.left;
         let fed = s.fed;
-        let n = fill(input, left);
+        let got = fill(input, left);
+        let failed = got.failed;
+        if failed {
+            input_failed();
+            return false;
+        }
+        let n = got.bytes;
         let last = n <= left;
         let f = feed(threads, cpus, nodes, input, output, n, last, fed);
         let shown = show(output, f.done);
-        if stops(f, shown) {
-            return shown;
+        if not(shown) {
+            output_failed();
+            return false;
+        }
+        if stops(f) {
+            return true;
         }
         let kept = keep(input, f.at, n);
         let g = with_left(f, kept);

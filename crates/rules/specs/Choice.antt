@@ -39,7 +39,7 @@ unfoldable pub first-that : (ℕ → Bool) → List ℕ → Option ℕ
 first-that test [] = none
 first-that test (c ∷ l) = cond (test c) (some c) (first-that test l)
 
--- "Stealing asks load ≥ 2, the running thread included, and movable > 0"
+-- a thread may be stolen from another CPU whose load, the running thread included, is at least 2, and in whose queue somebody unpinned waits
 unfoldable pub may-steal-from : ℕ → (ℕ → ℕ) → (ℕ → ℕ) → ℕ → Bool
 may-steal-from us load movable c = not (eqb c us) && (leb 2 (load c) && ltb 0 (movable c))
 

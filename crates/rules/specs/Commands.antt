@@ -104,6 +104,7 @@ with-placed t n c = record { nodes = t .nodes; declared = t .declared; placed = 
 
 -- ---- 12: "The CPU is the one chosen for 12"
 
+-- none: no CPU found. Once sealed one always is (demands' Selects), so this clause is never taken.
 unfoldable pub scheduled-on : State → ℕ → ℕ → World → Option ℕ → Step
 scheduled-on s us x w none = ran s w (shown w us)
 scheduled-on s us x w (some c) =

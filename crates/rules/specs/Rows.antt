@@ -1,5 +1,8 @@
 -- "Edge table (rows to be proved)": the ten rows, as numbers, checked against the definitions by one theorem over the table.
 use Prim.Native.Nat.{ℕ, zero, suc}
+use native.Mathlib.Omega.{arith}
+use lib.Dec.{ltb}
+use borrow.Author.Tests.{lt-ltb}
 use mathlib.Core.Path.{_≡_, refl}
 use mathlib.Core.Bool.{Bool, true, false}
 use mathlib.Core.Option.{Option, none, some}
@@ -11,7 +14,7 @@ use Rattle.rules.specs.Priority.{class-number, from-raw}
 use Rattle.rules.specs.Draw.{next-state, draw}
 use Rattle.rules.specs.Times.{timeslice}
 use Rattle.rules.specs.Queue.{Queue, no-queue, Arrival, insert, Done, take, timeshare-bucket}
-use Rattle.rules.specs.Choice.{Pair, no-pair, pair, choose-cpu-balance}
+use Rattle.rules.specs.Choice.{score, weigh, extremes, Pair, no-pair, pair, pair-of, choose-cpu-balance}
 use Rattle.rules.specs.Computed.{computed}
 
 -- a priority as its class and its value
@@ -46,7 +49,7 @@ pair-numbers no-pair = []
 pair-numbers (pair d r) = d ∷ r ∷ []
 
 -- row 10: loads 1, 2, 3 on CPUs 0, 1, 2
-row-10-load : ℕ → ℕ
+unfoldable pub row-10-load : ℕ → ℕ
 row-10-load c = suc c
 
 -- what the table says, a row to a line; row 10: no donor and no recipient
@@ -83,3 +86,16 @@ found =
 pub rows : found ≡ given
 unfolding computed numbers bucket-at draws put-realtime number first-out pair-numbers row-10-load given found
 rows = refl
+
+-- Row 10 whichever CPU asks and whatever its draw state is: each CPU raises the highest score, so none is tested for the lowest.
+rises : (l a b : ℕ) → ltb (score l a) (score (suc l) b) ≡ true
+unfolding score
+rises l a b = lt-ltb (score l a) (score (suc l) b) (omega arith)
+
+above-0 : (a : ℕ) → ltb 0 (score 1 a) ≡ true
+unfolding score
+above-0 a = lt-ltb 0 (score 1 a) (omega arith)
+
+pub row-10 : (us draws : ℕ) → choose-cpu-balance us (λ c. true) row-10-load (0 ∷ 1 ∷ 2 ∷ []) draws .found ≡ no-pair
+unfolding choose-cpu-balance extremes weigh row-10-load pair-of
+row-10 us draws = rw (above-0, rises 1, rises 2)

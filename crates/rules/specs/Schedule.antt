@@ -373,6 +373,7 @@ module _ (limits : Limits) (topology : Topology) (tick us : ℕ) where
       let said : Priority = w .cpus us .advertised in
       less p said || (eq && at-most p said)
 
+  -- none: no CPU found. Once sealed one always is (demands' Selects), so this clause is never taken.
   unfoldable pub reinserted : World → ℕ → Option ℕ → World
   reinserted w x none = w
   reinserted w x (some c) = schedule-thread-on-cpu w c x
