@@ -1,7 +1,7 @@
 -- What `choose_cpu_balance` finds, as the rules have it, and one step of it.
 use Prim.Native.Nat.{ℕ, _+_, _-_, _≤_, _<_}
-use mathlib.Core.Path.{_≡_}
-use mathlib.Core.Bool.{Bool, cond}
+use mathlib.Core.Path.{_≡_, _∙_, ap, sym}
+use mathlib.Core.Bool.{Bool, true, false, cond, _&&_}
 use Rattle.rules.specs.Line.{both}
 use Rattle.rules.specs.Draw.{next-state, draw}
 use Rattle.rules.specs.Choice as rule
@@ -49,6 +49,21 @@ module _ (us : ℕ) (allowed : ℕ → Bool) (load : ℕ → ℕ) where
   extremes-turn test c to e h =
       rw (those-turn test c to h)
       (both (test c) (λ p. rw p (both (allowed c) (λ s. rw s) (λ s. rw s))) (λ p. rw p))
+
+  -- the same, where it is asked at once whether the number counts
+  compared-if : (test : ℕ → Bool) (c : ℕ) (e : rule.Extremes) → compared us allowed load test c e ≡ cond (test c && allowed c) (raised us load c e) e
+  unfolding compared
+  compared-if test c e = both (test c) (λ p. rw p) (λ p. rw p)
+
+  pub extremes-yes : (test : ℕ → Bool) (c to : ℕ) (e e' : rule.Extremes) → c < to → (test c && allowed c) ≡ true → e' ≡ raised us load c e
+      → extremes us allowed load (those-from test c (to - c)) e ≡ extremes us allowed load (those-from test (c + 1) (to - (c + 1))) e'
+  extremes-yes test c to e e' h t q =
+      extremes-turn test c to e h ∙ ap (extremes us allowed load (those-from test (c + 1) (to - (c + 1)))) (compared-if test c e ∙ (ap (λ b. cond b (raised us load c e) e) t ∙ sym q))
+
+  pub extremes-no : (test : ℕ → Bool) (c to : ℕ) (e e' : rule.Extremes) → c < to → (test c && allowed c) ≡ false → e' ≡ e
+      → extremes us allowed load (those-from test c (to - c)) e ≡ extremes us allowed load (those-from test (c + 1) (to - (c + 1))) e'
+  extremes-no test c to e e' h t q =
+      extremes-turn test c to e h ∙ ap (extremes us allowed load (those-from test (c + 1) (to - (c + 1)))) (compared-if test c e ∙ (ap (λ b. cond b (raised us load c e) e) t ∙ sym q))
 
   pub extremes-end : (test : ℕ → Bool) (c to : ℕ) (e : rule.Extremes) → to ≤ c → extremes us allowed load (those-from test c (to - c)) e ≡ e
   unfolding extremes

@@ -1,6 +1,7 @@
 // The CPU that gives a thread and the one that gets it (`choose_cpu_balance`).
 ghost use mathlib.Core.Path.{_≡_};
 ghost use Prim.Native.Nat.{_-_};
+ghost use mathlib.Core.Bool.{_&&_};
 ghost use Rattle.rules.specs.Choice as rule;
 ghost use Rattle.rules.specs.Choice.{extremes, choose-cpu-balance};
 ghost use Rattle.topology.specs.CpuSet as set;
@@ -8,7 +9,7 @@ ghost use Rattle.nodes.specs.Node.{contains-at};
 ghost use Rattle.nodes.specs.Walk.{those-from, cpus-at};
 ghost use Rattle.choice.specs.Reads.{weight-at};
 ghost use Rattle.choice.specs.Found.{best-in};
-ghost use Rattle.choice.specs.Balance.{extremes-in, pair-in, chosen-in, raised, compared, unraised};
+ghost use Rattle.choice.specs.Balance.{extremes-in, pair-in, chosen-in, raised, unraised};
 use crate::find::Best;
 use crate::find::lower;
 use crate::reads::score;
@@ -82,29 +83,14 @@ pub fn raise(cpus: &[CpuWords], us: u64, c: u64, e: Extremes) -> Extremes
     weigh(e, s, c, draws)
 }
 
-// One number of a node's range: weighed if it is a CPU of the node and is allowed.
-pub fn compare(
-    cpus: &[CpuWords],
-    nodes: &[NodeWords],
-    us: u64,
-    allowed: CpuSet,
-    n: u64,
-    c: u64,
-    e: Extremes,
-) -> Extremes
-    ensures { λ r.
-        ⌜
-        extremes-in r
-        ≡ compared us (set.contains allowed) (weight-at (now (cpus .entry))) (contains-at (now (nodes .entry)) n) c (extremes-in e)
-        ⌝ }
+// Is this number a CPU of the node that is allowed?
+fn counts(nodes: &[NodeWords], allowed: CpuSet, n: u64, c: u64) -> bool
+    ensures { λ r. ⌜ r ≡ (contains-at (now (nodes .entry)) n c && set.contains allowed c) ⌝ }
 {
     if contains(nodes, n, c) {
-        if allowed.contains(c) {
-            return raise(cpus, us, c, e);
-        }
-        return e;
+        return allowed.contains(c);
     }
-    e
+    false
 }
 
 pub fn balance_range(
@@ -126,7 +112,9 @@ pub fn balance_range(
     let mut e = so_far;
     let mut c = from;
     while c < to {
-        e = compare(cpus, nodes, us, allowed, n, c, e);
+        if counts(nodes, allowed, n, c) {
+            e = raise(cpus, us, c, e);
+        }
         c += 1;
     }
     e

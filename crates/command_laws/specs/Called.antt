@@ -71,7 +71,7 @@ reading-there (asks r used) = ap (λ (q : Request). asks q used) (request-there 
 number-or : (n k : ℕ) (x y : Refusal) → refusal-number x ≡ k → k ≤ n → (suc k ≤ n → refusal-number y ≡ n) → refusal-number (cond (eqb n k) x y) ≡ n
 number-or n k x y e l h = both (eqb n k) (λ t. rw t (e ∙ sym (eqb-true n k t))) (λ t. let q : n ≢ k = eqb-false n k t in rw t (h (omega (arith, q))))
 
-number-there : (n : ℕ) → n ≤ 10 → refusal-number (refusal-back n) ≡ n
+pub number-there : (n : ℕ) → n ≤ 10 → refusal-number (refusal-back n) ≡ n
 unfolding refusal-back refusal-number
 number-there n l =
     number-or n 0 _ _ refl (omega arith)
@@ -88,7 +88,7 @@ number-there n l =
 
 -- ---- the numbers of a call
 
-call-numbers : (r : Reading) → (call-read r .used ≡ used r) × (thread-in r ≡ call-read r .thread)
+pub call-numbers : (r : Reading) → (call-read r .used ≡ used r) × (thread-in r ≡ call-read r .thread)
 unfolding call-read call-of used thread-in thread-named
 call-numbers unknown = (refl, refl)
 call-numbers cut-short = (refl, refl)

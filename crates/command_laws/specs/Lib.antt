@@ -6,3 +6,9 @@ pub mod Ran
 pub mod Obeyed
 pub mod Called
 pub mod Command
+pub mod Links
+pub mod Near
+pub mod Tame
+pub mod Writes
+pub mod Nodes
+pub mod Confined

@@ -29,7 +29,7 @@ Stood h s = Stands (h .threads) (h .cpus) (h .nodes) (h .state) s
 
 -- ---- the start
 
-is-ready : (ts : List Thread) (cs ns : List (List ℕ)) (a : State) → startDef (lent ts cs ns) .answer ≡ started.Ready a → (noRoom (length ts) (length cs) (length ns) ≡ false) × (a ≡ initial)
+pub is-ready : (ts : List Thread) (cs ns : List (List ℕ)) (a : State) → startDef (lent ts cs ns) .answer ≡ started.Ready a → (noRoom (length ts) (length cs) (length ns) ≡ false) × (a ≡ initial)
 unfolding startDef
 is-ready ts cs ns a e =
     both (noRoom (length ts) (length cs) (length ns))

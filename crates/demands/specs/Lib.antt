@@ -7,3 +7,5 @@ pub mod Demand1
 pub mod Demand2
 pub mod Demand3
 pub mod Witness
+pub mod Begun
+pub mod Frame

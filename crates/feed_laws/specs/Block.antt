@@ -14,7 +14,7 @@ use Rattle.rules.specs.State.{Limits, base-limits, State}
 use Rattle.rules.specs.Commands.{step}
 use Rattle.rules.specs.Requests as rules
 use Rattle.rules.specs.Requests.{read}
-use Rattle.rules.specs.Lines.{header}
+use Rattle.rules.specs.Lines.{header, no-bytes}
 use Rattle.request.specs.Request.{limits-of}
 use Rattle.lines.specs.Lines.{room, rendered, buffer-with}
 use Rattle.lines.proofs.Laws.{rendered-whole}
@@ -26,7 +26,9 @@ use Rattle.question_laws.specs.Answers.{read-same}
 use Rattle.feed_laws.specs.Reading.{is-whole, read-more, cut-most, lines-none, some-bytes}
 use Rattle.feed_laws.specs.Length.{end-fits, header-length}
 use Rattle.feed_laws.specs.Going.{left-at, left, left-header, left-commands, left-end, left-ended, Going, Within, line-in, done-after, taken-after, length-after}
-use Rattle.feed_laws.specs.Step.{step-same, step-going, step-within, step-further, step-phase}
+use Rattle.feed_laws.specs.Taken.{so-far}
+use Rattle.feed_laws.specs.Along.{Along, lines-first, lines-last, waits}
+use Rattle.feed_laws.specs.Step.{step-same, step-going, step-within, step-further, step-phase, step-along}
 
 -- ---- what `more` says
 
@@ -66,10 +68,14 @@ then-none : (t l w : Bool) → cond t (cond l true w) false ≡ false → l ≡ 
 then-none true l w e f = absurd (true≢false (rw f at e))
 then-none false l w e f = refl
 
--- after a call with a large buffer the end line is written, or commands are answered and at most eight bytes are left over, of a command cut short
+waits-none : waits [] ≡ true
+unfolding waits no-bytes
+waits-none = refl
+
+-- after a call with a large buffer the end line is written, or commands are answered and at most eight bytes are left over, none or of a command cut short
 pub data Leaves (last : Bool) (f : Fed) (left-over : List ℕ) : Type 0 where
   run-ended : f .phase ≡ ENDED → Leaves last f left-over
-  run-waits : f .phase ≡ COMMANDS → last ≡ false → length left-over ≤ 8 → Leaves last f left-over
+  run-waits : f .phase ≡ COMMANDS → last ≡ false → length left-over ≤ 8 → waits left-over ≡ true → Leaves last f left-over
 
 module _ (bytes : List ℕ) (n : ℕ) (fits : n ≤ length bytes) (to-come : List ℕ) (last : Bool) (none-to-come : last ≡ true → to-come ≡ []) where
   abbrev block : List ℕ
@@ -82,6 +88,10 @@ module _ (bytes : List ℕ) (n : ℕ) (fits : n ≤ length bytes) (to-come : Lis
   abbrev pub all : World → State → List ℕ
   all w s = take (w .fed .done) (w .output) ++ left s (w .fed) (drop (w .fed .at) block ++ to-come)
 
+  -- how far along a stream
+  abbrev pub Far : List ℕ → World → State → Type 0
+  Far stream w s = Along stream s (w .fed) (drop (w .fed .at) block ++ to-come)
+
   pub record Kept (w v : World) (s : State) : Type 0 where
     pub state : State
     pub going : Going (v .threads) (v .cpus) (v .nodes) (v .fed) state
@@ -89,12 +99,13 @@ module _ (bytes : List ℕ) (n : ℕ) (fits : n ≤ length bytes) (to-come : Lis
     pub same : all v state ≡ all w s
     pub size : length (v .output) ≡ length (w .output)
     pub begun : 1 ≤ w .fed .phase → 1 ≤ v .fed .phase
+    pub along : (stream : List ℕ) → Far stream w s → Far stream v state
 
   abbrev OK : World → State → Type 0
   OK w s = Going (w .threads) (w .cpus) (w .nodes) (w .fed) s × Within n (w .output) (w .fed)
 
   kept-self : (w : World) (s : State) → OK w s → Kept w w s
-  kept-self w s k = record { state = s; going = k .0; within = k .1; same = refl; size = refl; begun = λ h. h }
+  kept-self w s k = record { state = s; going = k .0; within = k .1; same = refl; size = refl; begun = λ h. h; along = λ stream a. a }
 
   -- ---- the commands
 
@@ -135,6 +146,7 @@ module _ (bytes : List ℕ) (n : ℕ) (fits : n ≤ length bytes) (to-come : Lis
       same = r .same ∙ step-same bytes n fits to-come w s (k .0) (k .1) (m .commands) (m .there) (m .roomy) (alike w s k m);
       size = r .size ∙ length-after (w .output) (w .fed .done) _ (m .roomy);
       begun = λ h. r .begun (step-phase bytes n fits to-come w s (k .0) (k .1) (m .commands) (m .there) (m .roomy) (alike w s k m));
+      along = λ stream a. r .along stream (step-along bytes n fits to-come w s (k .0) (k .1) (m .commands) (m .there) (m .roomy) (alike w s k m) stream a);
     }
 
   run-none : (w : World) (s : State) → OK w s → Kept w (runDef zero bytes n last w) s
@@ -192,6 +204,7 @@ module _ (bytes : List ℕ) (n : ℕ) (fits : n ≤ length bytes) (to-come : Lis
     pub same : all v s ≡ left s (w .fed) (block ++ to-come)
     pub size : length (v .output) ≡ length (w .output)
     pub begun : room (w .output) 0 ≡ true → 1 ≤ v .fed .phase
+    pub along : (stream : List ℕ) → Along stream s (w .fed) (block ++ to-come) → Far stream v s
 
   module _ (w : World) (s : State) (g : Going (w .threads) (w .cpus) (w .nodes) (w .fed) s) (small : length (w .output) < 2 ^ 64) where
     abbrev f : Fed
@@ -226,6 +239,7 @@ module _ (bytes : List ℕ) (n : ℕ) (fits : n ≤ length bytes) (to-come : Lis
       size = refl;
       begun = λ r. both (eqb (f .phase) HEADER) (λ p. absurd (true≢false (rw (p, r) at e)))
           (λ p. let z : f .phase ≡ 0 → ⊥ = eqb-false (f .phase) HEADER p in omega arith);
+      along = λ stream a. record { state-is = a .state-is; rest-is = a .rest-is; lines-is = a .lines-is; none-yet = a .none-yet; went-on = a .went-on };
     }
 
     module _ (e : headed out f ≡ true) where
@@ -277,6 +291,17 @@ module _ (bytes : List ℕ) (n : ℕ) (fits : n ≤ length bytes) (to-come : Lis
             ∙ ap (λ (p : ℕ). left-at s p (f .number) (f .refused) (block ++ to-come)) (sym is-header);
         size = header-size;
         begun = λ r. omega arith;
+        along = λ stream a. record {
+          state-is = a .state-is;
+          rest-is = λ h. a .rest-is (rw is-header (omega arith));
+          lines-is =
+              lines-first (f .number) (f .refused) stream (left-at s COMMANDS (f .number) (f .refused) (block ++ to-come)) (a .none-yet is-header)
+              ∙ ap (λ (l : List ℕ). so-far HEADER (f .number) (f .refused) stream ++ l) (sym (left-header s (f .number) (f .refused) (block ++ to-come)))
+              ∙ ap (λ (p : ℕ). so-far p (f .number) (f .refused) stream ++ left-at s p (f .number) (f .refused) (block ++ to-come)) (sym is-header)
+              ∙ a .lines-is;
+          none-yet = λ h. a .none-yet is-header;
+          went-on = λ h. a .went-on (rw is-header (omega arith));
+        };
       }
 
     opened-kept : Opened w s (openedWorld w)
@@ -285,16 +310,20 @@ module _ (bytes : List ℕ) (n : ℕ) (fits : n ≤ length bytes) (to-come : Lis
 
   -- ---- the block's end
 
-  -- after a call: what it wrote and what is left are `before`
-  pub record Called (before : List ℕ) (v : World) : Type 0 where
+  -- after a call: what it wrote and what is left are `before`; and it is further along each stream that it was along in state s, with `rest` to take
+  pub record Called (s : State) (f : Fed) (rest before : List ℕ) (v : World) : Type 0 where
     pub state : State
     pub going : Going (v .threads) (v .cpus) (v .nodes) (v .fed) state
     pub taken : v .fed .at ≤ n
     pub same : all v state ≡ before
+    pub along : (stream : List ℕ) → Along stream s f rest → Far stream v state
 
   module _ (w : World) (s : State) (k : OK w s) where
     abbrev g : Fed
     g = w .fed
+
+    abbrev now : List ℕ
+    now = drop (g .at) block ++ to-come
 
     abbrev with-end : World
     with-end = worldOf (w .threads) (w .cpus) (w .nodes) (buffer-with (w .output) (g .done) (endLineOf g))
@@ -316,6 +345,13 @@ module _ (bytes : List ℕ) (n : ℕ) (fits : n ≤ length bytes) (to-come : Lis
         (λ l. absurd (false≢true (rw (p, q, l) at e))))
         (λ q. absurd (false≢true (rw (p, q) at e))))
 
+    due-phase : due n last g ≡ true → (1 ≤ g .phase) × (g .phase ≤ END)
+    unfolding due
+    due-phase e =
+        both (eqb (g .phase) END) (λ p. let q : g .phase ≡ END = eqb-true (g .phase) END p in (omega arith, omega arith))
+        (λ p. both (eqb (g .phase) COMMANDS) (λ q. let r : g .phase ≡ COMMANDS = eqb-true (g .phase) COMMANDS q in (omega arith, omega arith))
+        (λ q. absurd (false≢true (rw (p, q) at e))))
+
     module _ (e : ends-now (w .output) n last g ≡ true) where
       is-due : due n last g ≡ true
       is-due = both (due n last g) (λ d. d) (λ d. absurd (false≢true (rw d at e)))
@@ -330,7 +366,7 @@ module _ (bytes : List ℕ) (n : ℕ) (fits : n ≤ length bytes) (to-come : Lis
       unfolding withOutput
       end-done = done-after (w .output) (g .done) (endLineOf g) end-room end-short (k .1 .small)
 
-      closed-ended : Called (all w s) with-end
+      closed-ended : Called s g now (all w s) with-end
       unfolding withOutput
       closed-ended = record {
         state = s;
@@ -351,11 +387,23 @@ module _ (bytes : List ℕ) (n : ℕ) (fits : n ≤ length bytes) (to-come : Lis
             ∙ ap (λ (l : List ℕ). (take (g .done) (w .output) ++ endLineOf g) ++ l) (left-ended s (g .number) (g .refused) _)
             ∙ append-nil (take (g .done) (w .output) ++ endLineOf g)
             ∙ ap (λ (l : List ℕ). take (g .done) (w .output) ++ l) (sym (due-left is-due));
+        along = λ stream a. record {
+          state-is = a .state-is;
+          rest-is = λ h. absurd (omega arith);
+          lines-is =
+              ap (λ (l : List ℕ). so-far ENDED (g .number) (g .refused) stream ++ l) (left-ended s (g .number) (g .refused) _)
+              ∙ append-nil (so-far ENDED (g .number) (g .refused) stream)
+              ∙ lines-last (g .phase) (g .number) (g .refused) stream (due-phase is-due .0) (due-phase is-due .1)
+              ∙ ap (λ (l : List ℕ). so-far (g .phase) (g .number) (g .refused) stream ++ l) (sym (due-left is-due))
+              ∙ a .lines-is;
+          none-yet = λ h. absurd (omega (arith, h));
+          went-on = λ h. absurd (omega arith);
+        };
       }
 
-    closed-kept : Called (all w s) (closedWorld n last w)
+    closed-kept : Called s g now (all w s) (closedWorld n last w)
     unfolding closedFed closedOut
-    closed-kept = both (ends-now (w .output) n last g) (λ e. rw e (closed-ended e)) (λ e. rw e (record { state = s; going = k .0; taken = k .1 .taken; same = refl }))
+    closed-kept = both (ends-now (w .output) n last g) (λ e. rw e (closed-ended e)) (λ e. rw e (record { state = s; going = k .0; taken = k .1 .taken; same = refl; along = λ stream a. a }))
 
   -- ---- the call
 
@@ -372,12 +420,18 @@ module _ (bytes : List ℕ) (n : ℕ) (fits : n ≤ length bytes) (to-come : Lis
     ran-ok : OK then (ran .state)
     ran-ok = (ran .going, ran .within)
 
-    closed : Called (all then (ran .state)) (closedWorld n last then)
+    closed : Called (ran .state) (then .fed) (now then (ran .state) ran-ok) (all then (ran .state)) (closedWorld n last then)
     closed = closed-kept then (ran .state) ran-ok
 
-    pub called : Called (left s (w .fed) (block ++ to-come)) (feedDef bytes n last w)
+    pub called : Called s (w .fed) (block ++ to-come) (left s (w .fed) (block ++ to-come)) (feedDef bytes n last w)
     unfolding feedDef
-    called = record { state = closed .state; going = closed .going; taken = closed .taken; same = closed .same ∙ ran .same ∙ first .same }
+    called = record {
+      state = closed .state;
+      going = closed .going;
+      taken = closed .taken;
+      same = closed .same ∙ ran .same ∙ first .same;
+      along = λ stream a. closed .along stream (ran .along stream (first .along stream a));
+    }
 
     module _ (large : 48 * (n + 2) ≤ length (w .output)) where
       room-first : room (w .output) 0 ≡ true
@@ -429,6 +483,16 @@ module _ (bytes : List ℕ) (n : ℕ) (fits : n ≤ length bytes) (to-come : Lis
           omega arith)
           (λ q. omega (arith, length-drop (then .fed .at) block, long, ltb-false (then .fed .at) n q))
 
+      waits-left : then .fed .phase ≡ COMMANDS → last ≡ false → waits (drop (then .fed .at) block) ≡ true
+      unfolding waits
+      waits-left e l =
+          both (ltb (then .fed .at) n)
+          (λ q. let cut : whole bytes n (then .fed .at) (then .fed .state .wide) ≡ false = then-cut (ltb (then .fed .at) n) last _ (more-commands e) q l in
+          let cut-here : is-whole (read base-limits (drop (then .fed .at) block)) ≡ false =
+          ap (λ (m : Limits). is-whole (read m (drop (then .fed .at) block))) (sym (ran .going .base)) ∙ sym (whole-is then (ran .state) ran-ok (then .fed .at)) ∙ cut in
+          both (no-bytes (drop (then .fed .at) block)) (λ t. rw t) (λ t. rw (t, cut-here)))
+          (λ q. rw (drop-of-length-le block {i = then .fed .at} (rw long (ltb-false (then .fed .at) n q))) waits-none)
+
       phase-three : (eqb (then .fed .phase) COMMANDS ≡ false) → (eqb (then .fed .phase) END ≡ false) → then .fed .phase ≡ ENDED
       phase-three p q =
           let a : then .fed .phase ≡ 1 → ⊥ = eqb-false (then .fed .phase) COMMANDS p in
@@ -443,7 +507,7 @@ module _ (bytes : List ℕ) (n : ℕ) (fits : n ≤ length bytes) (to-come : Lis
           (λ l. let q : ltb (then .fed .at) n ≡ false = then-none (ltb (then .fed .at) n) last _ (more-commands c) l in
           run-ended (closed-due (due-commands c ∙ ap (λ (b : Bool). cond b (leb n (then .fed .at)) false) l ∙ le-leb n (then .fed .at) (ltb-false (then .fed .at) n q))))
           (λ l. subst (λ (f : Fed). Leaves last f (drop (f .at) block))
-          (sym (closed-not (due-commands c ∙ ap (λ (b : Bool). cond b (leb n (then .fed .at)) false) l))) (run-waits c l (short-left c l))))
+          (sym (closed-not (due-commands c ∙ ap (λ (b : Bool). cond b (leb n (then .fed .at)) false) l))) (run-waits c l (short-left c l) (waits-left c l))))
           (λ p. both (eqb (then .fed .phase) END)
           (λ q. run-ended (closed-due (due-end (eqb-true (then .fed .phase) END q))))
           (λ q. let c : then .fed .phase ≡ ENDED = phase-three p q in run-ended (ap (λ (f : Fed). f .phase) (closed-not (due-ended c)) ∙ c)))

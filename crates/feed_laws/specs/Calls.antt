@@ -1,5 +1,5 @@
 -- A STREAM FED BLOCK BY BLOCK: lists of calls of `feed`, over the definition that its contract (feed/src/feed.rt) cites. A reader reads all of this file, after
--- demands' Calls, and then Output.
+-- demands' Calls, and then Taken and Output.
 use Prim.Native.Nat.{ℕ, _+_, _*_, _^_, _≤_, _<_}
 use mathlib.Core.Path.{_≡_}
 use mathlib.Core.Bool.{Bool, true, false}

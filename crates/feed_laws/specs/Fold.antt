@@ -1,20 +1,22 @@
--- Any list of calls: what they write and what is then left to write are the rules' output.
+-- Any list of calls: what they write and what is then left to write are the rules' output, and the memory is behind the commands whose lines they wrote.
 use Prim.Native.Nat.{ℕ, _+_, _-_, _*_, _^_, _≤_, _<_}
 use mathlib.Core.Path.{_≡_, refl, sym, ap, subst, _∙_}
 use mathlib.Core.Bool.{true, true≢false, false≢true}
-use mathlib.Core.List.{List, [], _∷_, _++_, append-assoc, append-nil}
+use mathlib.Core.List.{List, [], _∷_, _++_, append-assoc, append-nil, append-cancel-right, nil≢cons}
 use lib.ListN.{length, take, drop, length-append}
 use lib.Seq.{take-append-seam}
 use native.Mathlib.Omega.{arith}
 use Rattle.rules.specs.State.{base-limits, State, start}
-use Rattle.rules.specs.Lines.{output}
+use Rattle.rules.specs.Lines.{no-bytes, output}
 use Rattle.feed.specs.declared.fed.Fed.{Fed}
-use Rattle.feed.specs.Fed.{ENDED, begin}
+use Rattle.feed.specs.Fed.{END, ENDED, begin}
 use Rattle.feed.specs.Feed.{World, worldOf, feedDef}
 use Rattle.command_laws.specs.Law.{reachable-start}
 use Rattle.demands.specs.Calls.{Held, Ready}
 use Rattle.demands.specs.Kept.{ready-stands}
 use Rattle.feed_laws.specs.Going.{left-at, left, left-ended, Going}
+use Rattle.feed_laws.specs.Taken.{after-commands, so-far, Ended-within}
+use Rattle.feed_laws.specs.Along.{Along, waits, never-ended}
 use Rattle.feed_laws.specs.Block.{Called, called, Leaves, run-ended, run-waits, leaves, stays-ended}
 use Rattle.feed_laws.specs.Calls.{Call, Run, in-hand, fed-by, after, output-of, after-all, outputs, stream, Proper, Roomy, says-last, Settled, over, few, begun}
 
@@ -27,6 +29,7 @@ record One (r : Run) (c : Call) (s : State) (to-come : List ℕ) : Type 0 where
   state : State
   going : Goes (after r c) state
   same : output-of r c ++ left state (after r c .fed) (after r c .left-over ++ to-come) ≡ left s (r .fed) (in-hand r c ++ to-come)
+  along : (bytes : List ℕ) → Along bytes s (r .fed) (in-hand r c ++ to-come) → Along bytes state (after r c .fed) (after r c .left-over ++ to-come)
 
 module _ (r : Run) (c : Call) (s : State) (g : Goes r s) (small : length (c .buffer) < 2 ^ 64) (to-come : List ℕ) (none-to-come : c .last ≡ true → to-come ≡ []) where
   abbrev hand : List ℕ
@@ -41,7 +44,7 @@ module _ (r : Run) (c : Call) (s : State) (g : Goes r s) (small : length (c .buf
   front : take (length hand) (hand ++ c .behind) ≡ hand
   front = take-append-seam hand (c .behind)
 
-  made : Called (hand ++ c .behind) (length hand) fits to-come (c .last) none-to-come (left s (r .fed) (take (length hand) (hand ++ c .behind) ++ to-come)) (feedDef (hand ++ c .behind) (length hand) (c .last) world)
+  made : Called (hand ++ c .behind) (length hand) fits to-come (c .last) none-to-come s (r .fed) (take (length hand) (hand ++ c .behind) ++ to-come) (left s (r .fed) (take (length hand) (hand ++ c .behind) ++ to-come)) (feedDef (hand ++ c .behind) (length hand) (c .last) world)
   made = called (hand ++ c .behind) (length hand) fits to-come (c .last) none-to-come world s g small
 
   one : One r c s to-come
@@ -53,6 +56,10 @@ module _ (r : Run) (c : Call) (s : State) (g : Goes r s) (small : length (c .buf
         let w : World = feedDef (hand ++ c .behind) (length hand) (c .last) world in
         ap (λ (b : List ℕ). take (w .fed .done) (w .output) ++ left (made .state) (w .fed) (drop (w .fed .at) b ++ to-come)) (sym front)
         ∙ made .same ∙ ap (λ (b : List ℕ). left s (r .fed) (b ++ to-come)) front;
+    along = λ bytes a.
+        let w : World = feedDef (hand ++ c .behind) (length hand) (c .last) world in
+        subst (λ (b : List ℕ). Along bytes (made .state) (w .fed) (drop (w .fed .at) b ++ to-come)) front
+        (made .along bytes (subst (λ (b : List ℕ). Along bytes s (r .fed) (b ++ to-come)) (sym front) a));
   }
 
   one-leaves : 48 * (length hand + 2) ≤ length (c .buffer) → Leaves (c .last) (after r c .fed) (after r c .left-over)
@@ -63,14 +70,15 @@ module _ (r : Run) (c : Call) (s : State) (g : Goes r s) (small : length (c .buf
 
 -- ---- a list of calls
 
-pub record All (r : Run) (calls : List Call) (to-come before : List ℕ) : Type 0 where
+pub record All (r : Run) (s : State) (calls : List Call) (to-come before : List ℕ) : Type 0 where
   pub state : State
   pub going : Goes (after-all r calls) state
   pub same : outputs r calls ++ left state (after-all r calls .fed) (after-all r calls .left-over ++ to-come) ≡ before
+  pub along : (bytes : List ℕ) → Along bytes s (r .fed) (r .left-over ++ (stream calls ++ to-come)) → Along bytes state (after-all r calls .fed) (after-all r calls .left-over ++ to-come)
 
-all-none : (r : Run) (s : State) (to-come : List ℕ) → Goes r s → All r [] to-come (left s (r .fed) (r .left-over ++ (stream [] ++ to-come)))
+all-none : (r : Run) (s : State) (to-come : List ℕ) → Goes r s → All r s [] to-come (left s (r .fed) (r .left-over ++ (stream [] ++ to-come)))
 unfolding after-all outputs stream
-all-none r s to-come g = record { state = s; going = g; same = refl }
+all-none r s to-come g = record { state = s; going = g; same = refl; along = λ bytes a. a }
 
 proper-last : (c : Call) (calls : List Call) (to-come : List ℕ) → Proper (c ∷ calls) to-come → c .last ≡ true → stream calls ++ to-come ≡ []
 unfolding Proper
@@ -89,8 +97,8 @@ module _ (to-come : List ℕ) where
   here r c calls s g p = one r c s g (proper-small c calls to-come p) (stream calls ++ to-come) (proper-last c calls to-come p)
 
   all-then : (r : Run) (c : Call) (calls : List Call) (s : State) (o : One r c s (stream calls ++ to-come))
-      → All (after r c) calls to-come (left (o .state) (after r c .fed) (after r c .left-over ++ (stream calls ++ to-come)))
-      → All r (c ∷ calls) to-come (left s (r .fed) (r .left-over ++ (stream (c ∷ calls) ++ to-come)))
+      → All (after r c) (o .state) calls to-come (left (o .state) (after r c .fed) (after r c .left-over ++ (stream calls ++ to-come)))
+      → All r s (c ∷ calls) to-come (left s (r .fed) (r .left-over ++ (stream (c ∷ calls) ++ to-come)))
   unfolding after-all outputs stream in-hand
   all-then r c calls s o a = record {
     state = a .state;
@@ -98,9 +106,11 @@ module _ (to-come : List ℕ) where
     same =
         append-assoc (output-of r c) (outputs (after r c) calls) _ ∙ ap (λ (l : List ℕ). output-of r c ++ l) (a .same) ∙ o .same
         ∙ ap (left s (r .fed)) (append-assoc (r .left-over) (c .block) (stream calls ++ to-come) ∙ ap (λ (l : List ℕ). r .left-over ++ l) (sym (append-assoc (c .block) (stream calls) to-come)));
+    along = λ bytes b. a .along bytes (o .along bytes (subst (Along bytes s (r .fed))
+        (sym (append-assoc (r .left-over) (c .block) (stream calls ++ to-come) ∙ ap (λ (l : List ℕ). r .left-over ++ l) (sym (append-assoc (c .block) (stream calls) to-come)))) b));
   }
 
-  all-calls : (calls : List Call) (r : Run) (s : State) → Goes r s → Proper calls to-come → All r calls to-come (left s (r .fed) (r .left-over ++ (stream calls ++ to-come)))
+  all-calls : (calls : List Call) (r : Run) (s : State) → Goes r s → Proper calls to-come → All r s calls to-come (left s (r .fed) (r .left-over ++ (stream calls ++ to-come)))
   all-calls [] r s g p = all-none r s to-come g
   all-calls (c ∷ calls) r s g p =
       all-then r c calls s (here r c calls s g p) (all-calls calls (after r c) (here r c calls s g p .state) (here r c calls s g p .going) (proper-rest c calls to-come p))
@@ -124,11 +134,27 @@ begun-left : (h : Held) (bytes : List ℕ) → left (start base-limits) (begun h
 unfolding begun begin left-at output
 begun-left h bytes = refl
 
+begun-along : (h : Held) (bytes : List ℕ) → Along bytes (start base-limits) (begun h .fed) (begun h .left-over ++ bytes)
+unfolding begun begin after-commands so-far
+begun-along h bytes = record { state-is = refl; rest-is = λ q. refl; lines-is = begun-left h bytes; none-yet = λ q. refl; went-on = λ q j i. absurd (omega arith) }
+
 module _ (h : Held) (r : Ready h) (calls : List Call) (to-come : List ℕ) (p : Proper calls to-come) where
-  pub from-start : All (begun h) calls to-come (output base-limits (stream calls ++ to-come))
+  pub from-start : All (begun h) (start base-limits) calls to-come (output base-limits (stream calls ++ to-come))
   from-start =
-      subst (λ (o : List ℕ). All (begun h) calls to-come o) (begun-left h (stream calls ++ to-come))
+      subst (λ (o : List ℕ). All (begun h) (start base-limits) calls to-come o) (begun-left h (stream calls ++ to-come))
       (all-calls to-come calls (begun h) (start base-limits) (begun-goes h r) p)
+
+  -- where the calls are in the stream
+  pub from-start-along : Along (stream calls ++ to-come) (from-start .state) (after-all (begun h) calls .fed) (after-all (begun h) calls .left-over ++ to-come)
+  from-start-along = from-start .along (stream calls ++ to-come) (begun-along h (stream calls ++ to-come))
+
+  -- what they wrote
+  pub from-start-so-far : outputs (begun h) calls
+      ≡ so-far (after-all (begun h) calls .fed .phase) (after-all (begun h) calls .fed .number) (after-all (begun h) calls .fed .refused) (stream calls ++ to-come)
+  from-start-so-far =
+      let f : Fed = after-all (begun h) calls .fed in
+      append-cancel-right (outputs (begun h) calls) (so-far (f .phase) (f .number) (f .refused) (stream calls ++ to-come))
+      (left (from-start .state) f (after-all (begun h) calls .left-over ++ to-come)) (from-start .same ∙ sym (from-start-along .lines-is))
 
   pub from-start-ended : after-all (begun h) calls .fed .phase ≡ ENDED → outputs (begun h) calls ≡ output base-limits (stream calls ++ to-come)
   from-start-ended e =
@@ -141,13 +167,22 @@ module _ (h : Held) (r : Ready h) (calls : List Call) (to-come : List ℕ) (p : 
 
 -- ---- with large buffers the run ends
 
-settled-after : (r : Run) (c : Call) → Leaves (c .last) (after r c .fed) (after r c .left-over) → Settled (after r c)
-settled-after r c (run-ended e) = over e
-settled-after r c (run-waits e l h) = few h
+-- between calls: the end line is written, or no byte is left over but those of a command cut short
+data Rests (r : Run) : Type 0 where
+  rests-over : r .fed .phase ≡ ENDED → Rests r
+  rests-few : r .fed .phase < END → length (r .left-over) ≤ 8 → waits (r .left-over) ≡ true → Rests r
+
+rests-after : (r : Run) (c : Call) → Leaves (c .last) (after r c .fed) (after r c .left-over) → Rests (after r c)
+rests-after r c (run-ended e) = rests-over e
+rests-after r c (run-waits e l h w) = rests-few (omega (arith, e)) h w
+
+settled-after : (r : Run) → Rests r → Settled r
+settled-after r (rests-over e) = over e
+settled-after r (rests-few q h w) = few h
 
 last-over : (r : Run) (c : Call) → c .last ≡ true → Leaves (c .last) (after r c .fed) (after r c .left-over) → after r c .fed .phase ≡ ENDED
 last-over r c l (run-ended e) = e
-last-over r c l (run-waits e f h) = absurd (true≢false (sym l ∙ f))
+last-over r c l (run-waits e f h w) = absurd (true≢false (sym l ∙ f))
 
 ended-stays : (r : Run) (c : Call) → r .fed .phase ≡ ENDED → after r c .fed .phase ≡ ENDED
 unfolding after fed-by
@@ -181,39 +216,69 @@ says-none : says-last [] ≡ true → ⊥
 unfolding says-last
 says-none e = false≢true e
 
-leaves-after : (to-come : List ℕ) (r : Run) (c : Call) (calls : List Call) (s : State) → Goes r s → Proper (c ∷ calls) to-come → Roomy (c ∷ calls) → Settled r
+leaves-after : (to-come : List ℕ) (r : Run) (c : Call) (calls : List Call) (s : State) → Goes r s → Proper (c ∷ calls) to-come → Roomy (c ∷ calls) → Rests r
     → Leaves (c .last) (after r c .fed) (after r c .left-over)
 unfolding in-hand
-leaves-after to-come r c calls s g p m (over e) = run-ended (ended-stays r c e)
-leaves-after to-come r c calls s g p m (few h) =
+leaves-after to-come r c calls s g p m (rests-over e) = run-ended (ended-stays r c e)
+leaves-after to-come r c calls s g p m (rests-few q h w) =
     one-leaves r c s g (proper-small c calls to-come p) (stream calls ++ to-come) (proper-last c calls to-come p)
     (omega (arith, roomy-first c calls m, length-append (r .left-over) (c .block)))
 
-all-settled : (to-come : List ℕ) (calls : List Call) (r : Run) (s : State) → Goes r s → Proper calls to-come → Roomy calls → Settled r → Settled (after-all r calls)
+all-rests : (to-come : List ℕ) (calls : List Call) (r : Run) (s : State) → Goes r s → Proper calls to-come → Roomy calls → Rests r → Rests (after-all r calls)
 unfolding after-all
-all-settled to-come [] r s g p m h = h
-all-settled to-come (c ∷ calls) r s g p m h =
+all-rests to-come [] r s g p m h = h
+all-rests to-come (c ∷ calls) r s g p m h =
     let o : One r c s (stream calls ++ to-come) = here to-come r c calls s g p in
-    all-settled to-come calls (after r c) (o .state) (o .going) (proper-rest c calls to-come p) (roomy-rest c calls m)
-    (settled-after r c (leaves-after to-come r c calls s g p m h))
+    all-rests to-come calls (after r c) (o .state) (o .going) (proper-rest c calls to-come p) (roomy-rest c calls m)
+    (rests-after r c (leaves-after to-come r c calls s g p m h))
 
-all-end : (calls : List Call) (r : Run) (s : State) → Goes r s → Proper calls [] → Roomy calls → Settled r → says-last calls ≡ true → after-all r calls .fed .phase ≡ ENDED
+all-end : (calls : List Call) (r : Run) (s : State) → Goes r s → Proper calls [] → Roomy calls → Rests r → says-last calls ≡ true → after-all r calls .fed .phase ≡ ENDED
 all-end [] r s g p m h e = absurd (says-none e)
 all-end (c ∷ []) r s g p m h e = ap (λ (q : Run). q .fed .phase) (all-one r c) ∙ last-over r c (says-one c e) (leaves-after [] r c [] s g p m h)
 all-end (c ∷ d ∷ calls) r s g p m h e =
     let o : One r c s (stream (d ∷ calls) ++ []) = here [] r c (d ∷ calls) s g p in
     ap (λ (q : Run). q .fed .phase) (all-more r c (d ∷ calls))
-    ∙ all-end (d ∷ calls) (after r c) (o .state) (o .going) (proper-rest c (d ∷ calls) [] p) (roomy-rest c (d ∷ calls) m) (settled-after r c (leaves-after [] r c (d ∷ calls) s g p m h)) (says-more c d calls e)
+    ∙ all-end (d ∷ calls) (after r c) (o .state) (o .going) (proper-rest c (d ∷ calls) [] p) (roomy-rest c (d ∷ calls) m) (rests-after r c (leaves-after [] r c (d ∷ calls) s g p m h)) (says-more c d calls e)
 
-begun-settled : (h : Held) → Settled (begun h)
-unfolding begun
-begun-settled h = few (omega arith)
+begun-rests : (h : Held) → Rests (begun h)
+unfolding begun begin waits no-bytes
+begun-rests h = rests-few (omega arith) (omega arith) refl
 
 pub from-start-whole : (h : Held) → Ready h → (calls : List Call) → Proper calls [] → Roomy calls → says-last calls ≡ true
     → outputs (begun h) calls ≡ output base-limits (stream calls)
 from-start-whole h r calls p m e =
-    from-start-ended h r calls [] p (all-end calls (begun h) (start base-limits) (begun-goes h r) p m (begun-settled h) e)
+    from-start-ended h r calls [] p (all-end calls (begun h) (start base-limits) (begun-goes h r) p m (begun-rests h) e)
     ∙ ap (output base-limits) (append-nil (stream calls))
 
+from-start-rests : (h : Held) → Ready h → (calls : List Call) (to-come : List ℕ) → Proper calls to-come → Roomy calls → Rests (after-all (begun h) calls)
+from-start-rests h r calls to-come p m = all-rests to-come calls (begun h) (start base-limits) (begun-goes h r) p m (begun-rests h)
+
 pub from-start-settled : (h : Held) → Ready h → (calls : List Call) (to-come : List ℕ) → Proper calls to-come → Roomy calls → Settled (after-all (begun h) calls)
-from-start-settled h r calls to-come p m = all-settled to-come calls (begun h) (start base-limits) (begun-goes h r) p m (begun-settled h)
+from-start-settled h r calls to-come p m = settled-after (after-all (begun h) calls) (from-start-rests h r calls to-come p m)
+
+-- ---- a run that a command ends
+
+nothing-comes : (l to-come : List ℕ) → l ++ to-come ≡ [] → l ++ [] ≡ []
+nothing-comes [] to-come e = refl
+nothing-comes (b ∷ l) to-come e = absurd (nil≢cons (sym e))
+
+-- calls that are proper with more to come are so with nothing to come
+proper-none : (calls : List Call) (to-come : List ℕ) → Proper calls to-come → Proper calls []
+unfolding Proper
+proper-none [] to-come p = tt
+proper-none (c ∷ calls) to-come p = (λ e. nothing-comes (stream calls) to-come (p .0 e), (p .1 .0, proper-none calls to-come (p .1 .1)))
+
+still-waits : (bytes : List ℕ) (s : State) (f : Fed) (rest : List ℕ) → Along (bytes ++ []) s f (rest ++ []) → f .phase < END → waits rest ≡ true → Ended-within bytes → ⊥
+still-waits bytes s f rest a q w d =
+    let b : Along bytes s f rest = rw (append-nil bytes, append-nil rest) at a in
+    never-ended bytes (f .number) (ap waits (sym (b .rest-is q)) ∙ w) (b .went-on q) d
+
+over-or-waits : (bytes : List ℕ) (s : State) (r : Run) → Along (bytes ++ []) s (r .fed) (r .left-over ++ []) → Ended-within bytes → Rests r → r .fed .phase ≡ ENDED
+over-or-waits bytes s r a d (rests-over e) = e
+over-or-waits bytes s r a d (rests-few q h w) = absurd (still-waits bytes s (r .fed) (r .left-over) a q w d)
+
+pub from-start-by-command : (h : Held) → Ready h → (calls : List Call) (to-come : List ℕ) → Proper calls to-come → Roomy calls → Ended-within (stream calls)
+    → after-all (begun h) calls .fed .phase ≡ ENDED
+from-start-by-command h r calls to-come p m d =
+    let p′ : Proper calls [] = proper-none calls to-come p in
+    over-or-waits (stream calls) (from-start h r calls [] p′ .state) (after-all (begun h) calls) (from-start-along h r calls [] p′) d (from-start-rests h r calls to-come p m)

@@ -2,6 +2,8 @@ pub mod Reading
 pub mod Wakeups
 pub mod Length
 pub mod Going
+pub mod Taken
+pub mod Along
 pub mod Step
 pub mod Block
 pub mod Calls

@@ -2,7 +2,7 @@
 use Prim.Native.Nat.{ℕ, suc, _+_, _-_, _≤_, _<_}
 use mathlib.Core.Path.{_≡_, refl, sym, ap, _∙_}
 use mathlib.Core.Bool.{Bool, true, false, cond, true≢false}
-use mathlib.Core.List.{List, [], _∷_, _++_, append-assoc}
+use mathlib.Core.List.{List, _++_, append-assoc}
 use lib.ListN.{length, take, drop, length-append, length-drop}
 use lib.Seq.{drop-drop, length-take-le}
 use lib.Dec.{eqb, ltb}
@@ -11,8 +11,7 @@ use native.Mathlib.Omega.{arith}
 use native.Mathlib.Nat.{mod-eq-of-lt}
 use Rattle.rules.specs.Line.{both}
 use Rattle.rules.specs.State.{State}
-use Rattle.rules.specs.Reached.{limits-kept}
-use Rattle.rules.specs.Commands.{Answer, Step, step, after-calls}
+use Rattle.rules.specs.Commands.{Answer, Step, step}
 use Rattle.rules.specs.Requests.{read, past}
 use Rattle.rules.specs.Lines.{line, end-line, lines-from, used, ends, refused-by, last-number}
 use Rattle.request.proofs.Bytes.{past-drop}
@@ -28,6 +27,8 @@ use Rattle.command_laws.specs.Command.{command-law, command-used}
 use Rattle.feed_laws.specs.Reading.{past-more, past-length, used-most, used-one, lines-step, turns, some-bytes}
 use Rattle.feed_laws.specs.Length.{line-fits}
 use Rattle.feed_laws.specs.Going.{left-at, left, left-commands, left-end, Going, Within, line-in, done-after, taken-after, length-after}
+use Rattle.feed_laws.specs.Taken.{after-commands, does, so-far}
+use Rattle.feed_laws.specs.Along.{limits-step, Along, lines-next, same-step, state-then, refused-then, rest-then}
 
 -- ---- the rules' lines, where the command stands whole in the block b, with more behind it
 
@@ -78,6 +79,17 @@ module _ (s : State) (block more : List ℕ) (at : ℕ) (there : at < length blo
   pub some-there : 1 ≤ length b
   some-there = omega (arith, length-drop at block)
 
+  -- the bytes behind a command that does not end the run
+  pub past-it : (u n : ℕ) → ends number (step s b .answer .refused) ≡ false → u ≡ used (read (s .limits) b) → n ≡ length block
+      → drop (nextAt n at u false) block ++ more ≡ past (used (read (s .limits) b)) (b ++ more)
+  past-it u n f i j =
+      let c : ℕ = used (read (s .limits) b) in
+      let one : 1 ≤ c = used-one s b number f in
+      let most : c ≤ length b = used-most (s .limits) b in
+      ap (λ (v : ℕ). drop (nextAt n at v false) block ++ more) i
+      ∙ ap (λ (v : ℕ). drop v block ++ more) (next-on n at c (omega arith) one (omega (arith, length-drop at block)))
+      ∙ next-bytes block more at c most
+
   pub after-same : (e : Bool) (u n number′ refused′ : ℕ) → ends number (step s b .answer .refused) ≡ e → u ≡ used (read (s .limits) b) → n ≡ length block
       → number′ ≡ number + 1 → refused′ ≡ refused + refused-by (step s b .answer)
       → left-at (step s b .state) (phaseAfter e) number′ refused′ (drop (nextAt n at u e) block ++ more) ≡ after-line s b more some-there alike number refused (step s b)
@@ -88,22 +100,13 @@ module _ (s : State) (block more : List ℕ) (at : ℕ) (there : at < length blo
   after-same false u n number′ refused′ f i j k l =
       let c : ℕ = used (read (s .limits) b) in
       let one : 1 ≤ c = used-one s b number f in
-      let most : c ≤ length b = used-most (s .limits) b in
-      let past-it : drop (nextAt n at u false) block ++ more ≡ past c (b ++ more) =
-      ap (λ (v : ℕ). drop (nextAt n at v false) block ++ more) i
-      ∙ ap (λ (v : ℕ). drop v block ++ more) (next-on n at c (omega arith) one (omega (arith, length-drop at block)))
-      ∙ next-bytes block more at c most in
       ap (λ (p : ℕ). left-at (step s b .state) p number′ refused′ (drop (nextAt n at u false) block ++ more)) commands-after
-      ∙ rw (k, l, past-it)
+      ∙ rw (k, l, past-it u n f i j)
       (left-commands (step s b .state) (number + 1) (refused + refused-by (step s b .answer)) (past c (b ++ more))
       ∙ turns (length (past c (b ++ more))) (length (b ++ more)) (step s b .state) (number + 1) (refused + refused-by (step s b .answer)) (past c (b ++ more)) (omega arith) (omega (arith, past-length c (b ++ more)))
       ∙ rw f)
 
 -- ---- the step
-
-limits-step : (s : State) (bytes : List ℕ) → step s bytes .state .limits ≡ s .limits
-unfolding after-calls
-limits-step s bytes = limits-kept s (bytes ∷ [])
 
 one-same : (r : ℕ) (a : Answer) → r ≡ a .refused → oneIf r ≡ refused-by a
 unfolding oneIf refused-by
@@ -143,6 +146,13 @@ next-further n at u false h =
     (λ e. both (ltb 1 (n - at)) (λ f. rw (e, f) (omega arith, omega (arith, ltb-true 1 (n - at) f))) (λ f. rw (e, f) (omega arith, omega arith)))
     (λ e. let z : u ≡ 0 → ⊥ = eqb-false u 0 e in
     both (ltb u (n - at)) (λ f. rw (e, f) (omega arith, omega (arith, ltb-true u (n - at) f))) (λ f. rw (e, f) (omega arith, omega arith)))
+
+-- a command further, none ended the run
+went-then : (e : Bool) (k : ℕ) (stream : List ℕ) → e ≡ false → ends k (does (after-commands k stream) .answer .refused) ≡ e
+    → ((j : ℕ) → j < k → ends j (does (after-commands j stream) .answer .refused) ≡ false) → (j : ℕ) → j < k + 1 → ends j (does (after-commands j stream) .answer .refused) ≡ false
+went-then e k stream c d w j q =
+    both (ltb j k) (λ t. w j (ltb-true j k t))
+    (λ t. let same : j ≡ k = omega (arith, ltb-false j k t) in rw same (d ∙ c))
 
 module _ (bytes : List ℕ) (n : ℕ) (fits : n ≤ length bytes) (to-come : List ℕ) (w : World) (s : State)
     (g : Going (w .threads) (w .cpus) (w .nodes) (w .fed) s) (i : Within n (w .output) (w .fed))
@@ -215,16 +225,19 @@ module _ (bytes : List ℕ) (n : ℕ) (fits : n ≤ length bytes) (to-come : Lis
       after-same s block to-come (f .at) in-it alike (f .number) (f .refused) ended (next .answer .used) n (v .fed .number) (v .fed .refused)
       ended-is (command-used (g .stands) (g .reachable) bytes n (f .at)) (sym long) number-is refused-now
 
+  line-then-left : line (f .number) (st .answer) ++ left (st .state) (v .fed) (drop (v .fed .at) block ++ to-come) ≡ left s f (drop (f .at) block ++ to-come)
+  line-then-left =
+      ap (λ (x : List ℕ). line (f .number) (st .answer) ++ x) left-is
+      ∙ sym (line-first s (drop (f .at) block) to-come (some-there s block to-come (f .at) in-it alike (f .number) (f .refused)) alike (f .number) (f .refused))
+      ∙ ap (λ (q : ℕ). left-at s q (f .number) (f .refused) (drop (f .at) block ++ to-come)) (sym p)
+
   pub step-same : take (v .fed .done) (v .output) ++ left (st .state) (v .fed) (drop (v .fed .at) block ++ to-come)
       ≡ take (f .done) (w .output) ++ left s f (drop (f .at) block ++ to-come)
   step-same =
       ap (λ (x : List ℕ). x ++ left (st .state) (v .fed) (drop (v .fed .at) block ++ to-come)) written-is
       ∙ append-assoc (take (f .done) (w .output)) (lineOf (next .answer) f) (left (st .state) (v .fed) (drop (v .fed .at) block ++ to-come))
       ∙ ap (λ (x : List ℕ). take (f .done) (w .output) ++ x)
-      (ap (λ (x : List ℕ). x ++ left (st .state) (v .fed) (drop (v .fed .at) block ++ to-come)) line-is
-      ∙ ap (λ (x : List ℕ). line (f .number) (st .answer) ++ x) left-is
-      ∙ sym (line-first s (drop (f .at) block) to-come (some-there s block to-come (f .at) in-it alike (f .number) (f .refused)) alike (f .number) (f .refused))
-      ∙ ap (λ (q : ℕ). left-at s q (f .number) (f .refused) (drop (f .at) block ++ to-come)) (sym p))
+      (ap (λ (x : List ℕ). x ++ left (st .state) (v .fed) (drop (v .fed .at) block ++ to-come)) line-is ∙ line-then-left)
 
   pub step-going : Going (v .threads) (v .cpus) (v .nodes) (v .fed) (st .state)
   unfolding answeredFed counted
@@ -255,3 +268,33 @@ module _ (bytes : List ℕ) (n : ℕ) (fits : n ≤ length bytes) (to-come : Lis
   pub step-phase : 1 ≤ v .fed .phase
   unfolding answeredFed counted
   step-phase = phase-some ended .0
+
+  -- one command further along the stream
+  pub step-along : (stream : List ℕ) → Along stream s f (drop (f .at) block ++ to-come) → Along stream (st .state) (v .fed) (drop (v .fed .at) block ++ to-come)
+  unfolding answeredFed counted
+  step-along stream a =
+      let going-on : f .phase < END = rw p (omega arith) in
+      let rest-was : drop (f .at) block ++ to-come ≡ after-commands (f .number) stream .bytes = a .rest-is going-on in
+      record {
+        state-is = rw number-is (state-then stream (f .number) s (drop (f .at) block) to-come alike (a .state-is) rest-was);
+        rest-is = λ q. rw (number-is, phase-before ended q)
+            (past-it s block to-come (f .at) in-it alike (f .number) (f .refused) (next .answer .used) n (ended-is ∙ phase-before ended q)
+            (command-used (g .stands) (g .reachable) bytes n (f .at)) (sym long)
+            ∙ rest-then stream (f .number) s (drop (f .at) block) to-come alike (a .state-is) rest-was);
+        lines-is =
+            let left-now : List ℕ = left (st .state) (v .fed) (drop (v .fed .at) block ++ to-come) in
+            ap (λ (m : ℕ). so-far (v .fed .phase) m (v .fed .refused) stream ++ left-now) number-is
+            ∙ ap (λ (l : List ℕ). l ++ left-now)
+            (lines-next ended (f .number) (f .refused) (v .fed .refused) stream
+            ∙ ap (λ (t : Step). so-far COMMANDS (f .number) (f .refused) stream ++ line (f .number) (t .answer))
+            (sym (same-step stream (f .number) s (drop (f .at) block) to-come alike (a .state-is) rest-was)))
+            ∙ append-assoc (so-far COMMANDS (f .number) (f .refused) stream) (line (f .number) (st .answer)) left-now
+            ∙ ap (λ (l : List ℕ). so-far COMMANDS (f .number) (f .refused) stream ++ l) line-then-left
+            ∙ ap (λ (q : ℕ). so-far q (f .number) (f .refused) stream ++ left s f (drop (f .at) block ++ to-come)) (sym p)
+            ∙ a .lines-is;
+        none-yet = λ q. absurd (omega (arith, phase-some ended .0, q));
+        went-on = λ q. rw number-is
+            (went-then ended (f .number) stream (phase-before ended q)
+            (ap (ends (f .number)) (sym (refused-then stream (f .number) s (drop (f .at) block) to-come alike (a .state-is) rest-was)) ∙ ended-is)
+            (a .went-on going-on));
+      }

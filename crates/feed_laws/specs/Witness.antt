@@ -6,10 +6,14 @@ use mathlib.Core.Bool.{Bool, true, false, false≢true}
 use mathlib.Core.List.{List, [], _∷_, _++_}
 use native.Mathlib.Omega.{arith}
 use lib.ListN.{length}
-use Rattle.rules.specs.State.{base-limits}
-use Rattle.rules.specs.Lines.{output}
+use Rattle.rules.specs.State.{base-limits, start}
+use Rattle.rules.specs.Requests.{widths, read-operands, read}
+use Rattle.rules.specs.Commands.{nothing-shown, refuses, answered, step}
+use Rattle.rules.specs.Lines.{ends, no-bytes, output}
 use Rattle.demands.specs.Calls.{Held, Ready}
 use Rattle.feed_laws.specs.Calls.{Call, outputs, stream, Proper, Roomy, says-last, begun}
+use Rattle.feed_laws.specs.Reading.{is-whole}
+use Rattle.feed_laws.specs.Taken.{says, does, after-commands, Ended-within}
 use Rattle.feed_laws.specs.Output.{feed-output}
 
 abbrev call : List ℕ → Bool → List ℕ → Call
@@ -53,3 +57,8 @@ pub blocks-output : (h : Held) → Ready h → (buffer : List ℕ) (blocks : Lis
 blocks-output h ready buffer blocks e s =
     feed-output h ready (fed-with buffer blocks) (proper buffer blocks e) (roomy buffer blocks e s) (last-said buffer blocks)
     ∙ ap (output base-limits) (stream-joined buffer blocks)
+
+-- And there are bytes that hold a command that ends the run: those that begin with one that no command has.
+pub ended-at-once : (bytes : List ℕ) → Ended-within (0 ∷ bytes)
+unfolding after-commands no-bytes says is-whole read read-operands widths ends does step answered refuses nothing-shown start base-limits
+ended-at-once bytes = record { number = 0; there = refl; whole = refl; ended = refl }

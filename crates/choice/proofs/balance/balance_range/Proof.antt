@@ -1,6 +1,7 @@
 use Rattle.choice.specs.Balance.{extremes-end}
 use mathlib.Core.Path.{sym}
-use Rattle.choice.specs.Balance.{extremes-turn}
+use Rattle.choice.specs.Balance.{extremes-yes, extremes-no}
+use mathlib.Core.Path.{ap}
 use mathlib.Core.Path.{_∙_}
 use mathlib.Core.Path.{refl}
 use Prim.Native.Nat.{_-_}
@@ -11,6 +12,7 @@ use Rattle.nodes.specs.Walk.{those-from}
 use Rattle.rules.specs.Choice.{extremes}
 use Rattle.topology.specs.CpuSet.{contains}
 use mathlib.Core.Path.{_≡_}
+use mathlib.Core.Logic.{⊎-elim}
 use borrow.Author.Needs.{needs}
 use Rattle.choice.proofs.balance.balance_range.Statement.{statement}
 use Rattle.choice.proofs.balance.balance_range.Tie as tie
@@ -24,8 +26,11 @@ abbrev μ-loop : tie.MeasureT-loop
 loop-holds : tie.Need-loop-holds Inv-loop μ-loop
 loop-holds c = refl
 
-compare-requires : tie.Need-compare-requires Inv-loop μ-loop
-compare-requires c κs = search needs
+counts-requires : tie.Need-counts-requires Inv-loop μ-loop
+counts-requires c κs = search needs
+
+raise-requires : tie.Need-raise-requires Inv-loop μ-loop
+raise-requires c κs = search needs
 
 add-c : tie.Need-add-c Inv-loop μ-loop
 add-c c = search needs
@@ -34,7 +39,11 @@ loop-less : tie.Need-loop-less Inv-loop μ-loop
 loop-less c = search needs
 
 loop-again : tie.Need-loop-again Inv-loop μ-loop
-loop-again c = rw (c .compare .ensures) (c .before .before .loop .inv ∙ extremes-turn _ _ _ _ _ _ _ (c .before .loop-test .taken))
+loop-again c =
+    ⊎-elim
+    (λ w. c .before .before .before .loop .inv ∙ extremes-yes _ _ _ _ _ _ _ _ (c .before .before .loop-test .taken) (sym (c .before .counts .ensures) ∙ w .0 .taken) (ap extremes-in (w .2) ∙ w .1 .ensures))
+    (λ w. c .before .before .before .loop .inv ∙ extremes-no _ _ _ _ _ _ _ _ (c .before .before .loop-test .taken) (sym (c .before .counts .ensures) ∙ w .0 .left) (ap extremes-in (w .1)))
+    (c .if1 .came)
 
 returns : tie.Need-returns Inv-loop μ-loop
 returns c = sym (c .before .loop .inv ∙ extremes-end _ _ _ _ _ _ _ (c .loop-test .left))
@@ -42,4 +51,4 @@ returns c = sym (c .before .loop .inv ∙ extremes-end _ _ _ _ _ _ _ (c .loop-te
 pub balance-range-spec : {M : Type 1} → statement M
 balance-range-spec =
     tie.close
-    (tie.spec Inv-loop μ-loop loop-holds compare-requires add-c loop-less loop-again returns)
+    (tie.spec Inv-loop μ-loop loop-holds counts-requires raise-requires add-c loop-less loop-again returns)
