@@ -3,8 +3,6 @@
 SAYS = {
     'replay::fill': {},
     'replay::show': {},
-    'replay::keep': {},
-    'replay::stops': {},
     'replay::not': {},
     'replay::input_failed': {},
     'replay::output_failed': {},

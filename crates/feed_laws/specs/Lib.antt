@@ -12,3 +12,4 @@ pub mod EndLine
 pub mod Output
 pub mod WholeLine
 pub mod Witness
+pub mod Program

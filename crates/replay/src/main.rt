@@ -1,4 +1,7 @@
 // Commands from standard input, document 01's output to standard output.
+use feed::block::is_ended;
+use feed::block::is_last;
+use feed::block::keep;
 use feed::fed::ENDED;
 use feed::fed::Fed;
 use feed::fed::begin;
@@ -55,25 +58,6 @@ fn show(output: &[u8], n: usize) -> bool {
     false
 }
 
-// The bytes from `from` to below n go to the front; answers how many.
-fn keep(input: &mut [u8], from: usize, n: usize) -> usize {
-    if input.len() < n {
-        return 0;
-    }
-    if n <= from {
-        return 0;
-    }
-    let count = n - from;
-    let mut i: usize = 0;
-    while i < count {
-        let j = from + i;
-        let byte = input[j];
-        input[i] = byte;
-        i += 1;
-    }
-    count
-}
-
 // A file failed: the output has no end line, and standard error says why.
 fn input_failed() -> bool {
     io::write_all(
@@ -87,11 +71,6 @@ fn output_failed() -> bool {
         libc::STDERR_FILENO,
         b"replay: standard output could not be written\n",
     )
-}
-
-// The end line is written.
-fn stops(f: Fed) -> bool {
-    f.phase == ENDED
 }
 
 fn not(shown: bool) -> bool {
@@ -130,14 +109,14 @@ fn serve(
             return false;
         }
         let n = got.bytes;
-        let last = n <= left;
+        let last = is_last(left, n);
         let f = feed(threads, cpus, nodes, input, output, n, last, fed);
         let shown = show(output, f.done);
         if not(shown) {
             output_failed();
             return false;
         }
-        if stops(f) {
+        if is_ended(f) {
             return true;
         }
         let kept = keep(input, f.at, n);
