@@ -56,14 +56,11 @@ pub fn prepare(cpus: &mut [CpuWords], nodes: &mut [NodeWords], state: State, cal
         × ((now (cpus .exit) ≡ prepares (now (cpus .entry)) (now (nodes .entry)) state call .cpus) × (now (nodes .exit) ≡ prepares (now (cpus .entry)) (now (nodes .entry)) state call .nodes))
         ⌝ }
 {
-    if call.kind == 0x01 {
-        return declare_cpu(cpus, state, call);
+    let kind = call.kind;
+    match kind {
+        0x01 => declare_cpu(cpus, state, call),
+        0x02 => add_node(nodes, state, call),
+        0x03 => place_cpu(cpus, nodes, state, call),
+        _ => seal(state, call),
     }
-    if call.kind == 0x02 {
-        return add_node(nodes, state, call);
-    }
-    if call.kind == 0x03 {
-        return place_cpu(cpus, nodes, state, call);
-    }
-    seal(state, call)
 }
