@@ -7,5 +7,6 @@ pub mod Demand1
 pub mod Demand2
 pub mod Demand3
 pub mod Witness
+pub mod ProvisosMet
 pub mod Begun
 pub mod Frame
