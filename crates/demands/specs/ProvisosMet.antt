@@ -71,8 +71,11 @@ into x k bucket filling emptying =
     record { thread = x; part = k; bucket = bucket; current = false; pinned = false; insert-idx = filling; take-idx = emptying }
 
 -- before thread 0 comes in, its put, and after it
+abbrev pub put-1 : Put
+put-1 = into 1 part.Idle 0 0 0
+
 abbrev pub before : List PutOrTake
-before = a-put (into 1 part.Idle 0 0 0) ∷ []
+before = a-put put-1 ∷ []
 
 abbrev pub put-0 : Put
 put-0 = into 0 part.Timeshare 4 0 0
@@ -127,10 +130,10 @@ timeshare≢realtime e = let z : _≡_ {A = ℕ} 0 1 = cc in absurd (omega arith
 idle≢realtime : part.Idle ≢ part.Realtime
 idle≢realtime e = let z : _≡_ {A = ℕ} 0 1 = cc in absurd (omega arith)
 
-only-idle : (w : Wait) → In w (waiting 0 before) → w .put .part ≢ part.Realtime
+only-one : (p : Put) → p .part ≢ part.Realtime → (w : Wait) → In w (waiting 0 (a-put p ∷ [])) → w .put .part ≢ part.Realtime
 unfolding gone waiting In
-only-idle w (inl e) r = idle≢realtime (ap (λ (v : Wait). v .put .part) e ∙ r)
-only-idle w (inr e) r = absurd e
+only-one p a w (inl e) r = a (ap (λ (v : Wait). v .put .part) e ∙ r)
+only-one p a w (inr e) r = absurd e
 
 one-on : (i : ℕ) → suc i ≢ i
 one-on i e = absurd (omega arith)
@@ -138,7 +141,7 @@ one-on i e = absurd (omega arith)
 pub provided : (n : ℕ) → Provided before put-0 (since n)
 unfolding Arrivals is-number
 provided n = record {
-  nobody-realtime = only-idle;
+  nobody-realtime = only-one put-1 idle≢realtime;
   none-to-realtime = (timeshare≢realtime, (idle≢realtime, (timeshare≢realtime, (timeshare≢realtime, (timeshare≢realtime, tt)))));
   none-current = ((λ t. refl), ((λ t. refl), ((λ t. refl), ((λ t. refl), ((λ t. refl), tt)))));
   buckets-differ = ((λ t. one-on 0), ((λ t. one-on 0), ((λ t. one-on 1), ((λ t. one-on 2), ((λ t. one-on 3), tt)))));
