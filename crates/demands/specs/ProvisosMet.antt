@@ -21,19 +21,12 @@ use Rattle.rules.specs.State.{at, is-number, base-limits, Topology, Cpu, State,
 use Rattle.rules.specs.Requests.{schedule}
 use Rattle.rules.specs.Commands.{Step, obeys, step, after-calls, history}
 use Rattle.rules.specs.Computed.{computed}
+use Rattle.rules.specs.Witnesses.{one-cpu, comes}
 use Rattle.demands.specs.Provisos.{Arrivals, Provided}
 use Rattle.demands.specs.Demand3.{demand-3-bound}
 use Rattle.demands.specs.Witness.{begun, ready}
 
 -- ---- the calls
-
--- CPU 0 on the root, sealed
-unfoldable pub one-cpu : List (List ℕ)
-one-cpu = (0x01 ∷ 0 ∷ []) ∷ (0x03 ∷ 0 ∷ 0 ∷ []) ∷ (0x04 ∷ []) ∷ []
-
--- thread x is declared with class and value, not pinned, and put into the queue
-unfoldable pub comes : ℕ → ℕ → ℕ → List (List ℕ)
-comes x class value = (0x10 ∷ x ∷ 0 ∷ class ∷ value ∷ 255 ∷ []) ∷ (0x12 ∷ 0 ∷ x ∷ 0 ∷ []) ∷ []
 
 -- a hard tick, and a stat tick, which moves the filling index on
 unfoldable pub ticks : List (List ℕ)
@@ -50,8 +43,8 @@ returns = 0x13 ∷ 0 ∷ 5 ∷ []
 -- thread 0 is taken.
 unfoldable pub first : List (List ℕ)
 first =
-    one-cpu ++ comes 1 1 9 ++ comes 0 2 64 ++ ticks
-    ++ comes 2 2 127 ++ comes 3 1 9 ++ (blocks ∷ [])
+    one-cpu ++ comes 1 1 9 255 ++ comes 0 2 64 255 ++ ticks
+    ++ comes 2 2 127 255 ++ comes 3 1 9 255 ++ (blocks ∷ [])
     ++ ticks ++ (returns ∷ []) ++ ticks ++ (returns ∷ []) ++ ticks ++ (returns ∷ [])
     ++ (blocks ∷ returns ∷ [])
 

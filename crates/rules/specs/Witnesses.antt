@@ -41,14 +41,14 @@ unfolding computed gone waiting threads how-many unpinned rank first-bucket onwa
 shown = 0
 
 -- CPU 0 alone, or CPUs 0 and 1, on the root, sealed
-unfoldable one-cpu : List (List ℕ)
+unfoldable pub one-cpu : List (List ℕ)
 one-cpu = (0x01 ∷ 0 ∷ []) ∷ (0x03 ∷ 0 ∷ 0 ∷ []) ∷ (0x04 ∷ []) ∷ []
 
 unfoldable two-cpus : List (List ℕ)
 two-cpus = (0x01 ∷ 0 ∷ []) ∷ (0x01 ∷ 1 ∷ []) ∷ (0x03 ∷ 0 ∷ 0 ∷ []) ∷ (0x03 ∷ 0 ∷ 1 ∷ []) ∷ (0x04 ∷ []) ∷ []
 
 -- thread x is declared with class, value and pin (255: none), and put into a queue
-unfoldable comes : ℕ → ℕ → ℕ → ℕ → List (List ℕ)
+unfoldable pub comes : ℕ → ℕ → ℕ → ℕ → List (List ℕ)
 comes x class value pin = (0x10 ∷ x ∷ 0 ∷ class ∷ value ∷ pin ∷ []) ∷ (0x12 ∷ 0 ∷ x ∷ 0 ∷ []) ∷ []
 
 -- CPU c takes the next thread; flags 0 blocks the one that runs, 5 puts it back into the queue
