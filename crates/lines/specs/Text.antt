@@ -1,5 +1,5 @@
 -- Writing byte after byte into a buffer: where the next byte goes, and the parts of a line.
-use Prim.Native.Nat.{ℕ, _+_}
+use Prim.Native.Nat.{ℕ, _+_, _/_, _%_}
 use mathlib.Core.Bool.{Bool, cond}
 use mathlib.Core.Option.{Option}
 use mathlib.Core.List.{List, [], _∷_, _++_}
@@ -23,6 +23,13 @@ write-one t b = text (set (t .bytes) (t .at) b) (cond (ltb (t .at) (length (t .b
 unfoldable pub write : Text → List ℕ → Text
 write t [] = t
 write t (b ∷ l) = write (write-one t b) l
+
+-- the last two digits of a number, and the last four, zeros too
+unfoldable pub two-digits : ℕ → List ℕ
+two-digits n = (48 + n / 10 % 10) ∷ (48 + n % 10) ∷ []
+
+unfoldable pub four-digits : ℕ → List ℕ
+four-digits n = two-digits (n / 100) ++ two-digits n
 
 -- the parts of a command's line
 unfoldable pub numbers-part : ℕ → ℕ → List ℕ

@@ -2,9 +2,9 @@
 ghost use mathlib.Core.Path.{_≡_};
 ghost use mathlib.Core.List.{[], _∷_};
 ghost use Prim.Native.Nat.{_+_, _-_, _%_};
-ghost use Rattle.rules.specs.Lines.{decimal, number-or-dash, running-or-dash, line, header, end-line};
+ghost use Rattle.rules.specs.Lines.{digits, decimal, number-or-dash, running-or-dash, line, header, end-line};
 ghost use Rattle.lines.specs.Lines.{refusal-number, shown-option, running-option, answer-of, room, rendered, buffer-with};
-ghost use Rattle.lines.specs.Text.{text, write, counts-part, cpu-part, numbers-part};
+ghost use Rattle.lines.specs.Text.{text, write, two-digits, four-digits, counts-part, cpu-part, numbers-part};
 
 // The questions of document 01; `refusal-number` has their numbers.
 pub enum Refusal {
@@ -100,15 +100,58 @@ fn digit(n: u64) -> u8
     (48 + n % 10) as u8
 }
 
-// A number in decimal digits, the first ones first.
+// The last two digits of a number.
+fn put_two(buffer: &mut [u8], at: usize, n: u64) -> usize
+    ensures { λ r. ⌜ text (now (buffer .exit)) r ≡ write (text (now (buffer .entry)) at) (two-digits n) ⌝ }
+{
+    let next = put(buffer, at, digit(n / 10));
+    put(buffer, next, digit(n))
+}
+
+// The last four digits of a number.
+fn put_four(buffer: &mut [u8], at: usize, n: u64) -> usize
+    ensures { λ r. ⌜ text (now (buffer .exit)) r ≡ write (text (now (buffer .entry)) at) (four-digits n) ⌝ }
+{
+    let next = put_two(buffer, at, n / 100);
+    put_two(buffer, next, n)
+}
+
+// A number below 10,000; of a larger one the last four digits.
+fn put_short(buffer: &mut [u8], at: usize, n: u64) -> usize
+    ensures { λ r. ⌜ text (now (buffer .exit)) r ≡ write (text (now (buffer .entry)) at) (digits 4 n) ⌝ }
+{
+    if n < 10 {
+        return put(buffer, at, digit(n));
+    }
+    if n < 100 {
+        return put_two(buffer, at, n);
+    }
+    if n < 1000 {
+        let next = put(buffer, at, digit(n / 100));
+        return put_two(buffer, next, n);
+    }
+    put_four(buffer, at, n)
+}
+
+// A number of any length, four digits at a time, the first ones first.
+fn put_long(buffer: &mut [u8], at: usize, n: u64) -> usize
+    ensures { λ r. ⌜ text (now (buffer .exit)) r ≡ write (text (now (buffer .entry)) at) (decimal n) ⌝ }
+{
+    if n < 10000 {
+        return put_short(buffer, at, n);
+    }
+    let next = put_long(buffer, at, n / 10000);
+    put_four(buffer, next, n % 10000)
+}
+
+// A number in decimal digits. One digit, the common case, is written without a further call.
 fn put_number(buffer: &mut [u8], at: usize, n: u64) -> usize
     ensures { λ r. ⌜ text (now (buffer .exit)) r ≡ write (text (now (buffer .entry)) at) (decimal n) ⌝ }
 {
     if n < 10 {
         return put(buffer, at, digit(n));
     }
-    let next = put_number(buffer, at, n / 10);
-    put(buffer, next, digit(n))
+    put_long(buffer, at, n)
 }
 
 fn put_shown(buffer: &mut [u8], at: usize, shown: Shown) -> usize
