@@ -9,7 +9,7 @@ SPECS = {
     'lent.specs.Left': 'Memory Left',
     'lent.proofs.Past': 'get-past set-past',
     'lent.proofs.Cleared': 'cleared cleared-step cleared-all',
-    'lent.proofs.Exits': 'linked-is took-is',
+    'lent.proofs.Exits': 'linked-is inserted-is took-is',
 }
 
 BELOW = ['nleb→lt _ _ {h1}']
@@ -26,6 +26,6 @@ WALKS = {
             near='omega (arith, ltb→lt (z .1) n {h})')],
         proofs=['ltb→lt (z .1) n {h1}', 'omega (arith, ltb→lt (z .1) n {h1}, room .0)']),
     'rq::link_behind': dict(says='{chain} ∙ linked-is ys (a .0) (a .1 .0)'),
-    'rq::insert': 'insertDef',
+    'rq::insert': dict(by='inserted-is (a .0) (a .1 .0) (a .1 .1 .0) (a .1 .1 .1 .0) (record { threads = ys; cpus = ys′ })', unfolding='insertDef'),
     'rq::take': dict(by='{chain} ∙ took-is (a .0) (rqFront (queueAt ys′ (a .0)) (a .1 .0)) (record { threads = ys; cpus = ys′ })', unfolding='takeDef'),
 }

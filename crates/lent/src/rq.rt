@@ -1,23 +1,26 @@
 // The run queues of all CPUs in lent memory (rq.rs): links are fields of the thread records; heads, tails and counters are words of a CPU. A queue is
-// loaded from its CPU's words, goes by value into its operation, and is stored.
+// loaded from its CPU's words, goes by value into its operation, and what changed of it is stored.
 ghost use mathlib.Core.Path.{_≡_};
 ghost use lib.Dec.{eqb};
 ghost use Rattle.rules.specs.Times.{pinned};
 ghost use Rattle.thread.specs.Priority.{stable-effective-priority};
 ghost use Rattle.thread.specs.Reads.{reads};
 ghost use Rattle.thread.specs.Thread.{NONE};
+ghost use Rattle.processor.specs.Queue.{queueAt, queueStored};
 ghost use Rattle.lent.specs.Left.{leaves, leaves-one, becomes, becomes-one};
 ghost use Rattle.lent.specs.Rq.{arrivalOf, putIn, linkBehind, insertDef, isNothing, leftBy, takeDef, clockDef, hardtickDef};
 ghost use Rattle.lent.specs.declared.rq.Taken.the-variants as taken;
 use crate::records::get;
 use crate::records::set;
+use processor::rq::front;
+use processor::rq::insert_into;
 use processor::rq::load_queue;
-use processor::rq::store_queue;
+use processor::rq::store_numbers;
+use processor::rq::taken_front;
 use processor::words::CpuWords;
 use rules::Part;
 use runqueue::rq::Arrival;
 use runqueue::rq::Front;
-use runqueue::rq::RunQueue;
 use thread::NONE;
 use thread::Thread;
 use thread::time::OptionCpu;
@@ -103,12 +106,11 @@ pub fn insert(
 {
     let t = get(threads, x);
     let a = arrival(t, x, tick, current);
-    let q = load_queue(cpus, c);
-    let put = q.insert(a);
-    store_queue(cpus, c, put.queue);
-    let u = put_in(t, put.part);
+    let part = a.part();
+    let behind = insert_into(cpus, c, a, part);
+    let u = put_in(t, part);
     set(threads, x, u);
-    link_behind(threads, put.behind, x);
+    link_behind(threads, behind, x);
 }
 
 fn is_nothing(front: Front) -> bool
@@ -124,13 +126,13 @@ fn is_nothing(front: Front) -> bool
     }
 }
 
-// The queue when the thread that it found, whose record is t, has left the head of its list: nobody stands before it.
-fn left_by(q: RunQueue, front: Front, t: Thread) -> RunQueue
-    ensures { λ r. ⌜ r ≡ leftBy q front t ⌝ }
+// The thread that the queue of CPU c found, whose record is t, leaves the head of its list: nobody stands before it.
+fn leave(cpus: &mut [CpuWords], c: u64, front: Front, t: Thread)
+    ensures { λ _. ⌜ now (cpus .exit) ≡ queueStored (now (cpus .entry)) c (leftBy (queueAt (now (cpus .entry)) c) front t) ⌝ }
 {
     let stable = t.get_stable_effective_priority();
     let pinned = is_pinned(t);
-    q.taken(front, NONE, t.next, stable.value, pinned)
+    taken_front(cpus, c, front, t.next, stable.value, pinned);
 }
 
 fn nobody() -> Taken
@@ -149,15 +151,13 @@ fn handed_out(x: u64) -> Taken
 pub fn take(threads: &mut [Thread], cpus: &mut [CpuWords], c: u64, stealing: bool) -> Taken
     ensures { λ r. ⌜ leaves (takeDef c stealing) r threads cpus ⌝ }
 {
-    let q = load_queue(cpus, c);
-    let front = q.front(stealing);
-    if is_nothing(front) {
+    let found = front(cpus, c, stealing);
+    if is_nothing(found) {
         return nobody();
     }
-    let x = front.thread();
+    let x = found.thread();
     let t = get(threads, x);
-    let left = left_by(q, front, t);
-    store_queue(cpus, c, left);
+    leave(cpus, c, found, t);
     let u = t.running();
     set(threads, x, u);
     handed_out(x)
@@ -169,7 +169,7 @@ pub fn clock(cpus: &mut [CpuWords], c: u64)
 {
     let q = load_queue(cpus, c);
     let r = q.clock();
-    store_queue(cpus, c, r);
+    store_numbers(cpus, c, r);
 }
 
 // CPU c has its hard tick: how many ticks passed since the last.
@@ -178,6 +178,6 @@ pub fn hardtick(cpus: &mut [CpuWords], c: u64, tick: u64) -> u64
 {
     let q = load_queue(cpus, c);
     let h = q.hardtick(tick);
-    store_queue(cpus, c, h.queue);
+    store_numbers(cpus, c, h.queue);
     h.ticks
 }

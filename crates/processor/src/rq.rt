@@ -1,13 +1,26 @@
-// The run queue of a CPU, loaded from its words and stored into them: 72 words.
+// The run queue of a CPU, loaded from its words and stored into them: 72 words. Its operations take it by value; of what they hand back, one part and
+// the numbers are stored, since no other part has changed.
 ghost use Prim.Native.Nat.{_≤_, _+_};
 ghost use mathlib.Core.Path.{_≡_};
+ghost use mathlib.Core.Bool.{_&&_};
+ghost use lib.Dec.{eqb};
+ghost use Rattle.rules.specs.declared.Part.the-variants as part;
+ghost use Rattle.thread.specs.Thread.{NONE};
+ghost use Rattle.runqueue.specs.RunQueue.{rqInsertRealtime, rqInsertTimeshare, rqInsertIdle, rqInsertInto};
+ghost use Rattle.runqueue.specs.RunQueue.{rqFrontRealtime, rqFrontTimeshare, rqFrontIdle, rqFront, rqTakenRealtime, rqTakenTimeshare, rqTakenIdle, rqTaken};
 ghost use Rattle.processor.specs.Window.{loadN, placeN};
 ghost use Rattle.processor.specs.Queue.{listsAt, listsStored, firstEight, lastTwo, builtOf, queueIn, queueInto, queueAt, queueStored};
+ghost use Rattle.processor.specs.Parts.{numbersInto, partInto, numbersStored, partStored};
 use crate::words::CpuWords;
+use queue::lists::Found;
 use queue::lists::Lists;
 use queue::pq::PriorityQueue;
 use queue::timeshare::TimeshareQueue;
+use rules::Part;
+use runqueue::rq::Arrival;
+use runqueue::rq::Front;
 use runqueue::rq::RunQueue;
+use thread::NONE;
 
 fn load(row: &CpuWords, at: usize) -> [u64; 8]
     requires { ⌜ at + 8 ≤ 96 ⌝ }
@@ -122,6 +135,13 @@ fn queue_in(row: &CpuWords) -> RunQueue
     built(a, c, d, f, s, t)
 }
 
+fn numbers_into(row: &mut CpuWords, q: RunQueue)
+    ensures { λ r. ⌜ now (row .exit) ≡ numbersInto (now (row .entry)) q ⌝ }
+{
+    store(row, 56, first_eight(q));
+    store(row, 64, last_two(q));
+}
+
 fn queue_into(row: &mut CpuWords, q: RunQueue)
     ensures { λ r. ⌜ now (row .exit) ≡ queueInto (now (row .entry)) q ⌝ }
 {
@@ -136,8 +156,37 @@ fn queue_into(row: &mut CpuWords, q: RunQueue)
     store(row, 16, c);
     store_lists(row, 24, d);
     store_lists(row, 40, f);
-    store(row, 56, first_eight(q));
-    store(row, 64, last_two(q));
+    numbers_into(row, q);
+}
+
+// One part, and the numbers.
+fn realtime_into(row: &mut CpuWords, q: RunQueue)
+    ensures { λ r. ⌜ now (row .exit) ≡ partInto part.Realtime (now (row .entry)) q ⌝ }
+{
+    let realtime = q.realtime;
+    let l = realtime.queues;
+    store_lists(row, 0, l);
+    numbers_into(row, q);
+}
+
+fn timeshare_into(row: &mut CpuWords, q: RunQueue)
+    ensures { λ r. ⌜ now (row .exit) ≡ partInto part.Timeshare (now (row .entry)) q ⌝ }
+{
+    let timeshare = q.timeshare;
+    let c = timeshare.priorities;
+    let l = timeshare.queues;
+    store(row, 16, c);
+    store_lists(row, 24, l);
+    numbers_into(row, q);
+}
+
+fn idle_into(row: &mut CpuWords, q: RunQueue)
+    ensures { λ r. ⌜ now (row .exit) ≡ partInto part.Idle (now (row .entry)) q ⌝ }
+{
+    let idle = q.idle;
+    let l = idle.queues;
+    store_lists(row, 40, l);
+    numbers_into(row, q);
 }
 
 // The run queue of CPU c.
@@ -158,5 +207,207 @@ pub fn store_queue(cpus: &mut [CpuWords], c: u64, q: RunQueue)
     let i = c as usize;
     if i < cpus.len() {
         queue_into(&mut cpus[i], q);
+    }
+}
+
+// The numbers of a queue whose lists stand there already.
+pub fn store_numbers(cpus: &mut [CpuWords], c: u64, q: RunQueue)
+    ensures { λ r. ⌜ now (cpus .exit) ≡ numbersStored (now (cpus .entry)) c q ⌝ }
+{
+    let i = c as usize;
+    if i < cpus.len() {
+        numbers_into(&mut cpus[i], q);
+    }
+}
+
+fn store_realtime(cpus: &mut [CpuWords], c: u64, q: RunQueue)
+    ensures { λ r. ⌜ now (cpus .exit) ≡ partStored part.Realtime (now (cpus .entry)) c q ⌝ }
+{
+    let i = c as usize;
+    if i < cpus.len() {
+        realtime_into(&mut cpus[i], q);
+    }
+}
+
+fn store_timeshare(cpus: &mut [CpuWords], c: u64, q: RunQueue)
+    ensures { λ r. ⌜ now (cpus .exit) ≡ partStored part.Timeshare (now (cpus .entry)) c q ⌝ }
+{
+    let i = c as usize;
+    if i < cpus.len() {
+        timeshare_into(&mut cpus[i], q);
+    }
+}
+
+fn store_idle(cpus: &mut [CpuWords], c: u64, q: RunQueue)
+    ensures { λ r. ⌜ now (cpus .exit) ≡ partStored part.Idle (now (cpus .entry)) c q ⌝ }
+{
+    let i = c as usize;
+    if i < cpus.len() {
+        idle_into(&mut cpus[i], q);
+    }
+}
+
+fn insert_realtime(cpus: &mut [CpuWords], c: u64, a: Arrival) -> u64
+    ensures { λ r.
+        ⌜
+        (r ≡ rqInsertRealtime (queueAt (now (cpus .entry)) c) a .behind)
+        × (now (cpus .exit) ≡ queueStored (now (cpus .entry)) c (rqInsertRealtime (queueAt (now (cpus .entry)) c) a .queue))
+        ⌝ }
+{
+    let q = load_queue(cpus, c);
+    let put = q.insert_realtime(a);
+    store_realtime(cpus, c, put.queue);
+    put.behind
+}
+
+fn insert_timeshare(cpus: &mut [CpuWords], c: u64, a: Arrival) -> u64
+    ensures { λ r.
+        ⌜
+        (r ≡ rqInsertTimeshare (queueAt (now (cpus .entry)) c) a .behind)
+        × (now (cpus .exit) ≡ queueStored (now (cpus .entry)) c (rqInsertTimeshare (queueAt (now (cpus .entry)) c) a .queue))
+        ⌝ }
+{
+    let q = load_queue(cpus, c);
+    let put = q.insert_timeshare(a);
+    store_timeshare(cpus, c, put.queue);
+    put.behind
+}
+
+fn insert_idle(cpus: &mut [CpuWords], c: u64, a: Arrival) -> u64
+    ensures { λ r.
+        ⌜
+        (r ≡ rqInsertIdle (queueAt (now (cpus .entry)) c) a .behind)
+        × (now (cpus .exit) ≡ queueStored (now (cpus .entry)) c (rqInsertIdle (queueAt (now (cpus .entry)) c) a .queue))
+        ⌝ }
+{
+    let q = load_queue(cpus, c);
+    let put = q.insert_idle(a);
+    store_idle(cpus, c, put.queue);
+    put.behind
+}
+
+// A thread goes into this part of the queue of CPU c: whose link the caller must set to it, NONE for nobody.
+pub fn insert_into(cpus: &mut [CpuWords], c: u64, a: Arrival, part: Part) -> u64
+    ensures { λ r.
+        ⌜
+        (r ≡ rqInsertInto part (queueAt (now (cpus .entry)) c) a .behind)
+        × (now (cpus .exit) ≡ queueStored (now (cpus .entry)) c (rqInsertInto part (queueAt (now (cpus .entry)) c) a .queue))
+        ⌝ }
+{
+    match part {
+        Part::Realtime => insert_realtime(cpus, c, a),
+        Part::Timeshare => insert_timeshare(cpus, c, a),
+        Part::Idle => insert_idle(cpus, c, a),
+    }
+}
+
+// Who leaves next: a part is loaded only if those before it are empty.
+fn front_idle(cpus: &[CpuWords], c: u64) -> Front
+    ensures { λ r. ⌜ r ≡ rqFrontIdle (queueAt (now (cpus .entry)) c) ⌝ }
+{
+    let q = load_queue(cpus, c);
+    q.front_idle()
+}
+
+fn front_timeshare(cpus: &[CpuWords], c: u64) -> Front
+    ensures { λ r. ⌜ r ≡ rqFrontTimeshare (queueAt (now (cpus .entry)) c) ⌝ }
+{
+    let q = load_queue(cpus, c);
+    let part = q.timeshare;
+    let found = part.front();
+    match found {
+        Found::At { bucket, thread } => Front::At {
+            part: Part::Timeshare,
+            bucket,
+            thread,
+        },
+        Found::Nothing => front_idle(cpus, c),
+    }
+}
+
+fn front_realtime(cpus: &[CpuWords], c: u64) -> Front
+    ensures { λ r. ⌜ r ≡ rqFrontRealtime (queueAt (now (cpus .entry)) c) ⌝ }
+{
+    let q = load_queue(cpus, c);
+    let part = q.realtime;
+    let found = part.front();
+    match found {
+        Found::At { bucket, thread } => Front::At {
+            part: Part::Realtime,
+            bucket,
+            thread,
+        },
+        Found::Nothing => front_timeshare(cpus, c),
+    }
+}
+
+// Does CPU c keep what waits there? A stealing take finds nobody where all are pinned.
+fn keeps(cpus: &[CpuWords], c: u64, stealing: bool) -> bool
+    ensures { λ r. ⌜ r ≡ (stealing && eqb (queueAt (now (cpus .entry)) c .movable) 0) ⌝ }
+{
+    if stealing {
+        let q = load_queue(cpus, c);
+        return q.movable == 0;
+    }
+    false
+}
+
+// Who leaves if a thread is asked of the queue of CPU c.
+pub fn front(cpus: &[CpuWords], c: u64, stealing: bool) -> Front
+    ensures { λ r. ⌜ r ≡ rqFront (queueAt (now (cpus .entry)) c) stealing ⌝ }
+{
+    if keeps(cpus, c, stealing) {
+        return Front::Nothing;
+    }
+    front_realtime(cpus, c)
+}
+
+fn taken_realtime(cpus: &mut [CpuWords], c: u64, bucket: u64, next: u64, pinned: bool)
+    ensures { λ _. ⌜ now (cpus .exit) ≡ queueStored (now (cpus .entry)) c (rqTakenRealtime (queueAt (now (cpus .entry)) c) bucket NONE next pinned) ⌝ }
+{
+    let q = load_queue(cpus, c);
+    let left = q.taken_realtime(bucket, NONE, next, pinned);
+    store_realtime(cpus, c, left);
+}
+
+fn taken_timeshare(cpus: &mut [CpuWords], c: u64, bucket: u64, next: u64, value: u64, pinned: bool)
+    ensures { λ _. ⌜ now (cpus .exit) ≡ queueStored (now (cpus .entry)) c (rqTakenTimeshare (queueAt (now (cpus .entry)) c) bucket NONE next value pinned) ⌝ }
+{
+    let q = load_queue(cpus, c);
+    let left = q.taken_timeshare(bucket, NONE, next, value, pinned);
+    store_timeshare(cpus, c, left);
+}
+
+fn taken_idle(cpus: &mut [CpuWords], c: u64, bucket: u64, next: u64, pinned: bool)
+    ensures { λ _. ⌜ now (cpus .exit) ≡ queueStored (now (cpus .entry)) c (rqTakenIdle (queueAt (now (cpus .entry)) c) bucket NONE next pinned) ⌝ }
+{
+    let q = load_queue(cpus, c);
+    let left = q.taken_idle(bucket, NONE, next, pinned);
+    store_idle(cpus, c, left);
+}
+
+// Nobody has left.
+fn taken_none(cpus: &mut [CpuWords], c: u64)
+    ensures { λ _. ⌜ now (cpus .exit) ≡ queueStored (now (cpus .entry)) c (queueAt (now (cpus .entry)) c) ⌝ }
+{
+    let q = load_queue(cpus, c);
+    store_numbers(cpus, c, q);
+}
+
+// The thread that `front` answered, the first of its list, has left: its link was `next`, its value when it was put in `value`.
+pub fn taken_front(cpus: &mut [CpuWords], c: u64, front: Front, next: u64, value: u64, pinned: bool)
+    ensures { λ _. ⌜ now (cpus .exit) ≡ queueStored (now (cpus .entry)) c (rqTaken (queueAt (now (cpus .entry)) c) front NONE next value pinned) ⌝ }
+{
+    match front {
+        Front::At {
+            part,
+            bucket,
+            thread: _,
+        } => match part {
+            Part::Realtime => taken_realtime(cpus, c, bucket, next, pinned),
+            Part::Timeshare => taken_timeshare(cpus, c, bucket, next, value, pinned),
+            Part::Idle => taken_idle(cpus, c, bucket, next, pinned),
+        },
+        Front::Nothing => taken_none(cpus, c),
     }
 }

@@ -1,6 +1,5 @@
 -- The run queue as the code has it.
 use Prim.Native.Nat.{ℕ}
-use mathlib.Core.Path.{_≡_, sym, ap}
 use mathlib.Core.Bool.{Bool, true, cond, _&&_}
 use lib.Dec.{eqb}
 use Rattle.rules.specs.declared.PriorityClass.the-variants as class
@@ -232,14 +231,3 @@ rqHardtick q now = record {
   };
   ticks = difference now (q .«last_tick»);
 }
-
--- ---- for the proofs of the code
-
-pub insert-into : (q : RunQueue) (a : Arrival) (p : Part) → part-of (a .priority .class) (a .due) ≡ p → rqInsertInto p q a ≡ rqInsert q a
-unfolding rqInsert
-insert-into q a p e = ap (λ (r : Part). rqInsertInto r q a) (sym e)
-
-pub taken-from : (q : RunQueue) (f : Front) (p r : Part) (b x previous next v : ℕ) (pinned : Bool) → f ≡ front.At p b x → p ≡ r
-    → rqTakenFrom r q b previous next v pinned ≡ rqTaken q f previous next v pinned
-unfolding rqTaken
-taken-from q f p r b x previous next v pinned e h = rw (e, h)

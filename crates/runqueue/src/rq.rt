@@ -4,13 +4,13 @@ ghost use mathlib.Core.Path.{_≡_};
 ghost use mathlib.Core.Bool.{cond};
 ghost use Rattle.rules.specs.declared.PriorityClass.the-variants as class;
 ghost use Rattle.rules.specs.Priority.{priority, from-raw, raw};
-ghost use Rattle.rules.specs.Queue.{is-class};
+ghost use Rattle.rules.specs.Queue.{is-class, part-of};
 ghost use Rattle.rules.specs.Times.{timeslice, deadline-distance};
 ghost use Rattle.queue.specs.Num.{sum, difference};
 ghost use Rattle.runqueue.specs.RunQueue.{noRunQueue, rqEmpty, raised, saidRealtime, saidTimeshare};
-ghost use Rattle.runqueue.specs.RunQueue.{counted, rqInsertRealtime, rqInsertTimeshare, rqInsertIdle, rqInsert};
+ghost use Rattle.runqueue.specs.RunQueue.{counted, rqInsertRealtime, rqInsertTimeshare, rqInsertIdle};
 ghost use Rattle.runqueue.specs.RunQueue.{rqFrontRealtime, rqFrontTimeshare, rqFrontIdle, rqFront, frontThread};
-ghost use Rattle.runqueue.specs.RunQueue.{uncounted, rqTakenRealtime, rqRecalc, rqTakenTimeshare, rqTakenIdle, rqTaken, rqClock, rqHardtick};
+ghost use Rattle.runqueue.specs.RunQueue.{uncounted, rqTakenRealtime, rqRecalc, rqTakenTimeshare, rqTakenIdle, rqClock, rqHardtick};
 use queue::lists::Found;
 use queue::num::difference;
 use queue::num::product;
@@ -153,6 +153,28 @@ pub fn user_timeslice(shortest: u64, timeshare_load: u64) -> u64
     slice
 }
 
+impl Arrival {
+    // The part that the thread goes into.
+    pub fn part(self) -> Part
+        ensures { λ r. ⌜ r ≡ part-of (self .priority .class) (self .due) ⌝ }
+    {
+        let p = self.priority;
+        let class = p.class;
+        match class {
+            PriorityClass::Realtime => Part::Realtime,
+            PriorityClass::User => {
+                if self.due {
+                    Part::Realtime
+                } else {
+                    Part::Timeshare
+                }
+            }
+            PriorityClass::Background => Part::Idle,
+            PriorityClass::Idle => Part::Idle,
+        }
+    }
+}
+
 impl Front {
     // The thread that leaves, NONE if none does.
     pub fn thread(self) -> u64
@@ -285,25 +307,6 @@ impl RunQueue {
         }
     }
 
-    pub fn insert(self, a: Arrival) -> Put
-        ensures { λ r. ⌜ r ≡ rqInsert self a ⌝ }
-    {
-        let p = a.priority;
-        let class = p.class;
-        match class {
-            PriorityClass::Realtime => self.insert_realtime(a),
-            PriorityClass::User => {
-                if a.due {
-                    self.insert_realtime(a)
-                } else {
-                    self.insert_timeshare(a)
-                }
-            }
-            PriorityClass::Background => self.insert_idle(a),
-            PriorityClass::Idle => self.insert_idle(a),
-        }
-    }
-
     pub fn front_idle(self) -> Front
         ensures { λ r. ⌜ r ≡ rqFrontIdle self ⌝ }
     {
@@ -418,25 +421,6 @@ impl RunQueue {
         queue.idle = left;
         queue.current_priority = advertised(PriorityClass::Idle, left.highest_priority());
         queue
-    }
-
-    // The second half of the Rust's `take`: the thread that `front` answered has left. It stood behind `previous` (NONE: first in its bucket), its
-    // link was `next`, its value when it was put in `value`.
-    pub fn taken(self, front: Front, previous: u64, next: u64, value: u64, pinned: bool) -> Self
-        ensures { λ r. ⌜ r ≡ rqTaken self front previous next value pinned ⌝ }
-    {
-        match front {
-            Front::At {
-                part,
-                bucket,
-                thread: _,
-            } => match part {
-                Part::Realtime => self.taken_realtime(bucket, previous, next, pinned),
-                Part::Timeshare => self.taken_timeshare(bucket, previous, next, value, pinned),
-                Part::Idle => self.taken_idle(bucket, previous, next, pinned),
-            },
-            Front::Nothing => self,
-        }
     }
 
     pub fn timeslice(self, shortest: u64, class: PriorityClass) -> u64

@@ -1,3 +1,4 @@
+use Rattle.processor.specs.Parts.{clock-stored}
 use Rattle.lent.specs.Rq.{clockDef}
 use borrow.Author.Needs.{needs}
 use Rattle.lent.proofs.rq.clock.Statement.{statement}
@@ -9,17 +10,17 @@ load-queue-requires c κs = search needs
 clock-requires : tie.Need-clock-requires
 clock-requires c κs = search needs
 
-store-queue-requires : tie.Need-store-queue-requires
-store-queue-requires c κs = search needs
+store-numbers-requires : tie.Need-store-numbers-requires
+store-numbers-requires c κs = search needs
 
 same-length : tie.Need-same-length
 same-length c = search needs
 
 returns : tie.Need-returns
 unfolding clockDef
-returns c = rw (c .before .store-queue .ensures, c .before .before .before .clock .ensures, c .before .before .before .before .load-queue .ensures)
+returns c = rw (c .before .store-numbers .ensures, c .before .before .before .clock .ensures, c .before .before .before .before .load-queue .ensures) (clock-stored _ _)
 
 pub clock-spec : {M : Type 1} → statement M
 clock-spec =
     tie.close
-    (tie.spec load-queue-requires clock-requires store-queue-requires same-length returns)
+    (tie.spec load-queue-requires clock-requires store-numbers-requires same-length returns)

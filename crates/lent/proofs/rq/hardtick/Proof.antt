@@ -1,3 +1,4 @@
+use Rattle.processor.specs.Parts.{hardtick-stored}
 use Rattle.lent.specs.Rq.{hardtickDef}
 use borrow.Author.Needs.{needs}
 use Rattle.lent.proofs.rq.hardtick.Statement.{statement}
@@ -9,17 +10,17 @@ load-queue-requires c κs = search needs
 hardtick-requires : tie.Need-hardtick-requires
 hardtick-requires c κs = search needs
 
-store-queue-requires : tie.Need-store-queue-requires
-store-queue-requires c κs = search needs
+store-numbers-requires : tie.Need-store-numbers-requires
+store-numbers-requires c κs = search needs
 
 same-length : tie.Need-same-length
 same-length c = search needs
 
 returns : tie.Need-returns
 unfolding hardtickDef
-returns c = rw (c .before .store-queue .ensures, c .before .before .before .hardtick .ensures, c .before .before .before .before .load-queue .ensures)
+returns c = rw (c .before .store-numbers .ensures, c .before .before .before .hardtick .ensures, c .before .before .before .before .load-queue .ensures, hardtick-stored)
 
 pub hardtick-spec : {M : Type 1} → statement M
 hardtick-spec =
     tie.close
-    (tie.spec load-queue-requires hardtick-requires store-queue-requires same-length returns)
+    (tie.spec load-queue-requires hardtick-requires store-numbers-requires same-length returns)

@@ -10,13 +10,13 @@ use package.mir.Val.{Val}
 use base.Logic.{SProp, ent, emp, id⊢, via, fst∗}
 use base.Fml.{Lft, Share, GName, ftrue, flft}
 use prog.Model.{Model}
-use prog.Wp.{Heap, Env, Calls, Loops, WpFn}
+use prog.Wp.{Heap, Calls, Loops, WpFn}
 use ghost.Atoms.{Atoms}
 use sound.Laws.{ofModel}
 use sound.WpLaws.{FmC}
 use contract.Running.{GhostRules, Running, givenOf, tables}
-use types.Kit.{Given, Sq, runs, atRet, ‵, _⊛_, _$_, _∵_, !, qed, move, drop, split, join, rewrite, suffices}
-use types.Run.{look, init, store, forget, stop, hop, fld, from, load, unit-lit, addr, of-opd, and-then, no-more, assigns, land, returns, enter, alloc1, alloc0, params1, pass1, pass0}
+use types.Kit.{Given, ‵, _⊛_, _$_, _∵_, !, qed, move, drop, split, join, rewrite, suffices}
+use types.Run.{look, init, store, stop, hop, fld, from, load, unit-lit, addr, of-opd, and-then, no-more, assigns, land, returns, enter, alloc1, alloc0, params1, pass1, pass0}
 use types.Part.{agg, whole, sub, look-in}
 use denote.RattleType.{owns}
 use denote.Steps.{nothing}
@@ -31,13 +31,17 @@ use denote.Triple.Table.{cited}
 use denote.Triple.Clauses.{Clauses}
 use denote.Triple.Walked.{says, Stays, stay-none, stay-slice, walkOf, goes-none, goes-slice, ends-at}
 use denote.Exit.{yes as kept-yes}
-use Rattle.lent.proofs.Walk.{Datum, number, truth, nil, struct, Dens, AreD, listed, spell, lent-as, slice-of, kept, opened, closed, env-of, standing, bare, full, told, proved}
+use Rattle.lent.proofs.Walk.{Datum, number, truth, nil, struct, Dens, AreD, listed, spell, lent-as, slice-of, kept, opened, closed, full, told, proved}
 use Rattle.lent.proofs.Lent.{mutable, shared, choice, call-slices, all-freed, so, begins2, leaves2}
+use Rattle.lent.proofs.Exits.{inserted-is}
 use Rattle.lent.specs.Left.{Memory}
 use Rattle.lent.specs.Rq.{insertDef, arrivalOf, putIn, linkBehind}
 use Rattle.processor.specs.Queue.{queueAt, queueStored}
-use Rattle.runqueue.specs.RunQueue.{rqInsert}
+use Rattle.rules.specs.Priority.{priority}
+use Rattle.rules.specs.Queue.{part-of}
+use Rattle.runqueue.specs.RunQueue.{rqInsertInto}
 use Rattle.thread.specs.Thread.{blank}
+use Rattle.rules.specs.declared.PriorityClass.the-variants as class
 use denote.Struct.Laws as LL
 use Rattle.runqueue.specs.declared.rq.Arrival.{Arrival}
 use Rattle.runqueue.proofs.rq.Arrival as Arrival·
@@ -45,12 +49,6 @@ use Rattle.runqueue.proofs.rq.Arrival.Laws as Arrival·laws
 use Rattle.rules.specs.declared.Part.{Part}
 use Rattle.rules.proofs.Part as Part·
 use Rattle.rules.proofs.Part.Laws as Part·laws
-use Rattle.runqueue.specs.declared.rq.Put.{Put}
-use Rattle.runqueue.proofs.rq.Put as Put·
-use Rattle.runqueue.proofs.rq.Put.Laws as Put·laws
-use Rattle.runqueue.specs.declared.rq.RunQueue.{RunQueue}
-use Rattle.runqueue.proofs.rq.RunQueue as RunQueue·
-use Rattle.runqueue.proofs.rq.RunQueue.Laws as RunQueue·laws
 use Rattle.thread.specs.declared.Thread.{Thread}
 use Rattle.thread.proofs.Thread as Thread·
 use Rattle.thread.proofs.Thread.Laws as Thread·laws
@@ -60,15 +58,12 @@ use Rattle.lent.proofs.records.get.Met as fn-lent-records-get-thm
 use Rattle.lent.proofs.rq.arrival as fn-lent-rq-arrival
 use Rattle.lent.proofs.rq.arrival.Symbol as fn-lent-rq-arrival-def
 use Rattle.lent.proofs.rq.arrival.Met as fn-lent-rq-arrival-thm
-use Rattle.processor.proofs.rq.load_queue as fn-processor-rq-load-queue
-use Rattle.processor.proofs.rq.load_queue.Symbol as fn-processor-rq-load-queue-def
-use Rattle.processor.proofs.rq.load_queue.Met as fn-processor-rq-load-queue-thm
-use Rattle.runqueue.proofs.rq.RunQueue.insert as fn-runqueue-rq-RunQueue-insert
-use Rattle.runqueue.proofs.rq.RunQueue.insert.Symbol as fn-runqueue-rq-RunQueue-insert-def
-use Rattle.runqueue.proofs.rq.RunQueue.insert.Met as fn-runqueue-rq-RunQueue-insert-thm
-use Rattle.processor.proofs.rq.store_queue as fn-processor-rq-store-queue
-use Rattle.processor.proofs.rq.store_queue.Symbol as fn-processor-rq-store-queue-def
-use Rattle.processor.proofs.rq.store_queue.Met as fn-processor-rq-store-queue-thm
+use Rattle.runqueue.proofs.rq.Arrival.part as fn-runqueue-rq-Arrival-part
+use Rattle.runqueue.proofs.rq.Arrival.part.Symbol as fn-runqueue-rq-Arrival-part-def
+use Rattle.runqueue.proofs.rq.Arrival.part.Met as fn-runqueue-rq-Arrival-part-thm
+use Rattle.processor.proofs.rq.insert_into as fn-processor-rq-insert-into
+use Rattle.processor.proofs.rq.insert_into.Symbol as fn-processor-rq-insert-into-def
+use Rattle.processor.proofs.rq.insert_into.Met as fn-processor-rq-insert-into-thm
 use Rattle.lent.proofs.rq.put_in as fn-lent-rq-put-in
 use Rattle.lent.proofs.rq.put_in.Symbol as fn-lent-rq-put-in-def
 use Rattle.lent.proofs.rq.put_in.Met as fn-lent-rq-put-in-thm
@@ -89,12 +84,6 @@ Arrival° = struct Arrival·.the-type Arrival·laws.the-laws Arrival·laws.the-p
 
 abbrev Part° : Datum
 Part° = choice Part·.the-type Part·laws.the-laws tt Part·laws.the-plain
-
-abbrev Put° : Datum
-Put° = struct Put·.the-type Put·laws.the-laws Put·laws.the-plain
-
-abbrev RunQueue° : Datum
-RunQueue° = struct RunQueue·.the-type RunQueue·laws.the-laws RunQueue·laws.the-plain
 
 abbrev Thread° : Datum
 Thread° = struct Thread·.the-type Thread·laws.the-laws Thread·laws.the-plain
@@ -143,151 +132,115 @@ module _ {M : Type 1} (𝓤 : URA M) (H : Heap 𝓤) (𝓜 : Model 𝓤 H) (𝓖
     abbrev V₁ : Arrival
     V₁ = arrivalOf (getD ys (a .1 .0) blank) (a .1 .0) (a .1 .1 .0) (a .1 .1 .1 .0)
 
-    abbrev V₂ : Put
-    V₂ = rqInsert (queueAt ys′ (a .0)) V₁
+    abbrev V₂ : Part
+    V₂ = part-of (V₁ .priority .class) (V₁ .due)
 
-    abbrev V₃ : List (List ℕ)
-    V₃ = queueStored ys′ (a .0) ((V₂) .queue)
+    abbrev V₃ : ℕ
+    V₃ = rqInsertInto V₂ (queueAt ys′ (a .0)) V₁ .behind
 
-    abbrev V₄ : Thread
-    V₄ = putIn (getD ys (a .1 .0) blank) ((V₂) .part)
+    abbrev V₄ : List (List ℕ)
+    V₄ = queueStored ys′ (a .0) (rqInsertInto V₂ (queueAt ys′ (a .0)) V₁ .queue)
 
-    abbrev V₅ : List Thread
-    V₅ = linkBehind (set ys (a .1 .0) V₄) ((V₂) .behind) (a .1 .0)
+    abbrev V₅ : Thread
+    V₅ = putIn (getD ys (a .1 .0) blank) V₂
 
-    module _ (l₀ l₁ l₂ l₃ l₄ l₅ l₆ l₇ l₈ l₉ l₁₀ l₁₁ l₁₂ l₁₃ l₁₄ l₁₅ l₁₆ l₁₇ l₁₈ l₁₉ l₂₀ l₂₁ l₂₂ : ℕ) where
-      abbrev En : Env 𝓤 H
-      En = env-of mir.locals (l₀ ∷ l₁ ∷ l₂ ∷ l₃ ∷ l₄ ∷ l₅ ∷ l₆ ∷ l₇ ∷ l₈ ∷ l₉ ∷ l₁₀ ∷ l₁₁ ∷ l₁₂ ∷ l₁₃ ∷ l₁₄ ∷ l₁₅ ∷ l₁₆ ∷ l₁₇ ∷ l₁₈ ∷ l₁₉ ∷ l₂₀ ∷ l₂₁ ∷ l₂₂ ∷ [])
-
-      part-19 : (e₁₀₀ : n ≡ length (V₅)) (e₁₀₁ : n′ ≡ length (V₃)) → Sq W (‵ (row Thread·.the-row fullShare (V₅) b o) ∷ ‵ (kept Thread·.the-row κ q γ b o ys) ∷ ‵ (row (Array u64 96) fullShare (V₃) b′ o′) ∷ ‵ (kept (Array u64 96) κ′ q′ γ′ b′ o′ ys′) ∷ standing 𝓤 mir.locals (l₀ ∷ l₁ ∷ l₂ ∷ l₃ ∷ l₄ ∷ l₅ ∷ l₆ ∷ l₇ ∷ l₈ ∷ l₉ ∷ l₁₀ ∷ l₁₁ ∷ l₁₂ ∷ l₁₃ ∷ l₁₄ ∷ l₁₅ ∷ l₁₆ ∷ l₁₇ ∷ l₁₈ ∷ l₁₉ ∷ l₂₀ ∷ l₂₁ ∷ l₂₂ ∷ []) (bare ∷ full s ∷ full s′ ∷ full ((number w64) .val (a .0)) ∷ full ((number w64) .val (a .1 .0)) ∷ full ((number w64) .val (a .1 .1 .0)) ∷ bare ∷ bare ∷ bare ∷ bare ∷ bare ∷ bare ∷ bare ∷ bare ∷ bare ∷ bare ∷ bare ∷ bare ∷ bare ∷ bare ∷ bare ∷ bare ∷ bare ∷ []) []) (runs C Λ En mir.t-19 (atRet En Post))
-      unfolding insertDef
-      part-19 e₁₀₀ e₁₀₁ =
-          assigns ! (of-opd ! (unit-lit !)) (from ! (stop !)) (init ! 48 refl (tt, tt)) $
-          move ! (2 ∷ 3 ∷ []) $
-          closed ! tt (Array u64 96) ys′ (V₃) b′ o′ room′ (sym e₁₀₁) $
-          move ! (2 ∷ 3 ∷ []) $
-          closed ! tt Thread·.the-row ys (V₅) b o room (sym e₁₀₀) $
-          returns ! (look ! 48 refl) $
-          move ! (48 ∷ 49 ∷ 46 ∷ 47 ∷ 44 ∷ 45 ∷ 42 ∷ 43 ∷ 40 ∷ 41 ∷ 38 ∷ 39 ∷ 36 ∷ 37 ∷ 34 ∷ 35 ∷ 32 ∷ 33 ∷ 30 ∷ 31 ∷ 28 ∷ 29 ∷ 26 ∷ 27 ∷ 24 ∷ 25 ∷ 22 ∷ 23 ∷ 20 ∷ 21 ∷ 18 ∷ 19 ∷ 16 ∷ 17 ∷ 14 ∷ 15 ∷ 12 ∷ 13 ∷ 10 ∷ 11 ∷ 8 ∷ 9 ∷ 6 ∷ 7 ∷ 4 ∷ 5 ∷ []) $
-          all-freed ! mir.locals (l₀ ∷ l₁ ∷ l₂ ∷ l₃ ∷ l₄ ∷ l₅ ∷ l₆ ∷ l₇ ∷ l₈ ∷ l₉ ∷ l₁₀ ∷ l₁₁ ∷ l₁₂ ∷ l₁₃ ∷ l₁₄ ∷ l₁₅ ∷ l₁₆ ∷ l₁₇ ∷ l₁₈ ∷ l₁₉ ∷ l₂₀ ∷ l₂₁ ∷ l₂₂ ∷ []) (full _ ∷ full _ ∷ full _ ∷ full _ ∷ full _ ∷ full _ ∷ bare ∷ bare ∷ bare ∷ bare ∷ bare ∷ bare ∷ bare ∷ bare ∷ bare ∷ bare ∷ bare ∷ bare ∷ bare ∷ bare ∷ bare ∷ bare ∷ bare ∷ []) tt $
-          suffices ! _ (ends-at 𝓤 H A insert.ended stayed c W y _ (tt) (V₅, (V₃, (tt, (tt, (tt, (tt, tt)))))) (sym e₁₀₀, (sym e₁₀₁, (tt, (tt, (tt, (tt, tt))))))) $ says ! (so {X = Memory} (record { threads = V₅; cpus = V₃ }) (insertDef (a .0) (a .1 .0) (a .1 .1 .0) (a .1 .1 .1 .0) (record { threads = ys; cpus = ys′ })) (refl)) $
-          leaves2 ! nil Ds a (tt) are (refl)
+    abbrev V₆ : List Thread
+    V₆ = linkBehind (set ys (a .1 .0) V₅) V₃ (a .1 .0)
 
     walk : ent 𝓤 (onEntry 𝓤 H A insert.signature (κ, (κ′, tt)) (q, (q′, tt)) ((lent-as b o γ ys, (lent-as b′ o′ γ′ ys′, a))) ((s ∷ [], (s′ ∷ [], spell Ds a)))) (WpFn 𝓤 H C Λ code.function (s ∷ s′ ∷ listed Ds a) Post)
     unfolding insertDef
     walk =
         qed W ((‵ (flft κ q) ⊛ (‵ (flft κ′ q′) ⊛ (‵ ftrue))) ∷ ‵ (owns (MutSlice (named 0) κ Thread·.the-row ∷ MutSlice (named 1) κ′ (Array u64 96) ∷ u64 ∷ u64 ∷ u64 ∷ bool ∷ []) ((lent-as b o γ ys, (lent-as b′ o′ γ′ ys′, a))) ((s ∷ [], (s′ ∷ [], spell Ds a)))) ∷ []) ∵ begins2 ! $ enter ! C _ code.function (s ∷ s′ ∷ listed Ds a) _ $
-        alloc1 ! (λ l₀. alloc1 ! (λ l₁. alloc1 ! (λ l₂. alloc1 ! (λ l₃. alloc1 ! (λ l₄. alloc1 ! (λ l₅. alloc1 ! (λ l₆. alloc1 ! (λ l₇. alloc1 ! (λ l₈. alloc1 ! (λ l₉. alloc1 ! (λ l₁₀. alloc1 ! (λ l₁₁. alloc1 ! (λ l₁₂. alloc1 ! (λ l₁₃. alloc1 ! (λ l₁₄. alloc1 ! (λ l₁₅. alloc1 ! (λ l₁₆. alloc1 ! (λ l₁₇. alloc1 ! (λ l₁₈. alloc1 ! (λ l₁₉. alloc1 ! (λ l₂₀. alloc1 ! (λ l₂₁. alloc1 ! (λ l₂₂. alloc0 ! $ params1 ! $
-        pass1 ! (init ! 42 refl (tt, (tt, (record { fits = room .0 }, tt)))) $ pass1 ! (init ! 40 refl (tt, (tt, (record { fits = room′ .0 }, tt)))) $ pass1 ! (init ! 38 refl ((number w64) .typed 𝓤 H A W (a .0) (are .0) .0)) $ pass1 ! (init ! 36 refl ((number w64) .typed 𝓤 H A W (a .1 .0) (are .1 .0) .0)) $ pass1 ! (init ! 34 refl ((number w64) .typed 𝓤 H A W (a .1 .1 .0) (are .1 .1 .0) .0)) $ pass1 ! (init ! 32 refl (tt, tt)) $ pass0 ! $
-        move ! (48 ∷ 49 ∷ []) $
+        alloc1 ! (λ l₀. alloc1 ! (λ l₁. alloc1 ! (λ l₂. alloc1 ! (λ l₃. alloc1 ! (λ l₄. alloc1 ! (λ l₅. alloc1 ! (λ l₆. alloc1 ! (λ l₇. alloc1 ! (λ l₈. alloc1 ! (λ l₉. alloc1 ! (λ l₁₀. alloc1 ! (λ l₁₁. alloc1 ! (λ l₁₂. alloc1 ! (λ l₁₃. alloc1 ! (λ l₁₄. alloc1 ! (λ l₁₅. alloc1 ! (λ l₁₆. alloc1 ! (λ l₁₇. alloc1 ! (λ l₁₈. alloc1 ! (λ l₁₉. alloc1 ! (λ l₂₀. alloc0 ! $ params1 ! $
+        pass1 ! (init ! 38 refl (tt, (tt, (record { fits = room .0 }, tt)))) $ pass1 ! (init ! 36 refl (tt, (tt, (record { fits = room′ .0 }, tt)))) $ pass1 ! (init ! 34 refl ((number w64) .typed 𝓤 H A W (a .0) (are .0) .0)) $ pass1 ! (init ! 32 refl ((number w64) .typed 𝓤 H A W (a .1 .0) (are .1 .0) .0)) $ pass1 ! (init ! 30 refl ((number w64) .typed 𝓤 H A W (a .1 .1 .0) (are .1 .1 .0) .0)) $ pass1 ! (init ! 28 refl (tt, tt)) $ pass0 ! $
+        move ! (44 ∷ 45 ∷ []) $
         opened ! tt (Array u64 96) γ′ ys′ b′ o′ $
-        move ! (48 ∷ 49 ∷ []) $
+        move ! (44 ∷ 45 ∷ []) $
         opened ! tt Thread·.the-row γ ys b o $
-        assigns ! (addr ! (from ! (fld ! refl (hop ! (look-in ! 46 (sub ! 0 refl (whole !))) (stop !))))) (from ! (stop !)) (init ! 24 refl (tt, tt)) $
-        assigns ! (agg ! (and-then ! (load ! (from ! (stop !)) (look ! 24 refl)) (and-then ! (load ! (from ! (fld ! refl (stop !))) (look-in ! 46 (sub ! 1 refl (whole !)))) (no-more !)))) (from ! (stop !)) (init ! 22 refl (tt, (tt, (record { fits = room .0 }, tt)))) $
+        assigns ! (addr ! (from ! (fld ! refl (hop ! (look-in ! 42 (sub ! 0 refl (whole !))) (stop !))))) (from ! (stop !)) (init ! 20 refl (tt, tt)) $
+        assigns ! (agg ! (and-then ! (load ! (from ! (stop !)) (look ! 20 refl)) (and-then ! (load ! (from ! (fld ! refl (stop !))) (look-in ! 42 (sub ! 1 refl (whole !)))) (no-more !)))) (from ! (stop !)) (init ! 18 refl (tt, (tt, (record { fits = room .0 }, tt)))) $
         nothing ! $
         move ! (1 ∷ 0 ∷ []) $
         join ! $
         call-slices Thread° (number w64 ∷ []) ((a .1 .0, tt)) (emp 𝓤) ((shared Thread·.the-row ys b o n refl room) ∷ []) ! fm (λ r ws. r ≡ (getD ys (a .1 .0) blank)) ((are .1 .0, tt)) (id⊢ 𝓤 (emp 𝓤))
         (λ νs. cited 𝓤 H (tripleOf 𝓤 H A fn-lent-records-get.signature (fn-lent-records-get.spec 𝓤 H A (𝓜 .mem) (𝓡 .run))) 𝓜 𝓡 code.env fn-lent-records-get-def.name fn-lent-records-get-def.routine code.calls-lent·records·get (fn-lent-records-get-thm.met 𝓤 H 𝓜 𝓖 𝓡) (((νs .0 .0 ∷ [], tt), (fullShare, tt), tt, (lent-as b o (νs .0 .1) ys, (a .1 .0, tt)), (slice-of b o ys ∷ [], spell (number w64 ∷ []) ((a .1 .0, tt)))), tt))
-        (λ k. and-then ! (load ! (from ! (stop !)) (look ! 22 refl)) (and-then ! (load ! (from ! (stop !)) (look ! 40 refl)) (no-more !))) (λ r₁ ws₂ is₃ ls₄ e₅.
+        (λ k. and-then ! (load ! (from ! (stop !)) (look ! 18 refl)) (and-then ! (load ! (from ! (stop !)) (look ! 36 refl)) (no-more !))) (λ r₁ ws₂ is₃ ls₄ e₅.
         split ! $
         move ! (1 ∷ []) $
         drop ! $
         told ! Thread° (e₅) is₃ (λ is₆.
-        land ! (from ! (stop !)) (init ! 34 refl (Thread° .typed 𝓤 H A W (getD ys (a .1 .0) blank) (is₆) .0)) $
+        land ! (from ! (stop !)) (init ! 30 refl (Thread° .typed 𝓤 H A W (getD ys (a .1 .0) blank) (is₆) .0)) $
         nothing ! $
         call-slices Arrival° (Thread° ∷ number w64 ∷ number w64 ∷ truth ∷ []) ((getD ys (a .1 .0) blank, (a .1 .0, (a .1 .1 .0, (a .1 .1 .1 .0, tt))))) (emp 𝓤) ([]) ! fm (λ r ws. r ≡ V₁) ((is₆, (are .1 .0, (are .1 .1 .0, (are .1 .1 .1 .0, tt))))) (id⊢ 𝓤 (emp 𝓤))
         (λ νs. cited 𝓤 H (tripleOf 𝓤 H A fn-lent-rq-arrival.signature (fn-lent-rq-arrival.spec 𝓤 H A (𝓜 .mem) (𝓡 .run))) 𝓜 𝓡 code.env fn-lent-rq-arrival-def.name fn-lent-rq-arrival-def.routine code.calls-lent·rq·arrival (fn-lent-rq-arrival-thm.met 𝓤 H 𝓜 𝓖 𝓡) ((tt, tt, tt, (getD ys (a .1 .0) blank, (a .1 .0, (a .1 .1 .0, (a .1 .1 .1 .0, tt)))), spell (Thread° ∷ number w64 ∷ number w64 ∷ truth ∷ []) ((getD ys (a .1 .0) blank, (a .1 .0, (a .1 .1 .0, (a .1 .1 .1 .0, tt)))))), tt))
-        (λ k. and-then ! (load ! (from ! (stop !)) (look ! 35 refl)) (and-then ! (load ! (from ! (stop !)) (look ! 41 refl)) (and-then ! (load ! (from ! (stop !)) (look ! 39 refl)) (and-then ! (load ! (from ! (stop !)) (look ! 37 refl)) (no-more !))))) (λ r₇ ws₈ is₉ ls₁₀ e₁₁.
+        (λ k. and-then ! (load ! (from ! (stop !)) (look ! 31 refl)) (and-then ! (load ! (from ! (stop !)) (look ! 37 refl)) (and-then ! (load ! (from ! (stop !)) (look ! 35 refl)) (and-then ! (load ! (from ! (stop !)) (look ! 33 refl)) (no-more !))))) (λ r₇ ws₈ is₉ ls₁₀ e₁₁.
         drop ! $
         told ! Arrival° (e₁₁) is₉ (λ is₁₂.
-        land ! (from ! (stop !)) (init ! 32 refl (Arrival° .typed 𝓤 H A W (V₁) (is₁₂) .0)) $
-        assigns ! (addr ! (from ! (fld ! refl (hop ! (look-in ! 44 (sub ! 0 refl (whole !))) (stop !))))) (from ! (stop !)) (init ! 20 refl (tt, tt)) $
-        assigns ! (agg ! (and-then ! (load ! (from ! (stop !)) (look ! 20 refl)) (and-then ! (load ! (from ! (fld ! refl (stop !))) (look-in ! 44 (sub ! 1 refl (whole !)))) (no-more !)))) (from ! (stop !)) (init ! 18 refl (tt, (tt, (record { fits = room′ .0 }, tt)))) $
+        land ! (from ! (stop !)) (init ! 28 refl (Arrival° .typed 𝓤 H A W (V₁) (is₁₂) .0)) $
+        nothing ! $
+        call-slices Part° (Arrival° ∷ []) ((V₁, tt)) (emp 𝓤) ([]) ! fm (λ r ws. r ≡ V₂) ((is₁₂, tt)) (id⊢ 𝓤 (emp 𝓤))
+        (λ νs. cited 𝓤 H (tripleOf 𝓤 H A fn-runqueue-rq-Arrival-part.signature (fn-runqueue-rq-Arrival-part.spec 𝓤 H A (𝓜 .mem) (𝓡 .run))) 𝓜 𝓡 code.env fn-runqueue-rq-Arrival-part-def.name fn-runqueue-rq-Arrival-part-def.routine code.calls-runqueue·rq·Arrival·part (fn-runqueue-rq-Arrival-part-thm.met 𝓤 H 𝓜 𝓖 𝓡) ((tt, tt, tt, (V₁, tt), spell (Arrival° ∷ []) ((V₁, tt))), tt))
+        (λ k. and-then ! (load ! (from ! (stop !)) (look ! 29 refl)) (no-more !)) (λ r₁₃ ws₁₄ is₁₅ ls₁₆ e₁₇.
+        drop ! $
+        told ! Part° (e₁₇) is₁₅ (λ is₁₈.
+        land ! (from ! (stop !)) (init ! 26 refl (Part° .typed 𝓤 H A W (V₂) (is₁₈) .0)) $
+        assigns ! (addr ! (from ! (fld ! refl (hop ! (look-in ! 40 (sub ! 0 refl (whole !))) (stop !))))) (from ! (stop !)) (init ! 16 refl (tt, tt)) $
+        assigns ! (agg ! (and-then ! (load ! (from ! (stop !)) (look ! 16 refl)) (and-then ! (load ! (from ! (fld ! refl (stop !))) (look-in ! 40 (sub ! 1 refl (whole !)))) (no-more !)))) (from ! (stop !)) (init ! 14 refl (tt, (tt, (record { fits = room′ .0 }, tt)))) $
         nothing ! $
         move ! (3 ∷ 0 ∷ []) $
         join ! $
-        call-slices RunQueue° (number w64 ∷ []) ((a .0, tt)) (emp 𝓤) ((shared (Array u64 96) ys′ b′ o′ n′ refl room′) ∷ []) ! fm (λ r ws. r ≡ (queueAt ys′ (a .0))) ((are .0, tt)) (id⊢ 𝓤 (emp 𝓤))
-        (λ νs. cited 𝓤 H (tripleOf 𝓤 H A fn-processor-rq-load-queue.signature (fn-processor-rq-load-queue.spec 𝓤 H A (𝓜 .mem) (𝓡 .run))) 𝓜 𝓡 code.env fn-processor-rq-load-queue-def.name fn-processor-rq-load-queue-def.routine code.calls-processor·rq·load-queue (fn-processor-rq-load-queue-thm.met 𝓤 H 𝓜 𝓖 𝓡) (((νs .0 .0 ∷ [], tt), (fullShare, tt), tt, (lent-as b′ o′ (νs .0 .1) ys′, (a .0, tt)), (slice-of b′ o′ ys′ ∷ [], spell (number w64 ∷ []) ((a .0, tt)))), tt))
-        (λ k. and-then ! (load ! (from ! (stop !)) (look ! 18 refl)) (and-then ! (load ! (from ! (stop !)) (look ! 42 refl)) (no-more !))) (λ r₁₃ ws₁₄ is₁₅ ls₁₆ e₁₇.
+        call-slices (number w64) (number w64 ∷ Arrival° ∷ Part° ∷ []) ((a .0, (V₁, (V₂, tt)))) (emp 𝓤) ((mutable (Array u64 96) ys′ b′ o′ n′ refl room′) ∷ []) ! fm (λ r ws. (r ≡ V₃) × (ws .0 ≡ V₄)) ((are .0, (is₁₂, (is₁₈, tt)))) (id⊢ 𝓤 (emp 𝓤))
+        (λ νs. cited 𝓤 H (tripleOf 𝓤 H A fn-processor-rq-insert-into.signature (fn-processor-rq-insert-into.spec 𝓤 H A (𝓜 .mem) (𝓡 .run))) 𝓜 𝓡 code.env fn-processor-rq-insert-into-def.name fn-processor-rq-insert-into-def.routine code.calls-processor·rq·insert-into (fn-processor-rq-insert-into-thm.met 𝓤 H 𝓜 𝓖 𝓡) (((νs .0 .0 ∷ [], tt), (fullShare, tt), tt, (lent-as b′ o′ (νs .0 .1) ys′, (a .0, (V₁, (V₂, tt)))), (slice-of b′ o′ ys′ ∷ [], spell (number w64 ∷ Arrival° ∷ Part° ∷ []) ((a .0, (V₁, (V₂, tt)))))), tt))
+        (λ k. and-then ! (load ! (from ! (stop !)) (look ! 14 refl)) (and-then ! (load ! (from ! (stop !)) (look ! 38 refl)) (and-then ! (load ! (from ! (stop !)) (look ! 28 refl)) (and-then ! (load ! (from ! (stop !)) (look ! 26 refl)) (no-more !))))) (λ r₁₉ ws₂₀ is₂₁ ls₂₂ e₂₃.
         split ! $
         move ! (1 ∷ []) $
         drop ! $
-        told ! RunQueue° (e₁₇) is₁₅ (λ is₁₈.
-        land ! (from ! (stop !)) (init ! 30 refl (RunQueue° .typed 𝓤 H A W (queueAt ys′ (a .0)) (is₁₈) .0)) $
+        rewrite ! 0 (λ (us : List (List ℕ)). ‵ (row (Array u64 96) fullShare us b′ o′)) (e₂₃ .1) refl $
+        told ! (number w64) (e₂₃ .0) is₂₁ (λ is₂₄.
+        land ! (from ! (stop !)) (init ! 24 refl ((number w64) .typed 𝓤 H A W (V₃) (is₂₄) .0)) $
         nothing ! $
-        call-slices Put° (RunQueue° ∷ Arrival° ∷ []) ((queueAt ys′ (a .0), (V₁, tt))) (emp 𝓤) ([]) ! fm (λ r ws. r ≡ V₂) ((is₁₈, (is₁₂, tt))) (id⊢ 𝓤 (emp 𝓤))
-        (λ νs. cited 𝓤 H (tripleOf 𝓤 H A fn-runqueue-rq-RunQueue-insert.signature (fn-runqueue-rq-RunQueue-insert.spec 𝓤 H A (𝓜 .mem) (𝓡 .run))) 𝓜 𝓡 code.env fn-runqueue-rq-RunQueue-insert-def.name fn-runqueue-rq-RunQueue-insert-def.routine code.calls-runqueue·rq·RunQueue·insert (fn-runqueue-rq-RunQueue-insert-thm.met 𝓤 H 𝓜 𝓖 𝓡) ((tt, tt, tt, (queueAt ys′ (a .0), (V₁, tt)), spell (RunQueue° ∷ Arrival° ∷ []) ((queueAt ys′ (a .0), (V₁, tt)))), tt))
-        (λ k. and-then ! (load ! (from ! (stop !)) (look ! 31 refl)) (and-then ! (load ! (from ! (stop !)) (look ! 33 refl)) (no-more !))) (λ r₁₉ ws₂₀ is₂₁ ls₂₂ e₂₃.
+        call-slices Thread° (Thread° ∷ Part° ∷ []) ((getD ys (a .1 .0) blank, (V₂, tt))) (emp 𝓤) ([]) ! fm (λ r ws. r ≡ V₅) ((is₆, (is₁₈, tt))) (id⊢ 𝓤 (emp 𝓤))
+        (λ νs. cited 𝓤 H (tripleOf 𝓤 H A fn-lent-rq-put-in.signature (fn-lent-rq-put-in.spec 𝓤 H A (𝓜 .mem) (𝓡 .run))) 𝓜 𝓡 code.env fn-lent-rq-put-in-def.name fn-lent-rq-put-in-def.routine code.calls-lent·rq·put-in (fn-lent-rq-put-in-thm.met 𝓤 H 𝓜 𝓖 𝓡) ((tt, tt, tt, (getD ys (a .1 .0) blank, (V₂, tt)), spell (Thread° ∷ Part° ∷ []) ((getD ys (a .1 .0) blank, (V₂, tt)))), tt))
+        (λ k. and-then ! (load ! (from ! (stop !)) (look ! 31 refl)) (and-then ! (load ! (from ! (stop !)) (look ! 27 refl)) (no-more !))) (λ r₂₅ ws₂₆ is₂₇ ls₂₈ e₂₉.
         drop ! $
-        told ! Put° (e₂₃) is₂₁ (λ is₂₄.
-        land ! (from ! (stop !)) (init ! 28 refl (Put° .typed 𝓤 H A W (V₂) (is₂₄) .0)) $
-        assigns ! (addr ! (from ! (fld ! refl (hop ! (look-in ! 44 (sub ! 0 refl (whole !))) (stop !))))) (from ! (stop !)) (init ! 14 refl (tt, tt)) $
-        assigns ! (agg ! (and-then ! (load ! (from ! (stop !)) (look ! 14 refl)) (and-then ! (load ! (from ! (fld ! refl (stop !))) (look-in ! 44 (sub ! 1 refl (whole !)))) (no-more !)))) (from ! (stop !)) (init ! 12 refl (tt, (tt, (record { fits = room′ .0 }, tt)))) $
-        nothing ! $
-        move ! (1 ∷ 0 ∷ []) $
-        join ! $
-        call-slices nil (number w64 ∷ RunQueue° ∷ []) ((a .0, ((V₂) .queue, tt))) (emp 𝓤) ((mutable (Array u64 96) ys′ b′ o′ n′ refl room′) ∷ []) ! fm (λ r ws. ws .0 ≡ V₃) ((are .0, (LL.owed Put·.the-type Put·laws.the-laws (V₂) _ (is₂₄) .0, tt))) (id⊢ 𝓤 (emp 𝓤))
-        (λ νs. cited 𝓤 H (tripleOf 𝓤 H A fn-processor-rq-store-queue.signature (fn-processor-rq-store-queue.spec 𝓤 H A (𝓜 .mem) (𝓡 .run))) 𝓜 𝓡 code.env fn-processor-rq-store-queue-def.name fn-processor-rq-store-queue-def.routine code.calls-processor·rq·store-queue (fn-processor-rq-store-queue-thm.met 𝓤 H 𝓜 𝓖 𝓡) (((νs .0 .0 ∷ [], tt), (fullShare, tt), tt, (lent-as b′ o′ (νs .0 .1) ys′, (a .0, ((V₂) .queue, tt))), (slice-of b′ o′ ys′ ∷ [], spell (number w64 ∷ RunQueue° ∷ []) ((a .0, ((V₂) .queue, tt))))), tt))
-        (λ k. and-then ! (load ! (from ! (stop !)) (look ! 12 refl)) (and-then ! (load ! (from ! (stop !)) (look ! 42 refl)) (and-then ! (load ! (from ! (fld ! refl (stop !))) (look-in ! 28 (sub ! 0 refl (whole !)))) (no-more !)))) (λ r₂₅ ws₂₆ is₂₇ ls₂₈ e₂₉.
-        split ! $
-        move ! (1 ∷ []) $
-        drop ! $
-        rewrite ! 0 (λ (us : List (List ℕ)). ‵ (row (Array u64 96) fullShare us b′ o′)) (e₂₉) refl $
-        land ! (from ! (stop !)) (init ! 16 refl (tt, tt)) $
-        nothing ! $
-        call-slices Thread° (Thread° ∷ Part° ∷ []) ((getD ys (a .1 .0) blank, ((V₂) .part, tt))) (emp 𝓤) ([]) ! fm (λ r ws. r ≡ V₄) ((is₆, (LL.owed Put·.the-type Put·laws.the-laws (V₂) _ (is₂₄) .1 .1 .0, tt))) (id⊢ 𝓤 (emp 𝓤))
-        (λ νs. cited 𝓤 H (tripleOf 𝓤 H A fn-lent-rq-put-in.signature (fn-lent-rq-put-in.spec 𝓤 H A (𝓜 .mem) (𝓡 .run))) 𝓜 𝓡 code.env fn-lent-rq-put-in-def.name fn-lent-rq-put-in-def.routine code.calls-lent·rq·put-in (fn-lent-rq-put-in-thm.met 𝓤 H 𝓜 𝓖 𝓡) ((tt, tt, tt, (getD ys (a .1 .0) blank, ((V₂) .part, tt)), spell (Thread° ∷ Part° ∷ []) ((getD ys (a .1 .0) blank, ((V₂) .part, tt)))), tt))
-        (λ k. and-then ! (load ! (from ! (stop !)) (look ! 35 refl)) (and-then ! (load ! (from ! (fld ! refl (stop !))) (look-in ! 29 (sub ! 2 refl (whole !)))) (no-more !))) (λ r₃₀ ws₃₁ is₃₂ ls₃₃ e₃₄.
-        drop ! $
-        told ! Thread° (e₃₄) is₃₂ (λ is₃₅.
-        land ! (from ! (stop !)) (init ! 26 refl (Thread° .typed 𝓤 H A W (V₄) (is₃₅) .0)) $
-        assigns ! (addr ! (from ! (fld ! refl (hop ! (look-in ! 46 (sub ! 0 refl (whole !))) (stop !))))) (from ! (stop !)) (init ! 10 refl (tt, tt)) $
-        assigns ! (agg ! (and-then ! (load ! (from ! (stop !)) (look ! 10 refl)) (and-then ! (load ! (from ! (fld ! refl (stop !))) (look-in ! 46 (sub ! 1 refl (whole !)))) (no-more !)))) (from ! (stop !)) (init ! 8 refl (tt, (tt, (record { fits = room .0 }, tt)))) $
+        told ! Thread° (e₂₉) is₂₇ (λ is₃₀.
+        land ! (from ! (stop !)) (init ! 22 refl (Thread° .typed 𝓤 H A W (V₅) (is₃₀) .0)) $
+        assigns ! (addr ! (from ! (fld ! refl (hop ! (look-in ! 42 (sub ! 0 refl (whole !))) (stop !))))) (from ! (stop !)) (init ! 10 refl (tt, tt)) $
+        assigns ! (agg ! (and-then ! (load ! (from ! (stop !)) (look ! 10 refl)) (and-then ! (load ! (from ! (fld ! refl (stop !))) (look-in ! 42 (sub ! 1 refl (whole !)))) (no-more !)))) (from ! (stop !)) (init ! 8 refl (tt, (tt, (record { fits = room .0 }, tt)))) $
         nothing ! $
         move ! (2 ∷ 0 ∷ []) $
         join ! $
-        call-slices nil (number w64 ∷ Thread° ∷ []) ((a .1 .0, (V₄, tt))) (emp 𝓤) ((mutable Thread·.the-row ys b o n refl room) ∷ []) ! fm (λ r ws. ws .0 ≡ (set ys (a .1 .0) V₄)) ((are .1 .0, (is₃₅, tt))) (id⊢ 𝓤 (emp 𝓤))
-        (λ νs. cited 𝓤 H (tripleOf 𝓤 H A fn-lent-records-set.signature (fn-lent-records-set.spec 𝓤 H A (𝓜 .mem) (𝓡 .run))) 𝓜 𝓡 code.env fn-lent-records-set-def.name fn-lent-records-set-def.routine code.calls-lent·records·set (fn-lent-records-set-thm.met 𝓤 H 𝓜 𝓖 𝓡) (((νs .0 .0 ∷ [], tt), (fullShare, tt), tt, (lent-as b o (νs .0 .1) ys, (a .1 .0, (V₄, tt))), (slice-of b o ys ∷ [], spell (number w64 ∷ Thread° ∷ []) ((a .1 .0, (V₄, tt))))), tt))
-        (λ k. and-then ! (load ! (from ! (stop !)) (look ! 8 refl)) (and-then ! (load ! (from ! (stop !)) (look ! 40 refl)) (and-then ! (load ! (from ! (stop !)) (look ! 26 refl)) (no-more !)))) (λ r₃₆ ws₃₇ is₃₈ ls₃₉ e₄₀.
+        call-slices nil (number w64 ∷ Thread° ∷ []) ((a .1 .0, (V₅, tt))) (emp 𝓤) ((mutable Thread·.the-row ys b o n refl room) ∷ []) ! fm (λ r ws. ws .0 ≡ (set ys (a .1 .0) V₅)) ((are .1 .0, (is₃₀, tt))) (id⊢ 𝓤 (emp 𝓤))
+        (λ νs. cited 𝓤 H (tripleOf 𝓤 H A fn-lent-records-set.signature (fn-lent-records-set.spec 𝓤 H A (𝓜 .mem) (𝓡 .run))) 𝓜 𝓡 code.env fn-lent-records-set-def.name fn-lent-records-set-def.routine code.calls-lent·records·set (fn-lent-records-set-thm.met 𝓤 H 𝓜 𝓖 𝓡) (((νs .0 .0 ∷ [], tt), (fullShare, tt), tt, (lent-as b o (νs .0 .1) ys, (a .1 .0, (V₅, tt))), (slice-of b o ys ∷ [], spell (number w64 ∷ Thread° ∷ []) ((a .1 .0, (V₅, tt))))), tt))
+        (λ k. and-then ! (load ! (from ! (stop !)) (look ! 8 refl)) (and-then ! (load ! (from ! (stop !)) (look ! 36 refl)) (and-then ! (load ! (from ! (stop !)) (look ! 22 refl)) (no-more !)))) (λ r₃₁ ws₃₂ is₃₃ ls₃₄ e₃₅.
+        split ! $
+        move ! (1 ∷ []) $
+        drop ! $
+        rewrite ! 0 (λ (us : List Thread). ‵ (row Thread·.the-row fullShare us b o)) (e₃₅) refl $
+        land ! (from ! (stop !)) (init ! 12 refl (tt, tt)) $
+        assigns ! (addr ! (from ! (fld ! refl (hop ! (look-in ! 42 (sub ! 0 refl (whole !))) (stop !))))) (from ! (stop !)) (init ! 6 refl (tt, tt)) $
+        assigns ! (agg ! (and-then ! (load ! (from ! (stop !)) (look ! 6 refl)) (and-then ! (load ! (from ! (fld ! refl (stop !))) (look-in ! 42 (sub ! 1 refl (whole !)))) (no-more !)))) (from ! (stop !)) (init ! 4 refl (tt, (tt, (record { fits = room .0 }, tt)))) $
+        nothing ! $
+        move ! (1 ∷ 0 ∷ []) $
+        join ! $
+        call-slices nil (number w64 ∷ number w64 ∷ []) ((V₃, (a .1 .0, tt))) (emp 𝓤) ((mutable Thread·.the-row (set ys (a .1 .0) V₅) b o n ((refl ∙ sym (subst (λ (us : List Thread). length us ≡ length ys) (e₃₅) (ls₃₄ .0)))) room) ∷ []) ! fm (λ r ws. ws .0 ≡ V₆) ((is₂₄, (are .1 .0, tt))) (id⊢ 𝓤 (emp 𝓤))
+        (λ νs. cited 𝓤 H (tripleOf 𝓤 H A fn-lent-rq-link-behind.signature (fn-lent-rq-link-behind.spec 𝓤 H A (𝓜 .mem) (𝓡 .run))) 𝓜 𝓡 code.env fn-lent-rq-link-behind-def.name fn-lent-rq-link-behind-def.routine code.calls-lent·rq·link-behind (fn-lent-rq-link-behind-thm.met 𝓤 H 𝓜 𝓖 𝓡) (((νs .0 .0 ∷ [], tt), (fullShare, tt), tt, (lent-as b o (νs .0 .1) (set ys (a .1 .0) V₅), (V₃, (a .1 .0, tt))), (slice-of b o (set ys (a .1 .0) V₅) ∷ [], spell (number w64 ∷ number w64 ∷ []) ((V₃, (a .1 .0, tt))))), tt))
+        (λ k. and-then ! (load ! (from ! (stop !)) (look ! 4 refl)) (and-then ! (load ! (from ! (stop !)) (look ! 24 refl)) (and-then ! (load ! (from ! (stop !)) (look ! 36 refl)) (no-more !)))) (λ r₃₆ ws₃₇ is₃₈ ls₃₉ e₄₀.
         split ! $
         move ! (1 ∷ []) $
         drop ! $
         rewrite ! 0 (λ (us : List Thread). ‵ (row Thread·.the-row fullShare us b o)) (e₄₀) refl $
-        land ! (from ! (stop !)) (store ! 16 refl (tt, tt)) $
-        assigns ! (addr ! (from ! (fld ! refl (hop ! (look-in ! 46 (sub ! 0 refl (whole !))) (stop !))))) (from ! (stop !)) (init ! 6 refl (tt, tt)) $
-        assigns ! (agg ! (and-then ! (load ! (from ! (stop !)) (look ! 6 refl)) (and-then ! (load ! (from ! (fld ! refl (stop !))) (look-in ! 46 (sub ! 1 refl (whole !)))) (no-more !)))) (from ! (stop !)) (init ! 4 refl (tt, (tt, (record { fits = room .0 }, tt)))) $
-        nothing ! $
-        move ! (1 ∷ 0 ∷ []) $
-        join ! $
-        call-slices nil (number w64 ∷ number w64 ∷ []) (((V₂) .behind, (a .1 .0, tt))) (emp 𝓤) ((mutable Thread·.the-row (set ys (a .1 .0) V₄) b o n ((refl ∙ sym (subst (λ (us : List Thread). length us ≡ length ys) (e₄₀) (ls₃₉ .0)))) room) ∷ []) ! fm (λ r ws. ws .0 ≡ V₅) ((LL.owed Put·.the-type Put·laws.the-laws (V₂) _ (is₂₄) .1 .0, (are .1 .0, tt))) (id⊢ 𝓤 (emp 𝓤))
-        (λ νs. cited 𝓤 H (tripleOf 𝓤 H A fn-lent-rq-link-behind.signature (fn-lent-rq-link-behind.spec 𝓤 H A (𝓜 .mem) (𝓡 .run))) 𝓜 𝓡 code.env fn-lent-rq-link-behind-def.name fn-lent-rq-link-behind-def.routine code.calls-lent·rq·link-behind (fn-lent-rq-link-behind-thm.met 𝓤 H 𝓜 𝓖 𝓡) (((νs .0 .0 ∷ [], tt), (fullShare, tt), tt, (lent-as b o (νs .0 .1) (set ys (a .1 .0) V₄), ((V₂) .behind, (a .1 .0, tt))), (slice-of b o (set ys (a .1 .0) V₄) ∷ [], spell (number w64 ∷ number w64 ∷ []) (((V₂) .behind, (a .1 .0, tt))))), tt))
-        (λ k. and-then ! (load ! (from ! (stop !)) (look ! 4 refl)) (and-then ! (load ! (from ! (fld ! refl (stop !))) (look-in ! 28 (sub ! 1 refl (whole !)))) (and-then ! (load ! (from ! (stop !)) (look ! 40 refl)) (no-more !)))) (λ r₄₁ ws₄₂ is₄₃ ls₄₄ e₄₅.
-        split ! $
-        move ! (1 ∷ []) $
-        drop ! $
-        rewrite ! 0 (λ (us : List Thread). ‵ (row Thread·.the-row fullShare us b o)) (e₄₅) refl $
-        land ! (from ! (stop !)) (store ! 16 refl (tt, tt)) $
-        forget ! 36 refl $
-        forget ! 34 refl $
-        forget ! 32 refl $
-        forget ! 30 refl $
-        forget ! 28 refl $
-        forget ! 26 refl $
-        forget ! 24 refl $
-        forget ! 22 refl $
-        forget ! 20 refl $
-        forget ! 18 refl $
-        forget ! 16 refl $
-        forget ! 14 refl $
-        forget ! 12 refl $
-        forget ! 10 refl $
-        forget ! 8 refl $
-        forget ! 6 refl $
-        forget ! 4 refl $
-        move ! (0 ∷ 2 ∷ 1 ∷ 3 ∷ 4 ∷ 5 ∷ 6 ∷ 7 ∷ 8 ∷ 9 ∷ 10 ∷ 11 ∷ 12 ∷ 13 ∷ 14 ∷ 15 ∷ 16 ∷ 17 ∷ 18 ∷ 19 ∷ 20 ∷ 21 ∷ 22 ∷ 23 ∷ 24 ∷ 25 ∷ 26 ∷ 27 ∷ 28 ∷ 29 ∷ 30 ∷ 31 ∷ 32 ∷ 33 ∷ 34 ∷ 35 ∷ 36 ∷ 37 ∷ 38 ∷ 39 ∷ 40 ∷ 41 ∷ 42 ∷ 43 ∷ 44 ∷ 45 ∷ 46 ∷ 47 ∷ 48 ∷ 49 ∷ []) $
-        part-19 l₀ l₁ l₂ l₃ l₄ l₅ l₆ l₇ l₈ l₉ l₁₀ l₁₁ l₁₂ l₁₃ l₁₄ l₁₅ l₁₆ l₁₇ l₁₈ l₁₉ l₂₀ l₂₁ l₂₂ (((refl ∙ sym (subst (λ (us : List Thread). length us ≡ length ys) (e₄₀) (ls₃₉ .0))) ∙ sym (subst (λ (us : List Thread). length us ≡ length (set ys (a .1 .0) V₄)) (e₄₅) (ls₄₄ .0)))) ((refl ∙ sym (subst (λ (us : List (List ℕ)). length us ≡ length ys′) (e₂₉) (ls₂₈ .0))))))))))))))))))))))))))))))))))))))))
+        land ! (from ! (stop !)) (store ! 12 refl (tt, tt)) $
+        assigns ! (of-opd ! (unit-lit !)) (from ! (stop !)) (init ! 44 refl (tt, tt)) $
+        move ! (1 ∷ 3 ∷ []) $
+        closed ! tt (Array u64 96) ys′ (V₄) b′ o′ room′ (sym ((refl ∙ sym (subst (λ (us : List (List ℕ)). length us ≡ length ys′) (e₂₃ .1) (ls₂₂ .0))))) $
+        move ! (2 ∷ 3 ∷ []) $
+        closed ! tt Thread·.the-row ys (V₆) b o room (sym (((refl ∙ sym (subst (λ (us : List Thread). length us ≡ length ys) (e₃₅) (ls₃₄ .0))) ∙ sym (subst (λ (us : List Thread). length us ≡ length (set ys (a .1 .0) V₅)) (e₄₀) (ls₃₉ .0))))) $
+        returns ! (look ! 44 refl) $
+        move ! (44 ∷ 45 ∷ 42 ∷ 43 ∷ 40 ∷ 41 ∷ 38 ∷ 39 ∷ 36 ∷ 37 ∷ 34 ∷ 35 ∷ 32 ∷ 33 ∷ 30 ∷ 31 ∷ 28 ∷ 29 ∷ 26 ∷ 27 ∷ 24 ∷ 25 ∷ 22 ∷ 23 ∷ 20 ∷ 21 ∷ 18 ∷ 19 ∷ 16 ∷ 17 ∷ 14 ∷ 15 ∷ 12 ∷ 13 ∷ 10 ∷ 11 ∷ 8 ∷ 9 ∷ 6 ∷ 7 ∷ 4 ∷ 5 ∷ []) $
+        all-freed ! mir.locals (l₀ ∷ l₁ ∷ l₂ ∷ l₃ ∷ l₄ ∷ l₅ ∷ l₆ ∷ l₇ ∷ l₈ ∷ l₉ ∷ l₁₀ ∷ l₁₁ ∷ l₁₂ ∷ l₁₃ ∷ l₁₄ ∷ l₁₅ ∷ l₁₆ ∷ l₁₇ ∷ l₁₈ ∷ l₁₉ ∷ l₂₀ ∷ []) (full _ ∷ full _ ∷ full _ ∷ full _ ∷ full _ ∷ full _ ∷ full _ ∷ full _ ∷ full _ ∷ full _ ∷ full _ ∷ full _ ∷ full _ ∷ full _ ∷ full _ ∷ full _ ∷ full _ ∷ full _ ∷ full _ ∷ full _ ∷ full _ ∷ []) tt $
+        suffices ! _ (ends-at 𝓤 H A insert.ended stayed c W y _ (tt) (V₆, (V₄, (tt, (tt, (tt, (tt, tt)))))) (sym (((refl ∙ sym (subst (λ (us : List Thread). length us ≡ length ys) (e₃₅) (ls₃₄ .0))) ∙ sym (subst (λ (us : List Thread). length us ≡ length (set ys (a .1 .0) V₅)) (e₄₀) (ls₃₉ .0)))), (sym ((refl ∙ sym (subst (λ (us : List (List ℕ)). length us ≡ length ys′) (e₂₃ .1) (ls₂₂ .0)))), (tt, (tt, (tt, (tt, tt))))))) $ says ! (so {X = Memory} (record { threads = V₆; cpus = V₄ }) (insertDef (a .0) (a .1 .0) (a .1 .1 .0) (a .1 .1 .1 .0) (record { threads = ys; cpus = ys′ })) (inserted-is (a .0) (a .1 .0) (a .1 .1 .0) (a .1 .1 .1 .0) (record { threads = ys; cpus = ys′ }))) $
+        leaves2 ! nil Ds a (tt) are (refl))))))))))))))))))))))))))))))))))
 
 pub insert-spec : {M : Type 1} → stated.statement M
 unfolding code.routine

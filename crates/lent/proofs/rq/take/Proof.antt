@@ -26,7 +26,7 @@ use denote.Steps.{nothing}
 use denote.Array.{Array}
 use denote.Slice.{slice-vals, mut-slice-tells, MutSlice, Room}
 use denote.Index.{row}
-use denote.Builtin.{u64, bool}
+use denote.Builtin.{u64, bool, unit}
 use denote.Signature.{plain}
 use denote.Triple.Entry.{onEntry}
 use denote.Triple.Spec.{tripleOf}
@@ -47,21 +47,15 @@ use denote.Struct.Laws as LL
 use Rattle.runqueue.specs.declared.rq.Front.{Front}
 use Rattle.runqueue.proofs.rq.Front as Front·
 use Rattle.runqueue.proofs.rq.Front.Laws as Front·laws
-use Rattle.runqueue.specs.declared.rq.RunQueue.{RunQueue}
-use Rattle.runqueue.proofs.rq.RunQueue as RunQueue·
-use Rattle.runqueue.proofs.rq.RunQueue.Laws as RunQueue·laws
 use Rattle.lent.specs.declared.rq.Taken.{Taken}
 use Rattle.lent.proofs.rq.Taken as Taken·
 use Rattle.lent.proofs.rq.Taken.Laws as Taken·laws
 use Rattle.thread.specs.declared.Thread.{Thread}
 use Rattle.thread.proofs.Thread as Thread·
 use Rattle.thread.proofs.Thread.Laws as Thread·laws
-use Rattle.processor.proofs.rq.load_queue as fn-processor-rq-load-queue
-use Rattle.processor.proofs.rq.load_queue.Symbol as fn-processor-rq-load-queue-def
-use Rattle.processor.proofs.rq.load_queue.Met as fn-processor-rq-load-queue-thm
-use Rattle.runqueue.proofs.rq.RunQueue.front as fn-runqueue-rq-RunQueue-front
-use Rattle.runqueue.proofs.rq.RunQueue.front.Symbol as fn-runqueue-rq-RunQueue-front-def
-use Rattle.runqueue.proofs.rq.RunQueue.front.Met as fn-runqueue-rq-RunQueue-front-thm
+use Rattle.processor.proofs.rq.front as fn-processor-rq-front
+use Rattle.processor.proofs.rq.front.Symbol as fn-processor-rq-front-def
+use Rattle.processor.proofs.rq.front.Met as fn-processor-rq-front-thm
 use Rattle.lent.proofs.rq.is_nothing as fn-lent-rq-is-nothing
 use Rattle.lent.proofs.rq.is_nothing.Symbol as fn-lent-rq-is-nothing-def
 use Rattle.lent.proofs.rq.is_nothing.Met as fn-lent-rq-is-nothing-thm
@@ -74,12 +68,9 @@ use Rattle.runqueue.proofs.rq.Front.thread.Met as fn-runqueue-rq-Front-thread-t
 use Rattle.lent.proofs.records.get as fn-lent-records-get
 use Rattle.lent.proofs.records.get.Symbol as fn-lent-records-get-def
 use Rattle.lent.proofs.records.get.Met as fn-lent-records-get-thm
-use Rattle.lent.proofs.rq.left_by as fn-lent-rq-left-by
-use Rattle.lent.proofs.rq.left_by.Symbol as fn-lent-rq-left-by-def
-use Rattle.lent.proofs.rq.left_by.Met as fn-lent-rq-left-by-thm
-use Rattle.processor.proofs.rq.store_queue as fn-processor-rq-store-queue
-use Rattle.processor.proofs.rq.store_queue.Symbol as fn-processor-rq-store-queue-def
-use Rattle.processor.proofs.rq.store_queue.Met as fn-processor-rq-store-queue-thm
+use Rattle.lent.proofs.rq.leave as fn-lent-rq-leave
+use Rattle.lent.proofs.rq.leave.Symbol as fn-lent-rq-leave-def
+use Rattle.lent.proofs.rq.leave.Met as fn-lent-rq-leave-thm
 use Rattle.thread.proofs.Thread.running as fn-thread-Thread-running
 use Rattle.thread.proofs.Thread.running.Symbol as fn-thread-Thread-running-def
 use Rattle.thread.proofs.Thread.running.Met as fn-thread-Thread-running-thm
@@ -97,9 +88,6 @@ use Rattle.lent.proofs.rq.take.Code.Mir as mir
 
 abbrev Front° : Datum
 Front° = choice Front·.the-type Front·laws.the-laws tt Front·laws.the-plain
-
-abbrev RunQueue° : Datum
-RunQueue° = struct RunQueue·.the-type RunQueue·laws.the-laws RunQueue·laws.the-plain
 
 abbrev Taken° : Datum
 Taken° = choice Taken·.the-type Taken·laws.the-laws tt Taken·laws.the-plain
@@ -154,166 +142,152 @@ module _ {M : Type 1} (𝓤 : URA M) (H : Heap 𝓤) (𝓜 : Model 𝓤 H) (𝓖
     abbrev V₂ : Thread
     V₂ = getD ys (frontThread V₁) blank
 
-    abbrev V₃ : RunQueue
-    V₃ = leftBy (queueAt ys′ (a .0)) V₁ V₂
+    abbrev V₃ : List (List ℕ)
+    V₃ = queueStored ys′ (a .0) (leftBy (queueAt ys′ (a .0)) V₁ V₂)
 
-    abbrev V₄ : List (List ℕ)
-    V₄ = queueStored ys′ (a .0) V₃
+    abbrev V₄ : List Thread
+    V₄ = set ys (frontThread V₁) (with-place V₂ RUNNING)
 
-    abbrev V₅ : List Thread
-    V₅ = set ys (frontThread V₁) (with-place V₂ RUNNING)
+    abbrev V₅ : Taken
+    V₅ = taken.Thread (frontThread V₁)
 
-    abbrev V₆ : Taken
-    V₆ = taken.Thread (frontThread V₁)
-
-    module _ (l₀ l₁ l₂ l₃ l₄ l₅ l₆ l₇ l₈ l₉ l₁₀ l₁₁ l₁₂ l₁₃ l₁₄ l₁₅ l₁₆ l₁₇ l₁₈ l₁₉ l₂₀ : ℕ) where
+    module _ (l₀ l₁ l₂ l₃ l₄ l₅ l₆ l₇ l₈ l₉ l₁₀ l₁₁ l₁₂ l₁₃ l₁₄ l₁₅ l₁₆ l₁₇ l₁₈ : ℕ) where
       abbrev En : Env 𝓤 H
-      En = env-of mir.locals (l₀ ∷ l₁ ∷ l₂ ∷ l₃ ∷ l₄ ∷ l₅ ∷ l₆ ∷ l₇ ∷ l₈ ∷ l₉ ∷ l₁₀ ∷ l₁₁ ∷ l₁₂ ∷ l₁₃ ∷ l₁₄ ∷ l₁₅ ∷ l₁₆ ∷ l₁₇ ∷ l₁₈ ∷ l₁₉ ∷ l₂₀ ∷ [])
+      En = env-of mir.locals (l₀ ∷ l₁ ∷ l₂ ∷ l₃ ∷ l₄ ∷ l₅ ∷ l₆ ∷ l₇ ∷ l₈ ∷ l₉ ∷ l₁₀ ∷ l₁₁ ∷ l₁₂ ∷ l₁₃ ∷ l₁₄ ∷ l₁₅ ∷ l₁₆ ∷ l₁₇ ∷ l₁₈ ∷ [])
 
-      part-11 : (c₅ : Is RunQueue·.the-row (queueAt ys′ (a .0)) (RunQueue° .val (queueAt ys′ (a .0)) ∷ [])) (c₆ : Is Front·.the-row (V₁) (Front° .val (V₁) ∷ [])) (c₇ : Is u64 (frontThread V₁) ((number w64) .val (frontThread V₁) ∷ [])) (c₈ : Is Thread·.the-row (V₂) (Thread° .val (V₂) ∷ [])) (h₁ : Holds (not (isNothing V₁))) → Sq W (‵ (row Thread·.the-row fullShare (ys) b o) ∷ ‵ (kept Thread·.the-row κ q γ b o ys) ∷ ‵ (row (Array u64 96) fullShare (ys′) b′ o′) ∷ ‵ (kept (Array u64 96) κ′ q′ γ′ b′ o′ ys′) ∷ standing 𝓤 mir.locals (l₀ ∷ l₁ ∷ l₂ ∷ l₃ ∷ l₄ ∷ l₅ ∷ l₆ ∷ l₇ ∷ l₈ ∷ l₉ ∷ l₁₀ ∷ l₁₁ ∷ l₁₂ ∷ l₁₃ ∷ l₁₄ ∷ l₁₅ ∷ l₁₆ ∷ l₁₇ ∷ l₁₈ ∷ l₁₉ ∷ l₂₀ ∷ []) (bare ∷ full s ∷ full s′ ∷ full ((number w64) .val (a .0)) ∷ bare ∷ full (RunQueue° .val (queueAt ys′ (a .0))) ∷ full (Front° .val (V₁)) ∷ full ((number w64) .val (frontThread V₁)) ∷ full (Thread° .val (V₂)) ∷ bare ∷ bare ∷ bare ∷ bare ∷ bare ∷ bare ∷ bare ∷ bare ∷ bare ∷ bare ∷ bare ∷ bare ∷ []) []) (runs C Λ En mir.t-11 (atRet En Post))
+      part-13 : (e₁₀₁ : n′ ≡ length (V₃)) (c₆ : Is u64 (frontThread V₁) ((number w64) .val (frontThread V₁) ∷ [])) (c₇ : Is Thread·.the-row (V₂) (Thread° .val (V₂) ∷ [])) (x₁₄ : Unit {0}) (c₁₄ : Is unit (x₁₄) (nil .val (x₁₄) ∷ [])) (h₁ : Holds (not (isNothing V₁))) → Sq W (‵ (row Thread·.the-row fullShare (ys) b o) ∷ ‵ (kept Thread·.the-row κ q γ b o ys) ∷ ‵ (row (Array u64 96) fullShare (V₃) b′ o′) ∷ ‵ (kept (Array u64 96) κ′ q′ γ′ b′ o′ ys′) ∷ standing 𝓤 mir.locals (l₀ ∷ l₁ ∷ l₂ ∷ l₃ ∷ l₄ ∷ l₅ ∷ l₆ ∷ l₇ ∷ l₈ ∷ l₉ ∷ l₁₀ ∷ l₁₁ ∷ l₁₂ ∷ l₁₃ ∷ l₁₄ ∷ l₁₅ ∷ l₁₆ ∷ l₁₇ ∷ l₁₈ ∷ []) (bare ∷ full s ∷ full s′ ∷ full ((number w64) .val (a .0)) ∷ bare ∷ bare ∷ full ((number w64) .val (frontThread V₁)) ∷ full (Thread° .val (V₂)) ∷ bare ∷ bare ∷ bare ∷ bare ∷ bare ∷ bare ∷ full (nil .val (x₁₄)) ∷ bare ∷ bare ∷ bare ∷ bare ∷ []) []) (runs C Λ En mir.t-13 (atRet En Post))
       unfolding takeDef
-      part-11 c₅ c₆ c₇ c₈ h₁ =
+      part-13 e₁₀₁ c₆ c₇ x₁₄ c₁₄ h₁ =
           nothing ! $
-          call-slices RunQueue° (RunQueue° ∷ Front° ∷ Thread° ∷ []) ((queueAt ys′ (a .0), (V₁, (V₂, tt)))) (emp 𝓤) ([]) ! fm (λ r ws. r ≡ V₃) ((c₅, (c₆, (c₈, tt)))) (id⊢ 𝓤 (emp 𝓤))
-          (λ νs. cited 𝓤 H (tripleOf 𝓤 H A fn-lent-rq-left-by.signature (fn-lent-rq-left-by.spec 𝓤 H A (𝓜 .mem) (𝓡 .run))) 𝓜 𝓡 code.env fn-lent-rq-left-by-def.name fn-lent-rq-left-by-def.routine code.calls-lent·rq·left-by (fn-lent-rq-left-by-thm.met 𝓤 H 𝓜 𝓖 𝓡) ((tt, tt, tt, (queueAt ys′ (a .0), (V₁, (V₂, tt))), spell (RunQueue° ∷ Front° ∷ Thread° ∷ []) ((queueAt ys′ (a .0), (V₁, (V₂, tt))))), tt))
-          (λ k. and-then ! (load ! (from ! (stop !)) (look ! 35 refl)) (and-then ! (load ! (from ! (stop !)) (look ! 33 refl)) (and-then ! (load ! (from ! (stop !)) (look ! 29 refl)) (no-more !)))) (λ r₃₇ ws₃₈ is₃₉ ls₄₀ e₄₁.
-          drop ! $
-          told ! RunQueue° (e₄₁) is₃₉ (λ is₄₂.
-          land ! (from ! (stop !)) (init ! 26 refl (RunQueue° .typed 𝓤 H A W (V₃) (is₄₂) .0)) $
-          assigns ! (addr ! (from ! (fld ! refl (hop ! (look-in ! 40 (sub ! 0 refl (whole !))) (stop !))))) (from ! (stop !)) (init ! 10 refl (tt, tt)) $
-          assigns ! (agg ! (and-then ! (load ! (from ! (stop !)) (look ! 10 refl)) (and-then ! (load ! (from ! (fld ! refl (stop !))) (look-in ! 40 (sub ! 1 refl (whole !)))) (no-more !)))) (from ! (stop !)) (init ! 8 refl (tt, (tt, (record { fits = room′ .0 }, tt)))) $
-          nothing ! $
-          move ! (3 ∷ 0 ∷ []) $
-          join ! $
-          call-slices nil (number w64 ∷ RunQueue° ∷ []) ((a .0, (V₃, tt))) (emp 𝓤) ((mutable (Array u64 96) ys′ b′ o′ n′ refl room′) ∷ []) ! fm (λ r ws. ws .0 ≡ V₄) ((are .0, (is₄₂, tt))) (id⊢ 𝓤 (emp 𝓤))
-          (λ νs. cited 𝓤 H (tripleOf 𝓤 H A fn-processor-rq-store-queue.signature (fn-processor-rq-store-queue.spec 𝓤 H A (𝓜 .mem) (𝓡 .run))) 𝓜 𝓡 code.env fn-processor-rq-store-queue-def.name fn-processor-rq-store-queue-def.routine code.calls-processor·rq·store-queue (fn-processor-rq-store-queue-thm.met 𝓤 H 𝓜 𝓖 𝓡) (((νs .0 .0 ∷ [], tt), (fullShare, tt), tt, (lent-as b′ o′ (νs .0 .1) ys′, (a .0, (V₃, tt))), (slice-of b′ o′ ys′ ∷ [], spell (number w64 ∷ RunQueue° ∷ []) ((a .0, (V₃, tt))))), tt))
-          (λ k. and-then ! (load ! (from ! (stop !)) (look ! 8 refl)) (and-then ! (load ! (from ! (stop !)) (look ! 38 refl)) (and-then ! (load ! (from ! (stop !)) (look ! 26 refl)) (no-more !)))) (λ r₄₃ ws₄₄ is₄₅ ls₄₆ e₄₇.
-          split ! $
-          move ! (1 ∷ []) $
-          drop ! $
-          rewrite ! 0 (λ (us : List (List ℕ)). ‵ (row (Array u64 96) fullShare us b′ o′)) (e₄₇) refl $
-          land ! (from ! (stop !)) (init ! 12 refl (tt, tt)) $
-          nothing ! $
-          call-slices Thread° (Thread° ∷ []) ((V₂, tt)) (emp 𝓤) ([]) ! fm (λ r ws. r ≡ (with-place V₂ RUNNING)) ((c₈, tt)) (id⊢ 𝓤 (emp 𝓤))
+          call-slices Thread° (Thread° ∷ []) ((V₂, tt)) (emp 𝓤) ([]) ! fm (λ r ws. r ≡ (with-place V₂ RUNNING)) ((c₇, tt)) (id⊢ 𝓤 (emp 𝓤))
           (λ νs. cited 𝓤 H (tripleOf 𝓤 H A fn-thread-Thread-running.signature (fn-thread-Thread-running.spec 𝓤 H A (𝓜 .mem) (𝓡 .run))) 𝓜 𝓡 code.env fn-thread-Thread-running-def.name fn-thread-Thread-running-def.routine code.calls-thread·Thread·running (fn-thread-Thread-running-thm.met 𝓤 H 𝓜 𝓖 𝓡) ((tt, tt, tt, (V₂, tt), spell (Thread° ∷ []) ((V₂, tt))), tt))
-          (λ k. and-then ! (load ! (from ! (stop !)) (look ! 29 refl)) (no-more !)) (λ r₄₈ ws₄₉ is₅₀ ls₅₁ e₅₂.
+          (λ k. and-then ! (load ! (from ! (stop !)) (look ! 27 refl)) (no-more !)) (λ r₃₆ ws₃₇ is₃₈ ls₃₉ e₄₀.
           drop ! $
-          told ! Thread° (e₅₂) is₅₀ (λ is₅₃.
-          land ! (from ! (stop !)) (init ! 24 refl (Thread° .typed 𝓤 H A W (with-place V₂ RUNNING) (is₅₃) .0)) $
-          assigns ! (addr ! (from ! (fld ! refl (hop ! (look-in ! 42 (sub ! 0 refl (whole !))) (stop !))))) (from ! (stop !)) (init ! 6 refl (tt, tt)) $
-          assigns ! (agg ! (and-then ! (load ! (from ! (stop !)) (look ! 6 refl)) (and-then ! (load ! (from ! (fld ! refl (stop !))) (look-in ! 42 (sub ! 1 refl (whole !)))) (no-more !)))) (from ! (stop !)) (init ! 4 refl (tt, (tt, (record { fits = room .0 }, tt)))) $
+          told ! Thread° (e₄₀) is₃₈ (λ is₄₁.
+          land ! (from ! (stop !)) (init ! 24 refl (Thread° .typed 𝓤 H A W (with-place V₂ RUNNING) (is₄₁) .0)) $
+          assigns ! (addr ! (from ! (fld ! refl (hop ! (look-in ! 38 (sub ! 0 refl (whole !))) (stop !))))) (from ! (stop !)) (init ! 6 refl (tt, tt)) $
+          assigns ! (agg ! (and-then ! (load ! (from ! (stop !)) (look ! 6 refl)) (and-then ! (load ! (from ! (fld ! refl (stop !))) (look-in ! 38 (sub ! 1 refl (whole !)))) (no-more !)))) (from ! (stop !)) (init ! 4 refl (tt, (tt, (record { fits = room .0 }, tt)))) $
           nothing ! $
-          move ! (2 ∷ 0 ∷ []) $
+          move ! (1 ∷ 0 ∷ []) $
           join ! $
-          call-slices nil (number w64 ∷ Thread° ∷ []) ((frontThread V₁, (with-place V₂ RUNNING, tt))) (emp 𝓤) ((mutable Thread·.the-row ys b o n refl room) ∷ []) ! fm (λ r ws. ws .0 ≡ V₅) ((c₇, (is₅₃, tt))) (id⊢ 𝓤 (emp 𝓤))
+          call-slices nil (number w64 ∷ Thread° ∷ []) ((frontThread V₁, (with-place V₂ RUNNING, tt))) (emp 𝓤) ((mutable Thread·.the-row ys b o n refl room) ∷ []) ! fm (λ r ws. ws .0 ≡ V₄) ((c₆, (is₄₁, tt))) (id⊢ 𝓤 (emp 𝓤))
           (λ νs. cited 𝓤 H (tripleOf 𝓤 H A fn-lent-records-set.signature (fn-lent-records-set.spec 𝓤 H A (𝓜 .mem) (𝓡 .run))) 𝓜 𝓡 code.env fn-lent-records-set-def.name fn-lent-records-set-def.routine code.calls-lent·records·set (fn-lent-records-set-thm.met 𝓤 H 𝓜 𝓖 𝓡) (((νs .0 .0 ∷ [], tt), (fullShare, tt), tt, (lent-as b o (νs .0 .1) ys, (frontThread V₁, (with-place V₂ RUNNING, tt))), (slice-of b o ys ∷ [], spell (number w64 ∷ Thread° ∷ []) ((frontThread V₁, (with-place V₂ RUNNING, tt))))), tt))
-          (λ k. and-then ! (load ! (from ! (stop !)) (look ! 4 refl)) (and-then ! (load ! (from ! (stop !)) (look ! 30 refl)) (and-then ! (load ! (from ! (stop !)) (look ! 24 refl)) (no-more !)))) (λ r₅₄ ws₅₅ is₅₆ ls₅₇ e₅₈.
+          (λ k. and-then ! (load ! (from ! (stop !)) (look ! 4 refl)) (and-then ! (load ! (from ! (stop !)) (look ! 28 refl)) (and-then ! (load ! (from ! (stop !)) (look ! 24 refl)) (no-more !)))) (λ r₄₂ ws₄₃ is₄₄ ls₄₅ e₄₆.
           split ! $
           move ! (1 ∷ []) $
           drop ! $
-          rewrite ! 0 (λ (us : List Thread). ‵ (row Thread·.the-row fullShare us b o)) (e₅₈) refl $
+          rewrite ! 0 (λ (us : List Thread). ‵ (row Thread·.the-row fullShare us b o)) (e₄₆) refl $
           land ! (from ! (stop !)) (store ! 12 refl (tt, tt)) $
           nothing ! $
-          call-slices Taken° (number w64 ∷ []) ((frontThread V₁, tt)) (emp 𝓤) ([]) ! fm (λ r ws. r ≡ V₆) ((c₇, tt)) (id⊢ 𝓤 (emp 𝓤))
+          call-slices Taken° (number w64 ∷ []) ((frontThread V₁, tt)) (emp 𝓤) ([]) ! fm (λ r ws. r ≡ V₅) ((c₆, tt)) (id⊢ 𝓤 (emp 𝓤))
           (λ νs. cited 𝓤 H (tripleOf 𝓤 H A fn-lent-rq-handed-out.signature (fn-lent-rq-handed-out.spec 𝓤 H A (𝓜 .mem) (𝓡 .run))) 𝓜 𝓡 code.env fn-lent-rq-handed-out-def.name fn-lent-rq-handed-out-def.routine code.calls-lent·rq·handed-out (fn-lent-rq-handed-out-thm.met 𝓤 H 𝓜 𝓖 𝓡) ((tt, tt, tt, (frontThread V₁, tt), spell (number w64 ∷ []) ((frontThread V₁, tt))), tt))
-          (λ k. and-then ! (load ! (from ! (stop !)) (look ! 31 refl)) (no-more !)) (λ r₅₉ ws₆₀ is₆₁ ls₆₂ e₆₃.
+          (λ k. and-then ! (load ! (from ! (stop !)) (look ! 29 refl)) (no-more !)) (λ r₄₇ ws₄₈ is₄₉ ls₅₀ e₅₁.
           drop ! $
-          told ! Taken° (e₆₃) is₆₁ (λ is₆₄.
-          land ! (from ! (stop !)) (init ! 44 refl (Taken° .typed 𝓤 H A W (V₆) (is₆₄) .0)) $
-          move ! (1 ∷ 3 ∷ []) $
-          closed ! tt (Array u64 96) ys′ (V₄) b′ o′ room′ (sym ((refl ∙ sym (subst (λ (us : List (List ℕ)). length us ≡ length ys′) (e₄₇) (ls₄₆ .0))))) $
+          told ! Taken° (e₅₁) is₄₉ (λ is₅₂.
+          land ! (from ! (stop !)) (init ! 40 refl (Taken° .typed 𝓤 H A W (V₅) (is₅₂) .0)) $
           move ! (2 ∷ 3 ∷ []) $
-          closed ! tt Thread·.the-row ys (V₅) b o room (sym ((refl ∙ sym (subst (λ (us : List Thread). length us ≡ length ys) (e₅₈) (ls₅₇ .0))))) $
-          returns ! (look ! 44 refl) $
-          move ! (44 ∷ 45 ∷ 42 ∷ 43 ∷ 40 ∷ 41 ∷ 38 ∷ 39 ∷ 36 ∷ 37 ∷ 34 ∷ 35 ∷ 32 ∷ 33 ∷ 30 ∷ 31 ∷ 28 ∷ 29 ∷ 26 ∷ 27 ∷ 24 ∷ 25 ∷ 22 ∷ 23 ∷ 20 ∷ 21 ∷ 18 ∷ 19 ∷ 16 ∷ 17 ∷ 14 ∷ 15 ∷ 12 ∷ 13 ∷ 10 ∷ 11 ∷ 8 ∷ 9 ∷ 6 ∷ 7 ∷ 4 ∷ 5 ∷ []) $
-          all-freed ! mir.locals (l₀ ∷ l₁ ∷ l₂ ∷ l₃ ∷ l₄ ∷ l₅ ∷ l₆ ∷ l₇ ∷ l₈ ∷ l₉ ∷ l₁₀ ∷ l₁₁ ∷ l₁₂ ∷ l₁₃ ∷ l₁₄ ∷ l₁₅ ∷ l₁₆ ∷ l₁₇ ∷ l₁₈ ∷ l₁₉ ∷ l₂₀ ∷ []) (full _ ∷ full _ ∷ full _ ∷ full _ ∷ bare ∷ full _ ∷ full _ ∷ full _ ∷ full _ ∷ full _ ∷ full _ ∷ bare ∷ bare ∷ bare ∷ bare ∷ bare ∷ full _ ∷ full _ ∷ full _ ∷ full _ ∷ full _ ∷ []) tt $
-          suffices ! _ (ends-at 𝓤 H A take.ended stayed c W y _ (V₆) (V₅, (V₄, (tt, (tt, tt)))) (sym ((refl ∙ sym (subst (λ (us : List Thread). length us ≡ length ys) (e₅₈) (ls₅₇ .0)))), (sym ((refl ∙ sym (subst (λ (us : List (List ℕ)). length us ≡ length ys′) (e₄₇) (ls₄₆ .0)))), (tt, (tt, tt))))) $ says ! (so {X = Left Taken Memory} (record { answer = V₆; memory = record { threads = V₅; cpus = V₄ } }) (takeDef (a .0) (a .1 .0) (record { threads = ys; cpus = ys′ })) ((no (isNothing V₁) h₁ _ (refl)) ∙ took-is (a .0) (rqFront (queueAt ys′ (a .0)) (a .1 .0)) (record { threads = ys; cpus = ys′ }))) $
-          leaves2 ! Taken° Ds a (V₆) are (is₆₄)))))))))
+          closed ! tt (Array u64 96) ys′ (V₃) b′ o′ room′ (sym e₁₀₁) $
+          move ! (2 ∷ 3 ∷ []) $
+          closed ! tt Thread·.the-row ys (V₄) b o room (sym ((refl ∙ sym (subst (λ (us : List Thread). length us ≡ length ys) (e₄₆) (ls₄₅ .0))))) $
+          returns ! (look ! 40 refl) $
+          move ! (40 ∷ 41 ∷ 38 ∷ 39 ∷ 36 ∷ 37 ∷ 34 ∷ 35 ∷ 32 ∷ 33 ∷ 30 ∷ 31 ∷ 28 ∷ 29 ∷ 26 ∷ 27 ∷ 24 ∷ 25 ∷ 22 ∷ 23 ∷ 20 ∷ 21 ∷ 18 ∷ 19 ∷ 16 ∷ 17 ∷ 14 ∷ 15 ∷ 12 ∷ 13 ∷ 10 ∷ 11 ∷ 8 ∷ 9 ∷ 6 ∷ 7 ∷ 4 ∷ 5 ∷ []) $
+          all-freed ! mir.locals (l₀ ∷ l₁ ∷ l₂ ∷ l₃ ∷ l₄ ∷ l₅ ∷ l₆ ∷ l₇ ∷ l₈ ∷ l₉ ∷ l₁₀ ∷ l₁₁ ∷ l₁₂ ∷ l₁₃ ∷ l₁₄ ∷ l₁₅ ∷ l₁₆ ∷ l₁₇ ∷ l₁₈ ∷ []) (full _ ∷ full _ ∷ full _ ∷ full _ ∷ bare ∷ bare ∷ full _ ∷ full _ ∷ full _ ∷ bare ∷ bare ∷ bare ∷ bare ∷ bare ∷ full _ ∷ bare ∷ bare ∷ full _ ∷ full _ ∷ []) tt $
+          suffices ! _ (ends-at 𝓤 H A take.ended stayed c W y _ (V₅) (V₄, (V₃, (tt, (tt, tt)))) (sym ((refl ∙ sym (subst (λ (us : List Thread). length us ≡ length ys) (e₄₆) (ls₄₅ .0)))), (sym e₁₀₁, (tt, (tt, tt))))) $ says ! (so {X = Left Taken Memory} (record { answer = V₅; memory = record { threads = V₄; cpus = V₃ } }) (takeDef (a .0) (a .1 .0) (record { threads = ys; cpus = ys′ })) ((no (isNothing V₁) h₁ _ (refl)) ∙ took-is (a .0) (rqFront (queueAt ys′ (a .0)) (a .1 .0)) (record { threads = ys; cpus = ys′ }))) $
+          leaves2 ! Taken° Ds a (V₅) are (is₅₂))))))
 
     walk : ent 𝓤 (onEntry 𝓤 H A take.signature (κ, (κ′, tt)) (q, (q′, tt)) ((lent-as b o γ ys, (lent-as b′ o′ γ′ ys′, a))) ((s ∷ [], (s′ ∷ [], spell Ds a)))) (WpFn 𝓤 H C Λ code.function (s ∷ s′ ∷ listed Ds a) Post)
     unfolding takeDef
     walk =
         qed W ((‵ (flft κ q) ⊛ (‵ (flft κ′ q′) ⊛ (‵ ftrue))) ∷ ‵ (owns (MutSlice (named 0) κ Thread·.the-row ∷ MutSlice (named 1) κ′ (Array u64 96) ∷ u64 ∷ bool ∷ []) ((lent-as b o γ ys, (lent-as b′ o′ γ′ ys′, a))) ((s ∷ [], (s′ ∷ [], spell Ds a)))) ∷ []) ∵ begins2 ! $ enter ! C _ code.function (s ∷ s′ ∷ listed Ds a) _ $
-        alloc1 ! (λ l₀. alloc1 ! (λ l₁. alloc1 ! (λ l₂. alloc1 ! (λ l₃. alloc1 ! (λ l₄. alloc1 ! (λ l₅. alloc1 ! (λ l₆. alloc1 ! (λ l₇. alloc1 ! (λ l₈. alloc1 ! (λ l₉. alloc1 ! (λ l₁₀. alloc1 ! (λ l₁₁. alloc1 ! (λ l₁₂. alloc1 ! (λ l₁₃. alloc1 ! (λ l₁₄. alloc1 ! (λ l₁₅. alloc1 ! (λ l₁₆. alloc1 ! (λ l₁₇. alloc1 ! (λ l₁₈. alloc1 ! (λ l₁₉. alloc1 ! (λ l₂₀. alloc0 ! $ params1 ! $
-        pass1 ! (init ! 38 refl (tt, (tt, (record { fits = room .0 }, tt)))) $ pass1 ! (init ! 36 refl (tt, (tt, (record { fits = room′ .0 }, tt)))) $ pass1 ! (init ! 34 refl ((number w64) .typed 𝓤 H A W (a .0) (are .0) .0)) $ pass1 ! (init ! 32 refl (tt, tt)) $ pass0 ! $
-        move ! (44 ∷ 45 ∷ []) $
+        alloc1 ! (λ l₀. alloc1 ! (λ l₁. alloc1 ! (λ l₂. alloc1 ! (λ l₃. alloc1 ! (λ l₄. alloc1 ! (λ l₅. alloc1 ! (λ l₆. alloc1 ! (λ l₇. alloc1 ! (λ l₈. alloc1 ! (λ l₉. alloc1 ! (λ l₁₀. alloc1 ! (λ l₁₁. alloc1 ! (λ l₁₂. alloc1 ! (λ l₁₃. alloc1 ! (λ l₁₄. alloc1 ! (λ l₁₅. alloc1 ! (λ l₁₆. alloc1 ! (λ l₁₇. alloc1 ! (λ l₁₈. alloc0 ! $ params1 ! $
+        pass1 ! (init ! 34 refl (tt, (tt, (record { fits = room .0 }, tt)))) $ pass1 ! (init ! 32 refl (tt, (tt, (record { fits = room′ .0 }, tt)))) $ pass1 ! (init ! 30 refl ((number w64) .typed 𝓤 H A W (a .0) (are .0) .0)) $ pass1 ! (init ! 28 refl (tt, tt)) $ pass0 ! $
+        move ! (40 ∷ 41 ∷ []) $
         opened ! tt (Array u64 96) γ′ ys′ b′ o′ $
-        move ! (44 ∷ 45 ∷ []) $
+        move ! (40 ∷ 41 ∷ []) $
         opened ! tt Thread·.the-row γ ys b o $
-        assigns ! (addr ! (from ! (fld ! refl (hop ! (look-in ! 40 (sub ! 0 refl (whole !))) (stop !))))) (from ! (stop !)) (init ! 22 refl (tt, tt)) $
-        assigns ! (agg ! (and-then ! (load ! (from ! (stop !)) (look ! 22 refl)) (and-then ! (load ! (from ! (fld ! refl (stop !))) (look-in ! 40 (sub ! 1 refl (whole !)))) (no-more !)))) (from ! (stop !)) (init ! 20 refl (tt, (tt, (record { fits = room′ .0 }, tt)))) $
+        assigns ! (addr ! (from ! (fld ! refl (hop ! (look-in ! 36 (sub ! 0 refl (whole !))) (stop !))))) (from ! (stop !)) (init ! 22 refl (tt, tt)) $
+        assigns ! (agg ! (and-then ! (load ! (from ! (stop !)) (look ! 22 refl)) (and-then ! (load ! (from ! (fld ! refl (stop !))) (look-in ! 36 (sub ! 1 refl (whole !)))) (no-more !)))) (from ! (stop !)) (init ! 20 refl (tt, (tt, (record { fits = room′ .0 }, tt)))) $
         nothing ! $
         move ! (3 ∷ 0 ∷ []) $
         join ! $
-        call-slices RunQueue° (number w64 ∷ []) ((a .0, tt)) (emp 𝓤) ((shared (Array u64 96) ys′ b′ o′ n′ refl room′) ∷ []) ! fm (λ r ws. r ≡ (queueAt ys′ (a .0))) ((are .0, tt)) (id⊢ 𝓤 (emp 𝓤))
-        (λ νs. cited 𝓤 H (tripleOf 𝓤 H A fn-processor-rq-load-queue.signature (fn-processor-rq-load-queue.spec 𝓤 H A (𝓜 .mem) (𝓡 .run))) 𝓜 𝓡 code.env fn-processor-rq-load-queue-def.name fn-processor-rq-load-queue-def.routine code.calls-processor·rq·load-queue (fn-processor-rq-load-queue-thm.met 𝓤 H 𝓜 𝓖 𝓡) (((νs .0 .0 ∷ [], tt), (fullShare, tt), tt, (lent-as b′ o′ (νs .0 .1) ys′, (a .0, tt)), (slice-of b′ o′ ys′ ∷ [], spell (number w64 ∷ []) ((a .0, tt)))), tt))
-        (λ k. and-then ! (load ! (from ! (stop !)) (look ! 20 refl)) (and-then ! (load ! (from ! (stop !)) (look ! 38 refl)) (no-more !))) (λ r₁ ws₂ is₃ ls₄ e₅.
+        call-slices Front° (number w64 ∷ truth ∷ []) ((a .0, (a .1 .0, tt))) (emp 𝓤) ((shared (Array u64 96) ys′ b′ o′ n′ refl room′) ∷ []) ! fm (λ r ws. r ≡ V₁) ((are .0, (are .1 .0, tt))) (id⊢ 𝓤 (emp 𝓤))
+        (λ νs. cited 𝓤 H (tripleOf 𝓤 H A fn-processor-rq-front.signature (fn-processor-rq-front.spec 𝓤 H A (𝓜 .mem) (𝓡 .run))) 𝓜 𝓡 code.env fn-processor-rq-front-def.name fn-processor-rq-front-def.routine code.calls-processor·rq·front (fn-processor-rq-front-thm.met 𝓤 H 𝓜 𝓖 𝓡) (((νs .0 .0 ∷ [], tt), (fullShare, tt), tt, (lent-as b′ o′ (νs .0 .1) ys′, (a .0, (a .1 .0, tt))), (slice-of b′ o′ ys′ ∷ [], spell (number w64 ∷ truth ∷ []) ((a .0, (a .1 .0, tt))))), tt))
+        (λ k. and-then ! (load ! (from ! (stop !)) (look ! 20 refl)) (and-then ! (load ! (from ! (stop !)) (look ! 34 refl)) (and-then ! (load ! (from ! (stop !)) (look ! 32 refl)) (no-more !)))) (λ r₁ ws₂ is₃ ls₄ e₅.
         split ! $
         move ! (1 ∷ []) $
         drop ! $
-        told ! RunQueue° (e₅) is₃ (λ is₆.
-        land ! (from ! (stop !)) (init ! 34 refl (RunQueue° .typed 𝓤 H A W (queueAt ys′ (a .0)) (is₆) .0)) $
+        told ! Front° (e₅) is₃ (λ is₆.
+        land ! (from ! (stop !)) (init ! 30 refl (Front° .typed 𝓤 H A W (V₁) (is₆) .0)) $
         nothing ! $
-        call-slices Front° (RunQueue° ∷ truth ∷ []) ((queueAt ys′ (a .0), (a .1 .0, tt))) (emp 𝓤) ([]) ! fm (λ r ws. r ≡ V₁) ((is₆, (are .1 .0, tt))) (id⊢ 𝓤 (emp 𝓤))
-        (λ νs. cited 𝓤 H (tripleOf 𝓤 H A fn-runqueue-rq-RunQueue-front.signature (fn-runqueue-rq-RunQueue-front.spec 𝓤 H A (𝓜 .mem) (𝓡 .run))) 𝓜 𝓡 code.env fn-runqueue-rq-RunQueue-front-def.name fn-runqueue-rq-RunQueue-front-def.routine code.calls-runqueue·rq·RunQueue·front (fn-runqueue-rq-RunQueue-front-thm.met 𝓤 H 𝓜 𝓖 𝓡) ((tt, tt, tt, (queueAt ys′ (a .0), (a .1 .0, tt)), spell (RunQueue° ∷ truth ∷ []) ((queueAt ys′ (a .0), (a .1 .0, tt)))), tt))
-        (λ k. and-then ! (load ! (from ! (stop !)) (look ! 35 refl)) (and-then ! (load ! (from ! (stop !)) (look ! 37 refl)) (no-more !))) (λ r₇ ws₈ is₉ ls₁₀ e₁₁.
-        drop ! $
-        told ! Front° (e₁₁) is₉ (λ is₁₂.
-        land ! (from ! (stop !)) (init ! 32 refl (Front° .typed 𝓤 H A W (V₁) (is₁₂) .0)) $
-        nothing ! $
-        call-slices truth (Front° ∷ []) ((V₁, tt)) (emp 𝓤) ([]) ! fm (λ r ws. r ≡ (isNothing V₁)) ((is₁₂, tt)) (id⊢ 𝓤 (emp 𝓤))
+        call-slices truth (Front° ∷ []) ((V₁, tt)) (emp 𝓤) ([]) ! fm (λ r ws. r ≡ (isNothing V₁)) ((is₆, tt)) (id⊢ 𝓤 (emp 𝓤))
         (λ νs. cited 𝓤 H (tripleOf 𝓤 H A fn-lent-rq-is-nothing.signature (fn-lent-rq-is-nothing.spec 𝓤 H A (𝓜 .mem) (𝓡 .run))) 𝓜 𝓡 code.env fn-lent-rq-is-nothing-def.name fn-lent-rq-is-nothing-def.routine code.calls-lent·rq·is-nothing (fn-lent-rq-is-nothing-thm.met 𝓤 H 𝓜 𝓖 𝓡) ((tt, tt, tt, (V₁, tt), spell (Front° ∷ []) ((V₁, tt))), tt))
-        (λ k. and-then ! (load ! (from ! (stop !)) (look ! 33 refl)) (no-more !)) (λ r₁₃ ws₁₄ is₁₅ ls₁₆ e₁₇.
+        (λ k. and-then ! (load ! (from ! (stop !)) (look ! 31 refl)) (no-more !)) (λ r₇ ws₈ is₉ ls₁₀ e₁₁.
         drop ! $
-        told ! truth (e₁₇) is₁₅ (λ is₁₈.
+        told ! truth (e₁₁) is₉ (λ is₁₂.
         land ! (from ! (stop !)) (init ! 18 refl (tt, tt)) $
         guards ! (load ! (from ! (stop !)) (look ! 18 refl))
         (λ h₁.
         nothing ! $
         call-slices Taken° ([]) tt (emp 𝓤) ([]) ! fm (λ r ws. r ≡ taken.Nobody) tt (id⊢ 𝓤 (emp 𝓤))
         (λ νs. cited 𝓤 H (tripleOf 𝓤 H A fn-lent-rq-nobody.signature (fn-lent-rq-nobody.spec 𝓤 H A (𝓜 .mem) (𝓡 .run))) 𝓜 𝓡 code.env fn-lent-rq-nobody-def.name fn-lent-rq-nobody-def.routine code.calls-lent·rq·nobody (fn-lent-rq-nobody-thm.met 𝓤 H 𝓜 𝓖 𝓡) ((tt, tt, tt, tt, spell ([]) tt), tt))
-        (λ k. no-more !) (λ r₁₉ ws₂₀ is₂₁ ls₂₂ e₂₃.
+        (λ k. no-more !) (λ r₁₃ ws₁₄ is₁₅ ls₁₆ e₁₇.
         drop ! $
-        told ! Taken° (e₂₃) is₂₁ (λ is₂₄.
-        land ! (from ! (stop !)) (init ! 44 refl (Taken° .typed 𝓤 H A W (taken.Nobody) (is₂₄) .0)) $
+        told ! Taken° (e₁₇) is₁₅ (λ is₁₈.
+        land ! (from ! (stop !)) (init ! 40 refl (Taken° .typed 𝓤 H A W (taken.Nobody) (is₁₈) .0)) $
         move ! (0 ∷ 3 ∷ []) $
         closed ! tt (Array u64 96) ys′ (ys′) b′ o′ room′ (sym refl) $
         move ! (2 ∷ 3 ∷ []) $
         closed ! tt Thread·.the-row ys (ys) b o room (sym refl) $
-        returns-within ! Post refl (look ! 44 refl) $
-        move ! (44 ∷ 45 ∷ 42 ∷ 43 ∷ 40 ∷ 41 ∷ 38 ∷ 39 ∷ 36 ∷ 37 ∷ 34 ∷ 35 ∷ 32 ∷ 33 ∷ 30 ∷ 31 ∷ 28 ∷ 29 ∷ 26 ∷ 27 ∷ 24 ∷ 25 ∷ 22 ∷ 23 ∷ 20 ∷ 21 ∷ 18 ∷ 19 ∷ 16 ∷ 17 ∷ 14 ∷ 15 ∷ 12 ∷ 13 ∷ 10 ∷ 11 ∷ 8 ∷ 9 ∷ 6 ∷ 7 ∷ 4 ∷ 5 ∷ []) $
-        all-freed ! mir.locals (l₀ ∷ l₁ ∷ l₂ ∷ l₃ ∷ l₄ ∷ l₅ ∷ l₆ ∷ l₇ ∷ l₈ ∷ l₉ ∷ l₁₀ ∷ l₁₁ ∷ l₁₂ ∷ l₁₃ ∷ l₁₄ ∷ l₁₅ ∷ l₁₆ ∷ l₁₇ ∷ l₁₈ ∷ l₁₉ ∷ l₂₀ ∷ []) (full _ ∷ full _ ∷ full _ ∷ full _ ∷ full _ ∷ full _ ∷ full _ ∷ bare ∷ bare ∷ bare ∷ bare ∷ full _ ∷ full _ ∷ full _ ∷ bare ∷ bare ∷ bare ∷ bare ∷ bare ∷ bare ∷ bare ∷ []) tt $
+        returns-within ! Post refl (look ! 40 refl) $
+        move ! (40 ∷ 41 ∷ 38 ∷ 39 ∷ 36 ∷ 37 ∷ 34 ∷ 35 ∷ 32 ∷ 33 ∷ 30 ∷ 31 ∷ 28 ∷ 29 ∷ 26 ∷ 27 ∷ 24 ∷ 25 ∷ 22 ∷ 23 ∷ 20 ∷ 21 ∷ 18 ∷ 19 ∷ 16 ∷ 17 ∷ 14 ∷ 15 ∷ 12 ∷ 13 ∷ 10 ∷ 11 ∷ 8 ∷ 9 ∷ 6 ∷ 7 ∷ 4 ∷ 5 ∷ []) $
+        all-freed ! mir.locals (l₀ ∷ l₁ ∷ l₂ ∷ l₃ ∷ l₄ ∷ l₅ ∷ l₆ ∷ l₇ ∷ l₈ ∷ l₉ ∷ l₁₀ ∷ l₁₁ ∷ l₁₂ ∷ l₁₃ ∷ l₁₄ ∷ l₁₅ ∷ l₁₆ ∷ l₁₇ ∷ l₁₈ ∷ []) (full _ ∷ full _ ∷ full _ ∷ full _ ∷ full _ ∷ full _ ∷ bare ∷ bare ∷ bare ∷ full _ ∷ full _ ∷ full _ ∷ bare ∷ bare ∷ bare ∷ bare ∷ bare ∷ bare ∷ bare ∷ []) tt $
         suffices ! _ (ends-at 𝓤 H A take.ended stayed c W y _ (taken.Nobody) (ys, (ys′, (tt, (tt, tt)))) (sym refl, (sym refl, (tt, (tt, tt))))) $ says ! (so {X = Left Taken Memory} (record { answer = taken.Nobody; memory = record { threads = ys; cpus = ys′ } }) (takeDef (a .0) (a .1 .0) (record { threads = ys; cpus = ys′ })) ((yes (isNothing V₁) h₁ _ (refl)) ∙ took-is (a .0) (rqFront (queueAt ys′ (a .0)) (a .1 .0)) (record { threads = ys; cpus = ys′ }))) $
-        leaves2 ! Taken° Ds a (taken.Nobody) are (is₂₄))))
+        leaves2 ! Taken° Ds a (taken.Nobody) are (is₁₈))))
         (λ h₁.
         nothing ! $
-        call-slices (number w64) (Front° ∷ []) ((V₁, tt)) (emp 𝓤) ([]) ! fm (λ r ws. r ≡ (frontThread V₁)) ((is₁₂, tt)) (id⊢ 𝓤 (emp 𝓤))
+        call-slices (number w64) (Front° ∷ []) ((V₁, tt)) (emp 𝓤) ([]) ! fm (λ r ws. r ≡ (frontThread V₁)) ((is₆, tt)) (id⊢ 𝓤 (emp 𝓤))
         (λ νs. cited 𝓤 H (tripleOf 𝓤 H A fn-runqueue-rq-Front-thread.signature (fn-runqueue-rq-Front-thread.spec 𝓤 H A (𝓜 .mem) (𝓡 .run))) 𝓜 𝓡 code.env fn-runqueue-rq-Front-thread-def.name fn-runqueue-rq-Front-thread-def.routine code.calls-runqueue·rq·Front·thread (fn-runqueue-rq-Front-thread-thm.met 𝓤 H 𝓜 𝓖 𝓡) ((tt, tt, tt, (V₁, tt), spell (Front° ∷ []) ((V₁, tt))), tt))
-        (λ k. and-then ! (load ! (from ! (stop !)) (look ! 33 refl)) (no-more !)) (λ r₂₅ ws₂₆ is₂₇ ls₂₈ e₂₉.
+        (λ k. and-then ! (load ! (from ! (stop !)) (look ! 31 refl)) (no-more !)) (λ r₁₉ ws₂₀ is₂₁ ls₂₂ e₂₃.
         drop ! $
-        told ! (number w64) (e₂₉) is₂₇ (λ is₃₀.
-        land ! (from ! (stop !)) (init ! 30 refl ((number w64) .typed 𝓤 H A W (frontThread V₁) (is₃₀) .0)) $
-        assigns ! (addr ! (from ! (fld ! refl (hop ! (look-in ! 42 (sub ! 0 refl (whole !))) (stop !))))) (from ! (stop !)) (init ! 16 refl (tt, tt)) $
-        assigns ! (agg ! (and-then ! (load ! (from ! (stop !)) (look ! 16 refl)) (and-then ! (load ! (from ! (fld ! refl (stop !))) (look-in ! 42 (sub ! 1 refl (whole !)))) (no-more !)))) (from ! (stop !)) (init ! 14 refl (tt, (tt, (record { fits = room .0 }, tt)))) $
+        told ! (number w64) (e₂₃) is₂₁ (λ is₂₄.
+        land ! (from ! (stop !)) (init ! 28 refl ((number w64) .typed 𝓤 H A W (frontThread V₁) (is₂₄) .0)) $
+        assigns ! (addr ! (from ! (fld ! refl (hop ! (look-in ! 38 (sub ! 0 refl (whole !))) (stop !))))) (from ! (stop !)) (init ! 16 refl (tt, tt)) $
+        assigns ! (agg ! (and-then ! (load ! (from ! (stop !)) (look ! 16 refl)) (and-then ! (load ! (from ! (fld ! refl (stop !))) (look-in ! 38 (sub ! 1 refl (whole !)))) (no-more !)))) (from ! (stop !)) (init ! 14 refl (tt, (tt, (record { fits = room .0 }, tt)))) $
         nothing ! $
         move ! (2 ∷ 0 ∷ []) $
         join ! $
-        call-slices Thread° (number w64 ∷ []) ((frontThread V₁, tt)) (emp 𝓤) ((shared Thread·.the-row ys b o n refl room) ∷ []) ! fm (λ r ws. r ≡ V₂) ((is₃₀, tt)) (id⊢ 𝓤 (emp 𝓤))
+        call-slices Thread° (number w64 ∷ []) ((frontThread V₁, tt)) (emp 𝓤) ((shared Thread·.the-row ys b o n refl room) ∷ []) ! fm (λ r ws. r ≡ V₂) ((is₂₄, tt)) (id⊢ 𝓤 (emp 𝓤))
         (λ νs. cited 𝓤 H (tripleOf 𝓤 H A fn-lent-records-get.signature (fn-lent-records-get.spec 𝓤 H A (𝓜 .mem) (𝓡 .run))) 𝓜 𝓡 code.env fn-lent-records-get-def.name fn-lent-records-get-def.routine code.calls-lent·records·get (fn-lent-records-get-thm.met 𝓤 H 𝓜 𝓖 𝓡) (((νs .0 .0 ∷ [], tt), (fullShare, tt), tt, (lent-as b o (νs .0 .1) ys, (frontThread V₁, tt)), (slice-of b o ys ∷ [], spell (number w64 ∷ []) ((frontThread V₁, tt)))), tt))
-        (λ k. and-then ! (load ! (from ! (stop !)) (look ! 14 refl)) (and-then ! (load ! (from ! (stop !)) (look ! 30 refl)) (no-more !))) (λ r₃₁ ws₃₂ is₃₃ ls₃₄ e₃₅.
+        (λ k. and-then ! (load ! (from ! (stop !)) (look ! 14 refl)) (and-then ! (load ! (from ! (stop !)) (look ! 28 refl)) (no-more !))) (λ r₂₅ ws₂₆ is₂₇ ls₂₈ e₂₉.
         split ! $
         move ! (1 ∷ []) $
         drop ! $
-        told ! Thread° (e₃₅) is₃₃ (λ is₃₆.
-        land ! (from ! (stop !)) (init ! 28 refl (Thread° .typed 𝓤 H A W (V₂) (is₃₆) .0)) $
-        forget ! 36 refl $
+        told ! Thread° (e₂₉) is₂₇ (λ is₃₀.
+        land ! (from ! (stop !)) (init ! 26 refl (Thread° .typed 𝓤 H A W (V₂) (is₃₀) .0)) $
+        assigns ! (addr ! (from ! (fld ! refl (hop ! (look-in ! 36 (sub ! 0 refl (whole !))) (stop !))))) (from ! (stop !)) (init ! 10 refl (tt, tt)) $
+        assigns ! (agg ! (and-then ! (load ! (from ! (stop !)) (look ! 10 refl)) (and-then ! (load ! (from ! (fld ! refl (stop !))) (look-in ! 36 (sub ! 1 refl (whole !)))) (no-more !)))) (from ! (stop !)) (init ! 8 refl (tt, (tt, (record { fits = room′ .0 }, tt)))) $
+        nothing ! $
+        move ! (2 ∷ 0 ∷ []) $
+        join ! $
+        call-slices nil (number w64 ∷ Front° ∷ Thread° ∷ []) ((a .0, (V₁, (V₂, tt)))) (emp 𝓤) ((mutable (Array u64 96) ys′ b′ o′ n′ refl room′) ∷ []) ! fm (λ r ws. ws .0 ≡ V₃) ((are .0, (is₆, (is₃₀, tt)))) (id⊢ 𝓤 (emp 𝓤))
+        (λ νs. cited 𝓤 H (tripleOf 𝓤 H A fn-lent-rq-leave.signature (fn-lent-rq-leave.spec 𝓤 H A (𝓜 .mem) (𝓡 .run))) 𝓜 𝓡 code.env fn-lent-rq-leave-def.name fn-lent-rq-leave-def.routine code.calls-lent·rq·leave (fn-lent-rq-leave-thm.met 𝓤 H 𝓜 𝓖 𝓡) (((νs .0 .0 ∷ [], tt), (fullShare, tt), tt, (lent-as b′ o′ (νs .0 .1) ys′, (a .0, (V₁, (V₂, tt)))), (slice-of b′ o′ ys′ ∷ [], spell (number w64 ∷ Front° ∷ Thread° ∷ []) ((a .0, (V₁, (V₂, tt)))))), tt))
+        (λ k. and-then ! (load ! (from ! (stop !)) (look ! 8 refl)) (and-then ! (load ! (from ! (stop !)) (look ! 34 refl)) (and-then ! (load ! (from ! (stop !)) (look ! 30 refl)) (and-then ! (load ! (from ! (stop !)) (look ! 26 refl)) (no-more !))))) (λ r₃₁ ws₃₂ is₃₃ ls₃₄ e₃₅.
+        split ! $
+        move ! (1 ∷ []) $
+        drop ! $
+        rewrite ! 0 (λ (us : List (List ℕ)). ‵ (row (Array u64 96) fullShare us b′ o′)) (e₃₅) refl $
+        land ! (from ! (stop !)) (init ! 12 refl (tt, tt)) $
+        forget ! 32 refl $
+        forget ! 30 refl $
         forget ! 22 refl $
         forget ! 20 refl $
         forget ! 18 refl $
         forget ! 16 refl $
         forget ! 14 refl $
-        move ! (0 ∷ 2 ∷ 1 ∷ 3 ∷ 4 ∷ 5 ∷ 6 ∷ 7 ∷ 8 ∷ 9 ∷ 10 ∷ 11 ∷ 12 ∷ 13 ∷ 14 ∷ 15 ∷ 16 ∷ 17 ∷ 18 ∷ 19 ∷ 20 ∷ 21 ∷ 22 ∷ 23 ∷ 24 ∷ 25 ∷ 26 ∷ 27 ∷ 28 ∷ 29 ∷ 30 ∷ 31 ∷ 32 ∷ 33 ∷ 34 ∷ 35 ∷ 36 ∷ 37 ∷ 38 ∷ 39 ∷ 40 ∷ 41 ∷ 42 ∷ 43 ∷ 44 ∷ 45 ∷ []) $
-        part-11 l₀ l₁ l₂ l₃ l₄ l₅ l₆ l₇ l₈ l₉ l₁₀ l₁₁ l₁₂ l₁₃ l₁₄ l₁₅ l₁₆ l₁₇ l₁₈ l₁₉ l₂₀ is₆ is₁₂ is₃₀ is₃₆ h₁))))))))))))))))))))))))))))))))
+        forget ! 10 refl $
+        forget ! 8 refl $
+        move ! (1 ∷ 2 ∷ 0 ∷ 3 ∷ 4 ∷ 5 ∷ 6 ∷ 7 ∷ 8 ∷ 9 ∷ 10 ∷ 11 ∷ 12 ∷ 13 ∷ 14 ∷ 15 ∷ 16 ∷ 17 ∷ 18 ∷ 19 ∷ 20 ∷ 21 ∷ 22 ∷ 23 ∷ 24 ∷ 25 ∷ 26 ∷ 27 ∷ 28 ∷ 29 ∷ 30 ∷ 31 ∷ 32 ∷ 33 ∷ 34 ∷ 35 ∷ 36 ∷ 37 ∷ 38 ∷ 39 ∷ 40 ∷ 41 ∷ []) $
+        part-13 l₀ l₁ l₂ l₃ l₄ l₅ l₆ l₇ l₈ l₉ l₁₀ l₁₁ l₁₂ l₁₃ l₁₄ l₁₅ l₁₆ l₁₇ l₁₈ ((refl ∙ sym (subst (λ (us : List (List ℕ)). length us ≡ length ys′) (e₃₅) (ls₃₄ .0)))) is₂₄ is₃₀ r₃₁ is₃₃ h₁)))))))))))))))))))))))))))))
 
 pub take-spec : {M : Type 1} → stated.statement M
 unfolding code.routine

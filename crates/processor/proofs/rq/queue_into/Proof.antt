@@ -1,4 +1,5 @@
 use Rattle.processor.specs.Queue.{queueInto, storedFrom}
+use Rattle.processor.specs.Parts.{numbersInto}
 use borrow.Author.Needs.{needs}
 use Rattle.processor.proofs.rq.queue_into.Statement.{statement}
 use Rattle.processor.proofs.rq.queue_into.Tie as tie
@@ -15,21 +16,12 @@ store-lists-requires-2 c κs = search needs
 store-lists-requires-3 : tie.Need-store-lists-requires-3
 store-lists-requires-3 c κs = search needs
 
-first-eight-requires : tie.Need-first-eight-requires
-first-eight-requires c κs = search needs
-
-store-requires-2 : tie.Need-store-requires-2
-store-requires-2 c κs = search needs
-
-last-two-requires : tie.Need-last-two-requires
-last-two-requires c κs = search needs
-
-store-requires-3 : tie.Need-store-requires-3
-store-requires-3 c κs = search needs
+numbers-into-requires : tie.Need-numbers-into-requires
+numbers-into-requires c κs = search needs
 
 returns : tie.Need-returns
-unfolding queueInto storedFrom
-returns c = rw (c .store3 .ensures, c .before .last-two .ensures, c .before .before .before .store2 .ensures, c .before .before .before .before .first-eight .ensures, c .before .before .before .before .before .before .store-lists3 .ensures, c .before .before .before .before .before .before .before .before .store-lists2 .ensures, c .before .before .before .before .before .before .before .before .before .before .store .ensures, c .before .before .before .before .before .before .before .before .before .before .before .before .store-lists .ensures)
+unfolding queueInto storedFrom numbersInto
+returns c = rw (c .numbers-into .ensures, c .before .before .store-lists3 .ensures, c .before .before .before .before .store-lists2 .ensures, c .before .before .before .before .before .before .store .ensures, c .before .before .before .before .before .before .before .before .store-lists .ensures)
 
 pub queue-into-spec : {M : Type 1} → statement M
 queue-into-spec =
@@ -39,8 +31,5 @@ queue-into-spec =
     store-requires
     store-lists-requires-2
     store-lists-requires-3
-    first-eight-requires
-    store-requires-2
-    last-two-requires
-    store-requires-3
+    numbers-into-requires
     returns)

@@ -1,0 +1,45 @@
+use Rattle.queue.specs.PriorityQueue.{pqFront}
+use Rattle.runqueue.specs.declared.rq.RunQueue.{RunQueue}
+use Rattle.processor.specs.Queue.{queueAt}
+use Rattle.queue.specs.declared.lists.Found.{Found}
+use Rattle.rules.specs.declared.Part.the-variants as part
+use Rattle.runqueue.specs.RunQueue.{firstIn, rqFrontRealtime, rqFrontTimeshare}
+use mathlib.Core.Path.{_∙_, ap, sym}
+use borrow.Author.Needs.{needs}
+use Rattle.processor.proofs.rq.front_realtime.Statement.{statement}
+use Rattle.processor.proofs.rq.front_realtime.Tie as tie
+
+load-queue-requires : tie.Need-load-queue-requires
+load-queue-requires c κs = search needs
+
+front-requires : tie.Need-front-requires
+front-requires c κs = search needs
+
+enum-known-found : tie.Need-enum-known-found
+enum-known-found c = search needs
+
+enum-told : tie.Need-enum-told
+enum-told c = search needs
+
+front-timeshare-requires : tie.Need-front-timeshare-requires
+front-timeshare-requires c κs = search needs
+
+returns : tie.Need-returns
+unfolding rqFrontRealtime firstIn
+returns c = ap (λ (f : Found). firstIn part.Realtime f (rqFrontTimeshare (queueAt (c .before .before .before .before .before .before .args .cpus .now) (c .before .before .before .before .before .before .args .c)))) (sym (c .before .found .given .1) ∙ c .before .before .before .front .ensures ∙ ap (λ (q : RunQueue). pqFront (q .realtime)) (c .before .before .before .before .before .load-queue .ensures))
+
+returns-2 : tie.Need-returns-2
+unfolding rqFrontRealtime firstIn
+returns-2 c = c .front-timeshare .ensures ∙ ap (λ (f : Found). firstIn part.Realtime f (rqFrontTimeshare (queueAt (c .before .before .before .before .before .before .args .cpus .now) (c .before .before .before .before .before .before .args .c)))) (sym (c .before .enum-told .given .1) ∙ c .before .before .before .front .ensures ∙ ap (λ (q : RunQueue). pqFront (q .realtime)) (c .before .before .before .before .before .load-queue .ensures))
+
+pub front-realtime-spec : {M : Type 1} → statement M
+front-realtime-spec =
+    tie.close
+    (tie.spec
+    load-queue-requires
+    front-requires
+    enum-known-found
+    enum-told
+    front-timeshare-requires
+    returns
+    returns-2)

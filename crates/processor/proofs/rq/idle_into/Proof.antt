@@ -1,0 +1,17 @@
+use Rattle.processor.specs.Parts.{partInto}
+use borrow.Author.Needs.{needs}
+use Rattle.processor.proofs.rq.idle_into.Statement.{statement}
+use Rattle.processor.proofs.rq.idle_into.Tie as tie
+
+store-lists-requires : tie.Need-store-lists-requires
+store-lists-requires c κs = search needs
+
+numbers-into-requires : tie.Need-numbers-into-requires
+numbers-into-requires c κs = search needs
+
+returns : tie.Need-returns
+unfolding partInto
+returns c = rw (c .numbers-into .ensures, c .before .before .store-lists .ensures)
+
+pub idle-into-spec : {M : Type 1} → statement M
+idle-into-spec = tie.close (tie.spec store-lists-requires numbers-into-requires returns)

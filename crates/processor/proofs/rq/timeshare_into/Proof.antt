@@ -1,0 +1,21 @@
+use Rattle.processor.specs.Parts.{partInto}
+use borrow.Author.Needs.{needs}
+use Rattle.processor.proofs.rq.timeshare_into.Statement.{statement}
+use Rattle.processor.proofs.rq.timeshare_into.Tie as tie
+
+store-requires : tie.Need-store-requires
+store-requires c κs = search needs
+
+store-lists-requires : tie.Need-store-lists-requires
+store-lists-requires c κs = search needs
+
+numbers-into-requires : tie.Need-numbers-into-requires
+numbers-into-requires c κs = search needs
+
+returns : tie.Need-returns
+unfolding partInto
+returns c = rw (c .numbers-into .ensures, c .before .before .store-lists .ensures, c .before .before .before .before .store .ensures)
+
+pub timeshare-into-spec : {M : Type 1} → statement M
+timeshare-into-spec =
+    tie.close (tie.spec store-requires store-lists-requires numbers-into-requires returns)
