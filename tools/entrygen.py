@@ -271,6 +271,7 @@ class Walk:
     def __init__(self, crate, name, says=None, proofs=(), requires=None, loops=(), arrays=(), cut=4, unfolding='', by='{chain}'):
         self.crate, self.fn, self.requires = crate, Function(crate.name + '::' + name), requires
         self.says = says if says is not None else self.left(by) if 'left' in crate.promise(self.fn.name) else ''
+        self.says_within = self.left(loops[0]['out']) if loops and 'out' in loops[0] else self.says
         self.name, self.h = name, name.split('::')[-1].replace('_', '-')
         self.opens = unfolding.split()
         self.proofs, self.loops, self.arrays = list(proofs), list(loops), list(arrays)
@@ -845,7 +846,7 @@ class Walk:
         slots = ['full _' if local and 'array' not in local else 'bare' for local in self.locals]
         self.context = self.context[2 * self.N:]
         self.emit('all-freed ! mir.locals (%s) (%s) tt $' % (self.cells(), listed(slots)))
-        says = self.fill(self.says, {'v': v, 'h': self.test})
+        says = self.fill(self.says_within if self.in_loop else self.says, {'v': v, 'h': self.test})
         lists = tupled(['tt' if self.shared[j] else self.S[j]['l'] for j in range(self.ns)] + ['tt'] * len(self.fn.data))
         lengths = tupled(['tt' if self.shared[j] else 'sym %s' % par(self.S[j]['same']) for j in range(self.ns)] + ['tt'] * len(self.fn.data))
         said = 'says ! (%s) $' % says if says else 'says-none ! $'

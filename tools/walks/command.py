@@ -14,6 +14,6 @@ WALKS = {
     'obey::remove_donation': 'removeDonation',
     'obey::set_critical': 'criticalDef',
     'obey::obey': 'obeyDef',
-    'obey::command_at': 'commandDef',
-    'obey::command': '',
+    'obey::command_read': 'answeredDef',
+    'obey::command': 'commandDef',
 }

@@ -6,7 +6,7 @@ NOW = '(worldOf (z .0) (z .1 .0) (z .1 .1 .0) (z .1 .1 .1 .0) (z .1 .1 .1 .1))'
 
 SPECS = {
     'feed.specs.Feed': 'World worldOf',
-    'feed.proofs.Feeding': 'Inv inv-start inv-next inv-near inv-end',
+    'feed.proofs.Feeding': 'Inv inv-start inv-next inv-near inv-waits inv-end',
 }
 
 WALKS = {
@@ -14,8 +14,9 @@ WALKS = {
         by='inv-end (a .0) ys‴ (a .0) (a .1 .0) %s (%s) {inv} {h}' % (FIRST, WORLD),
         loops=[dict(
             vars=[9], inv='Inv (a .0) ys‴ (a .0) (a .1 .0) %s (%s)' % (FIRST, WORLD), measure='a .0 - {v9} .at', start='inv-start (a .0) ys‴ (a .1 .0) ' + FIRST,
-            next='inv-next (a .0) ys‴ (a .0) (a .1 .0) %s %s {inv} {h}' % (FIRST, NOW),
-            near='inv-near ys‴ (a .0) (a .1 .0) %s {h}' % NOW)]),
+            next='inv-next (a .0) ys‴ (a .0) (a .1 .0) %s %s {inv} {h} {h2}' % (FIRST, NOW),
+            near='inv-near ys‴ (a .0) (a .1 .0) %s {h} {h2}' % NOW,
+            out='inv-waits (a .0) ys‴ (a .0) (a .1 .0) %s %s {inv} {h2}' % (FIRST, NOW))]),
     'feed::feed': 'feedDef',
     'start::start': 'startDef',
 }

@@ -94,9 +94,6 @@ obeyDef s k w =
 
 -- ---- one call: "A no gives the number, changes nothing"
 
-abbrev pub readingDef : List ℕ → ℕ → ℕ → State → Reading
-readingDef bytes n at s = askedDef bytes n at (s .wide)
-
 abbrev pub callDef : Reading → Call
 callDef r = call-read (reading-of r)
 
@@ -104,9 +101,11 @@ callDef r = call-read (reading-of r)
 abbrev pub judgedDef : State → Reading → Lent → Refusal
 judgedDef s r w = refusal-back (refusal-in (w .cpus) (w .nodes) s (getD (w .threads) (callDef r .thread) blank) (reading-of r))
 
-abbrev pub answeredDef : State → Reading → Lent → Left Answered Lent
+-- the command that was read
+unfoldable pub answeredDef : State → Reading → Lent → Left Answered Lent
 answeredDef s r w =
     cond (not (eqb (refusal-number (judgedDef s r w)) 0)) (kept w (refuses s (judgedDef s r w) (callDef r .used))) (obeyDef s (callDef r) w)
 
+-- the command that the bytes from `at` to below n ask for
 unfoldable pub commandDef : ℕ → ℕ → State → List ℕ → Lent → Left Answered Lent
-commandDef n at s bytes w = answeredDef s (readingDef bytes n at s) w
+commandDef n at s bytes w = answeredDef s (askedDef bytes n at (s .wide)) w

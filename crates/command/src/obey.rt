@@ -5,7 +5,7 @@ ghost use Rattle.lent.specs.Left.{leaves, leaves-one, leaves-over};
 ghost use Rattle.command.specs.Lent.{leaves-all};
 ghost use Rattle.outcome.specs.Answer.{changed, ran};
 ghost use Rattle.outcome.specs.Call.{ticked};
-ghost use Rattle.command.specs.Command.{thread-in, declareThread, scheduleThreadDef, scheduleCommand, hardtickCommand, stattickDef, reschedDef, maybePreemptDef, donateDef, removeDonation, criticalDef, obeyDef, commandDef};
+ghost use Rattle.command.specs.Command.{thread-in, declareThread, scheduleThreadDef, scheduleCommand, hardtickCommand, stattickDef, reschedDef, maybePreemptDef, donateDef, removeDonation, criticalDef, obeyDef, answeredDef, commandDef};
 use lent::records::get;
 use lent::records::set;
 use nodes::words::NodeWords;
@@ -25,6 +25,7 @@ use outcome::call::ticked;
 use outcome::prepare::prepare;
 use processor::words::CpuWords;
 use questions::state::State;
+use request::Reading;
 use sched::preempt::schedule_maybe_preempt;
 use sched::schedule::schedule;
 use sched_queues::donate::donate_priority;
@@ -225,20 +226,16 @@ pub fn obey(
     set_critical(threads, state, call)
 }
 
-// The command that the bytes from `at` to below n ask for.
-pub fn command_at(
+// The command that was read. "A no gives the number, changes nothing."
+pub fn command_read(
     threads: &mut [Thread],
     cpus: &mut [CpuWords],
     nodes: &mut [NodeWords],
-    bytes: &[u8],
-    n: usize,
-    at: usize,
     state: State,
+    reading: Reading,
 ) -> Answered
-    ensures { λ r. ⌜ leaves-all (commandDef n at state (now (bytes .entry))) r threads cpus nodes ⌝ }
+    ensures { λ r. ⌜ leaves-all (answeredDef state reading) r threads cpus nodes ⌝ }
 {
-    let wide = state.wide;
-    let reading = asked(bytes, n, at, wide);
     let call = call_of(reading);
     let x = call.thread;
     let used = call.used;
@@ -250,7 +247,7 @@ pub fn command_at(
     obey(threads, cpus, nodes, state, call)
 }
 
-// The command that the bytes ask for. "A no gives the number, changes nothing."
+// The command that the bytes ask for.
 pub fn command(
     threads: &mut [Thread],
     cpus: &mut [CpuWords],
@@ -261,5 +258,7 @@ pub fn command(
     ensures { λ r. ⌜ leaves-all (commandDef (length (now (bytes .entry))) 0 state (now (bytes .entry))) r threads cpus nodes ⌝ }
 {
     let n = bytes.len();
-    command_at(threads, cpus, nodes, bytes, n, 0, state)
+    let wide = state.wide;
+    let reading = asked(bytes, n, 0, wide);
+    command_read(threads, cpus, nodes, state, reading)
 }

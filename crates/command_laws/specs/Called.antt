@@ -27,7 +27,7 @@ use Rattle.questions.specs.Questions.{refusal-in}
 use Rattle.outcome.specs.declared.call.Call.{Call}
 use Rattle.outcome.specs.Answer.{nothing-shown, refuses}
 use Rattle.outcome.specs.Call.{pin-back, request-back, reading-back, refusal-back, call-of, call-read}
-use Rattle.command.specs.Command.{obeyDef, commandDef}
+use Rattle.command.specs.Command.{obeyDef, answeredDef, commandDef}
 use Rattle.question_laws.specs.Stands.{Stands}
 use Rattle.question_laws.specs.Answers.{thread-named, thread-in, refusal-same}
 use Rattle.command_laws.specs.Law.{Reachable, As-ruled}
@@ -119,7 +119,7 @@ module _ (ts : List Thread) (cs ns : List (List ℕ)) (a : State) where
   read-call r = numbered-call (call-read r) (refusal-in cs ns a (getD ts (call-read r .thread) blank) r)
 
   pub command-read : (bytes : List ℕ) (n at : ℕ) → commandDef n at a bytes (lent ts cs ns) ≡ read-call (read (limits-of (a .wide)) (drop at (take n bytes)))
-  unfolding commandDef read-call numbered-call
+  unfolding answeredDef commandDef read-call numbered-call
   command-read bytes n at = ap read-call (reading-there (read (limits-of (a .wide)) (drop at (take n bytes))))
 
   numbered-used : (k : Call) (n : ℕ) → numbered-call k n .answer .used ≡ k .used

@@ -44,6 +44,16 @@ more bytes out n last f =
     (cond (ltb (f .at) n) (cond (room out (f .done)) (cond last true (whole bytes n (f .at) (f .state .wide))) false) false)
     false
 
+-- there are bytes of a next command, and room for its line
+unfoldable pub can-answer : List ℕ → ℕ → Fed → Bool
+can-answer out n f = cond (eqb (f .phase) COMMANDS) (cond (ltb (f .at) n) (room out (f .done)) false) false
+
+-- a command cut short waits for the next block, unless this is the last
+unfoldable pub must-wait : Bool → Reading → Bool
+must-wait last reading.Unknown = false
+must-wait last reading.CutShort = not last
+must-wait last (reading.Asks r used) = false
+
 unfoldable pub written : Rendered → ℕ
 written (render.Written n) = n
 written (render.Refused r) = 0

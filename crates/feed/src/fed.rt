@@ -2,7 +2,7 @@
 ghost use mathlib.Core.Path.{_≡_};
 ghost use Rattle.rules.specs.Lines.{line};
 ghost use Rattle.lines.specs.Lines.{answer-of, buffer-with};
-ghost use Rattle.feed.specs.Fed.{begin, whole, more, written, endsBy, phaseAfter, atLeastOne, nextAt, oneIf, counted, answeredFed, withOutput, atStart, openedFed, openedOut, due, closedFed, closedOut};
+ghost use Rattle.feed.specs.Fed.{begin, can-answer, must-wait, written, endsBy, phaseAfter, atLeastOne, nextAt, oneIf, counted, answeredFed, withOutput, atStart, openedFed, openedOut, due, closedFed, closedOut};
 use lines::Rendered;
 use lines::has_room;
 use lines::refusal_number;
@@ -10,7 +10,6 @@ use lines::render_at;
 use lines::render_end;
 use lines::render_header;
 use outcome::answer::Answered;
-use outcome::call::asked;
 use questions::state::State;
 use request::Reading;
 
@@ -51,34 +50,27 @@ pub fn begin(state: State) -> Fed
     }
 }
 
-// Is the next command not cut short?
-fn whole(input: &[u8], n: usize, at: usize, wide: bool) -> bool
-    ensures { λ r. ⌜ r ≡ whole (now (input .entry)) n at wide ⌝ }
-{
-    let reading = asked(input, n, at, wide);
-    match reading {
-        Reading::Unknown => true,
-        Reading::CutShort => false,
-        Reading::Asks { .. } => true,
-    }
-}
-
-// Is there a next command, and room for its line? A command cut short waits for the next block, unless this is the last.
-pub fn more(input: &[u8], output: &[u8], n: usize, last: bool, f: Fed) -> bool
-    ensures { λ r. ⌜ r ≡ more (now (input .entry)) (now (output .entry)) n last f ⌝ }
+// Are there bytes of a next command, and room for its line?
+pub fn can_answer(output: &[u8], n: usize, f: Fed) -> bool
+    ensures { λ r. ⌜ r ≡ can-answer (now (output .entry)) n f ⌝ }
 {
     if f.phase == COMMANDS {
         if f.at < n {
-            if has_room(output, f.done) {
-                if last {
-                    return true;
-                }
-                let state = f.state;
-                return whole(input, n, f.at, state.wide);
-            }
+            return has_room(output, f.done);
         }
     }
     false
+}
+
+// A command cut short waits for the next block, unless this is the last.
+pub fn must_wait(last: bool, reading: Reading) -> bool
+    ensures { λ r. ⌜ r ≡ must-wait last reading ⌝ }
+{
+    match reading {
+        Reading::Unknown => false,
+        Reading::CutShort => !last,
+        Reading::Asks { .. } => false,
+    }
 }
 
 fn written(rendered: Rendered) -> usize

@@ -2,15 +2,17 @@
 ghost use Rattle.feed.specs.Feed.{feeds, runDef, feedDef};
 use crate::fed::Fed;
 use crate::fed::answered;
+use crate::fed::can_answer;
 use crate::fed::closed;
-use crate::fed::more;
+use crate::fed::must_wait;
 use crate::fed::opened;
-use command::obey::command_at;
+use command::obey::command_read;
 use nodes::words::NodeWords;
+use outcome::call::asked;
 use processor::words::CpuWords;
 use thread::Thread;
 
-// The commands of the first n bytes, each answered in output, until one of the two is used up.
+// The commands of the first n bytes, each read once and answered in output, until one of the two is used up.
 fn run(
     threads: &mut [Thread],
     cpus: &mut [CpuWords],
@@ -24,8 +26,14 @@ fn run(
     ensures { λ r. ⌜ feeds (runDef n (now (input .entry)) n last) fed r threads cpus nodes output ⌝ }
 {
     let mut f = fed;
-    while more(input, output, n, last, f) {
-        let a = command_at(threads, cpus, nodes, input, n, f.at, f.state);
+    while can_answer(output, n, f) {
+        let state = f.state;
+        let wide = state.wide;
+        let reading = asked(input, n, f.at, wide);
+        if must_wait(last, reading) {
+            return f;
+        }
+        let a = command_read(threads, cpus, nodes, state, reading);
         let g = answered(output, n, a, f);
         f = g;
     }

@@ -1,5 +1,5 @@
--- THE PROGRAM'S BUFFERS AND THE BYTES THAT IT KEEPS. `replay` (replay/src/main.rt) reads into an input of 4,096 bytes behind the bytes left over, feeds it with an output
--- of 262,144 bytes, writes what `feed` wrote, and moves the bytes not taken to the front by `keep` (feed/src/block.rt). A reader reads the statements of this file,
+-- THE PROGRAM'S BUFFERS AND THE BYTES THAT IT KEEPS. `replay` (replay/src/main.rt) reads into an input of 672 bytes behind the bytes left over, feeds it with an output
+-- of 32,768 bytes, writes what `feed` wrote, and moves the bytes not taken to the front by `keep` (feed/src/block.rt). A reader reads the statements of this file,
 -- after Calls and Output.
 use Prim.Native.Nat.{ℕ, zero, suc, _+_, _-_, _*_, _≤_, _<_}
 use mathlib.Core.Path.{_≡_, refl, sym, ap, _∙_}
@@ -18,7 +18,7 @@ use Rattle.feed_laws.specs.Output.{feed-left-over}
 -- The calls that the program makes: blocks that fit the input, each with the whole output.
 unfoldable pub Served : List Call → Type 0
 Served [] = Unit
-Served (c ∷ calls) = (length (c .block) ≤ 4096) × ((length (c .buffer) ≡ 262144) × Served calls)
+Served (c ∷ calls) = (length (c .block) ≤ 672) × ((length (c .buffer) ≡ 32768) × Served calls)
 
 -- Their buffers are large enough for feed-output, feed-left-over and feed-ended-by-command.
 pub served-roomy : (calls : List Call) → Served calls → Roomy calls
@@ -30,9 +30,9 @@ few-left : {r : Run} → Settled r → r .fed .phase ≢ ENDED → length (r .le
 few-left (over e) n = absurd (n e)
 few-left (few l) n = l
 
--- Until the end line is written at most eight bytes are left over, so that every read has room for 4,088 bytes or more: one that adds none is the end of the input.
+-- Until the end line is written at most eight bytes are left over, so that every read has room for 664 bytes or more: one that adds none is the end of the input.
 pub room-to-read : (h : Held) → Ready h → (calls : List Call) (to-come : List ℕ) → Proper calls to-come → Served calls → after-all (begun h) calls .fed .phase ≢ ENDED
-    → length (after-all (begun h) calls .left-over) + 4088 ≤ 4096
+    → length (after-all (begun h) calls .left-over) + 664 ≤ 672
 room-to-read h ready calls to-come p s n = omega (arith, few-left (feed-left-over h ready calls to-come p (served-roomy calls s)) n)
 
 drop-take : (k n : ℕ) (l : List ℕ) → drop k (take n l) ≡ take (n - k) (drop k l)

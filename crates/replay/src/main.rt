@@ -170,8 +170,8 @@ fn main() {
     let mut threads = [t; 1024];
     let mut cpus = [c; 64];
     let mut nodes = [d; 128];
-    let mut input = [0u8; 4096];
-    let mut output = [0u8; 262144];
+    let mut input = [0u8; 672];
+    let mut output = [0u8; 32768];
     let started = start(&mut threads, &mut cpus, &mut nodes);
     let s = begun(started);
     serve(

@@ -32,24 +32,31 @@ use denote.Triple.Table.{cited}
 use denote.Triple.Clauses.{Clauses}
 use denote.Triple.Walked.{says, Stays, stay-none, stay-slice, stay-none-slice, walkOf, goes-none, goes-slice, goes-none-slice, ends-at}
 use denote.Exit.{yes as kept-yes}
-use Rattle.lent.proofs.Walk.{Datum, number, struct, Dens, AreD, listed, spell, lent-as, slice-of, kept, opened, closed, full, told, proved}
-use Rattle.lent.proofs.Lent.{mutable, passed, call-left, all-freed, so, begins4, leaves4}
-use Rattle.command.specs.Command.{commandDef}
+use Rattle.lent.proofs.Walk.{Datum, number, truth, struct, Dens, AreD, listed, spell, lent-as, slice-of, kept, opened, closed, full, told, proved}
+use Rattle.lent.proofs.Lent.{mutable, passed, choice, call-slices, call-left, all-freed, so, begins4, leaves4}
+use Rattle.command.specs.Command.{commandDef, answeredDef}
 use Rattle.command.specs.Lent.{Lent}
 use Rattle.lent.specs.Left.{Left}
+use Rattle.outcome.specs.Call.{askedDef}
 use denote.Struct.Laws as LL
 use Rattle.outcome.specs.declared.answer.Answered.{Answered}
 use Rattle.outcome.proofs.answer.Answered as Answered·
 use Rattle.outcome.proofs.answer.Answered.Laws as Answered·laws
+use Rattle.request.specs.declared.Reading.{Reading}
+use Rattle.request.proofs.Reading as Reading·
+use Rattle.request.proofs.Reading.Laws as Reading·laws
 use Rattle.questions.specs.declared.state.State.{State}
 use Rattle.questions.proofs.state.State as State·
 use Rattle.questions.proofs.state.State.Laws as State·laws
 use Rattle.thread.specs.declared.Thread.{Thread}
 use Rattle.thread.proofs.Thread as Thread·
 use Rattle.thread.proofs.Thread.Laws as Thread·laws
-use Rattle.command.proofs.obey.command_at as fn-command-obey-command-at
-use Rattle.command.proofs.obey.command_at.Symbol as fn-command-obey-command-at-def
-use Rattle.command.proofs.obey.command_at.Met as fn-command-obey-command-at-thm
+use Rattle.outcome.proofs.call.asked as fn-outcome-call-asked
+use Rattle.outcome.proofs.call.asked.Symbol as fn-outcome-call-asked-def
+use Rattle.outcome.proofs.call.asked.Met as fn-outcome-call-asked-thm
+use Rattle.command.proofs.obey.command_read as fn-command-obey-command-read
+use Rattle.command.proofs.obey.command_read.Symbol as fn-command-obey-command-read-def
+use Rattle.command.proofs.obey.command_read.Met as fn-command-obey-command-read-thm
 use Rattle.command.proofs.obey.command.Key.{name as #command}
 use Rattle.command.proofs.obey.command as command
 use Rattle.command.proofs.obey.command.Statement as stated
@@ -58,6 +65,9 @@ use Rattle.command.proofs.obey.command.Code.Mir as mir
 
 abbrev Answered° : Datum
 Answered° = struct Answered·.the-type Answered·laws.the-laws Answered·laws.the-plain
+
+abbrev Reading° : Datum
+Reading° = choice Reading·.the-type Reading·laws.the-laws tt Reading·laws.the-plain
 
 abbrev State° : Datum
 State° = struct State·.the-type State·laws.the-laws State·laws.the-plain
@@ -118,67 +128,80 @@ module _ {M : Type 1} (𝓤 : URA M) (H : Heap 𝓤) (𝓜 : Model 𝓤 H) (𝓖
     abbrev Post : Val → SProp 𝓤
     Post = walkOf 𝓤 H A command.ended stayed c .post y
 
-    abbrev V₁ : Left Answered Lent
-    V₁ = commandDef n‴ 0 (a .0) ys‴ (record { threads = ys; cpus = ys′; nodes = ys″ })
+    abbrev V₁ : Reading
+    V₁ = askedDef ys‴ n‴ 0 ((a .0) .wide)
+
+    abbrev V₂ : Left Answered Lent
+    V₂ = answeredDef (a .0) V₁ (record { threads = ys; cpus = ys′; nodes = ys″ })
 
     walk : ent 𝓤 (onEntry 𝓤 H A command.signature (κ, (κ′, (κ″, (κ‴, tt)))) (q, (q′, (q″, (q‴, tt)))) ((lent-as b o γ ys, (lent-as b′ o′ γ′ ys′, (lent-as b″ o″ γ″ ys″, (lent-as b‴ o‴ γ‴ ys‴, a))))) ((s ∷ [], (s′ ∷ [], (s″ ∷ [], (s‴ ∷ [], spell Ds a)))))) (WpFn 𝓤 H C Λ code.function (s ∷ s′ ∷ s″ ∷ s‴ ∷ listed Ds a) Post)
+    unfolding commandDef
     walk =
         qed W ((‵ (flft κ q) ⊛ (‵ (flft κ′ q′) ⊛ (‵ (flft κ″ q″) ⊛ (‵ (flft κ‴ q‴) ⊛ (‵ ftrue))))) ∷ ‵ (owns (MutSlice (named 0) κ Thread·.the-row ∷ MutSlice (named 1) κ′ (Array u64 96) ∷ MutSlice (named 2) κ″ (Array u64 32) ∷ ShrSlice (named 3) κ‴ u8 ∷ State·.the-row ∷ []) ((lent-as b o γ ys, (lent-as b′ o′ γ′ ys′, (lent-as b″ o″ γ″ ys″, (lent-as b‴ o‴ γ‴ ys‴, a))))) ((s ∷ [], (s′ ∷ [], (s″ ∷ [], (s‴ ∷ [], spell Ds a)))))) ∷ []) ∵ begins4 ! $ enter ! C _ code.function (s ∷ s′ ∷ s″ ∷ s‴ ∷ listed Ds a) _ $
-        alloc1 ! (λ l₀. alloc1 ! (λ l₁. alloc1 ! (λ l₂. alloc1 ! (λ l₃. alloc1 ! (λ l₄. alloc1 ! (λ l₅. alloc1 ! (λ l₆. alloc1 ! (λ l₇. alloc1 ! (λ l₈. alloc1 ! (λ l₉. alloc1 ! (λ l₁₀. alloc1 ! (λ l₁₁. alloc1 ! (λ l₁₂. alloc0 ! $ params1 ! $
-        pass1 ! (init ! 22 refl (tt, (tt, (record { fits = room .0 }, tt)))) $ pass1 ! (init ! 20 refl (tt, (tt, (record { fits = room′ .0 }, tt)))) $ pass1 ! (init ! 18 refl (tt, (tt, (record { fits = room″ .0 }, tt)))) $ pass1 ! (init ! 16 refl (tt, (tt, (record { fits = room‴ .0 }, tt)))) $ pass1 ! (init ! 14 refl (State° .typed 𝓤 H A W (a .0) (are .0) .0)) $ pass0 ! $
-        move ! (32 ∷ 33 ∷ []) $
-        move ! (32 ∷ 33 ∷ []) $
+        alloc1 ! (λ l₀. alloc1 ! (λ l₁. alloc1 ! (λ l₂. alloc1 ! (λ l₃. alloc1 ! (λ l₄. alloc1 ! (λ l₅. alloc1 ! (λ l₆. alloc1 ! (λ l₇. alloc1 ! (λ l₈. alloc1 ! (λ l₉. alloc1 ! (λ l₁₀. alloc1 ! (λ l₁₁. alloc1 ! (λ l₁₂. alloc1 ! (λ l₁₃. alloc1 ! (λ l₁₄. alloc0 ! $ params1 ! $
+        pass1 ! (init ! 26 refl (tt, (tt, (record { fits = room .0 }, tt)))) $ pass1 ! (init ! 24 refl (tt, (tt, (record { fits = room′ .0 }, tt)))) $ pass1 ! (init ! 22 refl (tt, (tt, (record { fits = room″ .0 }, tt)))) $ pass1 ! (init ! 20 refl (tt, (tt, (record { fits = room‴ .0 }, tt)))) $ pass1 ! (init ! 18 refl (State° .typed 𝓤 H A W (a .0) (are .0) .0)) $ pass0 ! $
+        move ! (36 ∷ 37 ∷ []) $
+        move ! (36 ∷ 37 ∷ []) $
         opened ! tt (Array u64 32) γ″ ys″ b″ o″ $
-        move ! (32 ∷ 33 ∷ []) $
+        move ! (36 ∷ 37 ∷ []) $
         opened ! tt (Array u64 96) γ′ ys′ b′ o′ $
-        move ! (32 ∷ 33 ∷ []) $
+        move ! (36 ∷ 37 ∷ []) $
         opened ! tt Thread·.the-row γ ys b o $
-        assigns ! (of-opd ! (load ! (from ! (fld ! refl (stop !))) (look-in ! 24 (sub ! 1 refl (whole !))))) (from ! (stop !)) (init ! 20 refl (tt, record { fits = room‴ .0 })) $
-        assigns ! (addr ! (from ! (fld ! refl (hop ! (look-in ! 30 (sub ! 0 refl (whole !))) (stop !))))) (from ! (stop !)) (init ! 18 refl (tt, tt)) $
-        assigns ! (agg ! (and-then ! (load ! (from ! (stop !)) (look ! 18 refl)) (and-then ! (load ! (from ! (fld ! refl (stop !))) (look-in ! 30 (sub ! 1 refl (whole !)))) (no-more !)))) (from ! (stop !)) (init ! 16 refl (tt, (tt, (record { fits = room .0 }, tt)))) $
-        assigns ! (addr ! (from ! (fld ! refl (hop ! (look-in ! 28 (sub ! 0 refl (whole !))) (stop !))))) (from ! (stop !)) (init ! 14 refl (tt, tt)) $
-        assigns ! (agg ! (and-then ! (load ! (from ! (stop !)) (look ! 14 refl)) (and-then ! (load ! (from ! (fld ! refl (stop !))) (look-in ! 28 (sub ! 1 refl (whole !)))) (no-more !)))) (from ! (stop !)) (init ! 12 refl (tt, (tt, (record { fits = room′ .0 }, tt)))) $
-        assigns ! (addr ! (from ! (fld ! refl (hop ! (look-in ! 26 (sub ! 0 refl (whole !))) (stop !))))) (from ! (stop !)) (init ! 10 refl (tt, tt)) $
-        assigns ! (agg ! (and-then ! (load ! (from ! (stop !)) (look ! 10 refl)) (and-then ! (load ! (from ! (fld ! refl (stop !))) (look-in ! 26 (sub ! 1 refl (whole !)))) (no-more !)))) (from ! (stop !)) (init ! 8 refl (tt, (tt, (record { fits = room″ .0 }, tt)))) $
+        assigns ! (of-opd ! (load ! (from ! (fld ! refl (stop !))) (look-in ! 28 (sub ! 1 refl (whole !))))) (from ! (stop !)) (init ! 24 refl (tt, record { fits = room‴ .0 })) $
+        assigns ! (of-opd ! (load ! (from ! (fld ! refl (stop !))) (look-in ! 26 (sub ! 3 refl (whole !))))) (from ! (stop !)) (init ! 22 refl (tt, tt)) $
         nothing ! $
         move ! (7 ∷ 8 ∷ []) $
         join ! $
+        join ! $
+        call-slices Reading° (number w64 ∷ number w64 ∷ truth ∷ []) ((n‴, (0, ((a .0) .wide, tt)))) (emp 𝓤) ((passed u8 ys‴ b‴ o‴ κ‴ q‴ γ‴) ∷ []) ! fm (λ r ws. r ≡ V₁) (((refl, room‴ .0), ((refl, lit< tt), (LL.owed State·.the-type State·laws.the-laws (a .0) _ (are .0) .1 .1 .1 .0, tt)))) (id⊢ 𝓤 (emp 𝓤))
+        (λ νs. cited 𝓤 H (tripleOf 𝓤 H A fn-outcome-call-asked.signature (fn-outcome-call-asked.spec 𝓤 H A (𝓜 .mem) (𝓡 .run))) 𝓜 𝓡 code.env fn-outcome-call-asked-def.name fn-outcome-call-asked-def.routine code.calls-outcome·call·asked (fn-outcome-call-asked-thm.met 𝓤 H 𝓜 𝓖 𝓡) (((κ‴, tt), (q‴, tt), tt, (lent-as b‴ o‴ γ‴ ys‴, (n‴, (0, ((a .0) .wide, tt)))), (slice-of b‴ o‴ ys‴ ∷ [], spell (number w64 ∷ number w64 ∷ truth ∷ []) ((n‴, (0, ((a .0) .wide, tt)))))), tt))
+        (λ k. and-then ! (load ! (from ! (stop !)) (look ! 27 refl)) (and-then ! (load ! (from ! (stop !)) (look ! 23 refl)) (and-then ! (lit ! tt) (and-then ! (load ! (from ! (stop !)) (look ! 21 refl)) (no-more !))))) (λ r₁ ws₂ is₃ ls₄ e₅.
+        split ! $
+        split ! $
+        move ! (2 ∷ []) $
+        drop ! $
+        told ! Reading° (e₅) is₃ (λ is₆.
+        land ! (from ! (stop !)) (init ! 20 refl (Reading° .typed 𝓤 H A W (V₁) (is₆) .0)) $
+        assigns ! (addr ! (from ! (fld ! refl (hop ! (look-in ! 34 (sub ! 0 refl (whole !))) (stop !))))) (from ! (stop !)) (init ! 18 refl (tt, tt)) $
+        assigns ! (agg ! (and-then ! (load ! (from ! (stop !)) (look ! 18 refl)) (and-then ! (load ! (from ! (fld ! refl (stop !))) (look-in ! 34 (sub ! 1 refl (whole !)))) (no-more !)))) (from ! (stop !)) (init ! 16 refl (tt, (tt, (record { fits = room .0 }, tt)))) $
+        assigns ! (addr ! (from ! (fld ! refl (hop ! (look-in ! 32 (sub ! 0 refl (whole !))) (stop !))))) (from ! (stop !)) (init ! 14 refl (tt, tt)) $
+        assigns ! (agg ! (and-then ! (load ! (from ! (stop !)) (look ! 14 refl)) (and-then ! (load ! (from ! (fld ! refl (stop !))) (look-in ! 32 (sub ! 1 refl (whole !)))) (no-more !)))) (from ! (stop !)) (init ! 12 refl (tt, (tt, (record { fits = room′ .0 }, tt)))) $
+        assigns ! (addr ! (from ! (fld ! refl (hop ! (look-in ! 30 (sub ! 0 refl (whole !))) (stop !))))) (from ! (stop !)) (init ! 10 refl (tt, tt)) $
+        assigns ! (agg ! (and-then ! (load ! (from ! (stop !)) (look ! 10 refl)) (and-then ! (load ! (from ! (fld ! refl (stop !))) (look-in ! 30 (sub ! 1 refl (whole !)))) (no-more !)))) (from ! (stop !)) (init ! 8 refl (tt, (tt, (record { fits = room″ .0 }, tt)))) $
+        nothing ! $
+        move ! (7 ∷ 0 ∷ []) $
         join ! $
         move ! (5 ∷ 0 ∷ []) $
         join ! $
         move ! (3 ∷ 0 ∷ []) $
         join ! $
-        move ! (1 ∷ 0 ∷ []) $
-        join ! $
-        call-left Answered° (number w64 ∷ number w64 ∷ State° ∷ []) ((n‴, (0, (a .0, tt)))) (emp 𝓤) ((mutable Thread·.the-row ys b o n refl room) ∷ (mutable (Array u64 96) ys′ b′ o′ n′ refl room′) ∷ (mutable (Array u64 32) ys″ b″ o″ n″ refl room″) ∷ (passed u8 ys‴ b‴ o‴ κ‴ q‴ γ‴) ∷ []) ! fm (λ r ws. (r ≡ (V₁ .answer)) × ((ws .0 ≡ (V₁ .memory .threads)) × ((ws .1 .0 ≡ (V₁ .memory .cpus)) × (ws .1 .1 .0 ≡ (V₁ .memory .nodes))))) (λ r ws. _≡_ {A = Left Answered Lent} (record { answer = r; memory = record { threads = ws .0; cpus = ws .1 .0; nodes = ws .1 .1 .0 } }) V₁) (λ r ws e. (ap (λ (z : Left Answered Lent). z .answer) e, (ap (λ (z : Left Answered Lent). z .memory .threads) e, (ap (λ (z : Left Answered Lent). z .memory .cpus) e, ap (λ (z : Left Answered Lent). z .memory .nodes) e)))) (((refl, room‴ .0), ((refl, lit< tt), (are .0, tt)))) (id⊢ 𝓤 (emp 𝓤))
-        (λ νs. cited 𝓤 H (tripleOf 𝓤 H A fn-command-obey-command-at.signature (fn-command-obey-command-at.spec 𝓤 H A (𝓜 .mem) (𝓡 .run))) 𝓜 𝓡 code.env fn-command-obey-command-at-def.name fn-command-obey-command-at-def.routine code.calls-command·obey·command-at (fn-command-obey-command-at-thm.met 𝓤 H 𝓜 𝓖 𝓡) (((νs .0 .0 ∷ [], (νs .1 .0 .0 ∷ [], (νs .1 .1 .0 .0 ∷ [], (κ‴, tt)))), (fullShare, (fullShare, (fullShare, (q‴, tt)))), tt, (lent-as b o (νs .0 .1) ys, (lent-as b′ o′ (νs .1 .0 .1) ys′, (lent-as b″ o″ (νs .1 .1 .0 .1) ys″, (lent-as b‴ o‴ γ‴ ys‴, (n‴, (0, (a .0, tt))))))), (slice-of b o ys ∷ [], (slice-of b′ o′ ys′ ∷ [], (slice-of b″ o″ ys″ ∷ [], (slice-of b‴ o‴ ys‴ ∷ [], spell (number w64 ∷ number w64 ∷ State° ∷ []) ((n‴, (0, (a .0, tt))))))))), tt))
-        (λ k. and-then ! (load ! (from ! (stop !)) (look ! 12 refl)) (and-then ! (load ! (from ! (stop !)) (look ! 8 refl)) (and-then ! (load ! (from ! (stop !)) (look ! 4 refl)) (and-then ! (load ! (from ! (stop !)) (look ! 20 refl)) (and-then ! (load ! (from ! (stop !)) (look ! 16 refl)) (and-then ! (lit ! tt) (and-then ! (load ! (from ! (stop !)) (look ! 18 refl)) (no-more !)))))))) (λ r₁ ws₂ is₃ ls₄ e₅.
+        call-left Answered° (State° ∷ Reading° ∷ []) ((a .0, (V₁, tt))) (emp 𝓤) ((mutable Thread·.the-row ys b o n refl room) ∷ (mutable (Array u64 96) ys′ b′ o′ n′ refl room′) ∷ (mutable (Array u64 32) ys″ b″ o″ n″ refl room″) ∷ []) ! fm (λ r ws. (r ≡ (V₂ .answer)) × ((ws .0 ≡ (V₂ .memory .threads)) × ((ws .1 .0 ≡ (V₂ .memory .cpus)) × (ws .1 .1 .0 ≡ (V₂ .memory .nodes))))) (λ r ws. _≡_ {A = Left Answered Lent} (record { answer = r; memory = record { threads = ws .0; cpus = ws .1 .0; nodes = ws .1 .1 .0 } }) V₂) (λ r ws e. (ap (λ (z : Left Answered Lent). z .answer) e, (ap (λ (z : Left Answered Lent). z .memory .threads) e, (ap (λ (z : Left Answered Lent). z .memory .cpus) e, ap (λ (z : Left Answered Lent). z .memory .nodes) e)))) ((are .0, (is₆, tt))) (id⊢ 𝓤 (emp 𝓤))
+        (λ νs. cited 𝓤 H (tripleOf 𝓤 H A fn-command-obey-command-read.signature (fn-command-obey-command-read.spec 𝓤 H A (𝓜 .mem) (𝓡 .run))) 𝓜 𝓡 code.env fn-command-obey-command-read-def.name fn-command-obey-command-read-def.routine code.calls-command·obey·command-read (fn-command-obey-command-read-thm.met 𝓤 H 𝓜 𝓖 𝓡) (((νs .0 .0 ∷ [], (νs .1 .0 .0 ∷ [], (νs .1 .1 .0 .0 ∷ [], tt))), (fullShare, (fullShare, (fullShare, tt))), tt, (lent-as b o (νs .0 .1) ys, (lent-as b′ o′ (νs .1 .0 .1) ys′, (lent-as b″ o″ (νs .1 .1 .0 .1) ys″, (a .0, (V₁, tt))))), (slice-of b o ys ∷ [], (slice-of b′ o′ ys′ ∷ [], (slice-of b″ o″ ys″ ∷ [], spell (State° ∷ Reading° ∷ []) ((a .0, (V₁, tt))))))), tt))
+        (λ k. and-then ! (load ! (from ! (stop !)) (look ! 14 refl)) (and-then ! (load ! (from ! (stop !)) (look ! 10 refl)) (and-then ! (load ! (from ! (stop !)) (look ! 6 refl)) (and-then ! (load ! (from ! (stop !)) (look ! 24 refl)) (and-then ! (load ! (from ! (stop !)) (look ! 18 refl)) (no-more !)))))) (λ r₇ ws₈ is₉ ls₁₀ e₁₁.
         split ! $
         move ! (1 ∷ []) $
         split ! $
         move ! (1 ∷ []) $
         split ! $
         move ! (1 ∷ []) $
-        split ! $
-        split ! $
-        move ! (2 ∷ []) $
         drop ! $
-        rewrite ! 4 (λ (us : List Thread). ‵ (row Thread·.the-row fullShare us b o)) (e₅ .1 .0) refl $
-        rewrite ! 3 (λ (us : List (List ℕ)). ‵ (row (Array u64 96) fullShare us b′ o′)) (e₅ .1 .1 .0) refl $
-        rewrite ! 2 (λ (us : List (List ℕ)). ‵ (row (Array u64 32) fullShare us b″ o″)) (e₅ .1 .1 .1) refl $
-        told ! Answered° (e₅ .0) is₃ (λ is₆.
-        land ! (from ! (stop !)) (init ! 32 refl (Answered° .typed 𝓤 H A W (V₁ .answer) (is₆) .0)) $
+        rewrite ! 2 (λ (us : List Thread). ‵ (row Thread·.the-row fullShare us b o)) (e₁₁ .1 .0) refl $
+        rewrite ! 1 (λ (us : List (List ℕ)). ‵ (row (Array u64 96) fullShare us b′ o′)) (e₁₁ .1 .1 .0) refl $
+        rewrite ! 0 (λ (us : List (List ℕ)). ‵ (row (Array u64 32) fullShare us b″ o″)) (e₁₁ .1 .1 .1) refl $
+        told ! Answered° (e₁₁ .0) is₉ (λ is₁₂.
+        land ! (from ! (stop !)) (init ! 36 refl (Answered° .typed 𝓤 H A W (V₂ .answer) (is₁₂) .0)) $
+        move ! (3 ∷ 4 ∷ []) $
         move ! (2 ∷ 7 ∷ []) $
-        closed ! tt (Array u64 32) ys″ (V₁ .memory .nodes) b″ o″ room″ (sym ((refl ∙ sym (subst (λ (us : List (List ℕ)). length us ≡ length ys″) (e₅ .1 .1 .1) (ls₄ .1 .1 .0))))) $
+        closed ! tt (Array u64 32) ys″ (V₂ .memory .nodes) b″ o″ room″ (sym ((refl ∙ sym (subst (λ (us : List (List ℕ)). length us ≡ length ys″) (e₁₁ .1 .1 .1) (ls₁₀ .1 .1 .0))))) $
         move ! (4 ∷ 7 ∷ []) $
-        closed ! tt (Array u64 96) ys′ (V₁ .memory .cpus) b′ o′ room′ (sym ((refl ∙ sym (subst (λ (us : List (List ℕ)). length us ≡ length ys′) (e₅ .1 .1 .0) (ls₄ .1 .0))))) $
+        closed ! tt (Array u64 96) ys′ (V₂ .memory .cpus) b′ o′ room′ (sym ((refl ∙ sym (subst (λ (us : List (List ℕ)). length us ≡ length ys′) (e₁₁ .1 .1 .0) (ls₁₀ .1 .0))))) $
         move ! (6 ∷ 7 ∷ []) $
-        closed ! tt Thread·.the-row ys (V₁ .memory .threads) b o room (sym ((refl ∙ sym (subst (λ (us : List Thread). length us ≡ length ys) (e₅ .1 .0) (ls₄ .0))))) $
-        returns ! (look ! 32 refl) $
-        move ! (32 ∷ 33 ∷ 30 ∷ 31 ∷ 28 ∷ 29 ∷ 26 ∷ 27 ∷ 24 ∷ 25 ∷ 22 ∷ 23 ∷ 20 ∷ 21 ∷ 18 ∷ 19 ∷ 16 ∷ 17 ∷ 14 ∷ 15 ∷ 12 ∷ 13 ∷ 10 ∷ 11 ∷ 8 ∷ 9 ∷ []) $
-        all-freed ! mir.locals (l₀ ∷ l₁ ∷ l₂ ∷ l₃ ∷ l₄ ∷ l₅ ∷ l₆ ∷ l₇ ∷ l₈ ∷ l₉ ∷ l₁₀ ∷ l₁₁ ∷ l₁₂ ∷ []) (full _ ∷ full _ ∷ full _ ∷ full _ ∷ full _ ∷ full _ ∷ full _ ∷ full _ ∷ full _ ∷ full _ ∷ full _ ∷ full _ ∷ full _ ∷ []) tt $
-        suffices ! _ (ends-at 𝓤 H A command.ended stayed c W y _ (V₁ .answer) (V₁ .memory .threads, (V₁ .memory .cpus, (V₁ .memory .nodes, (tt, (tt, tt))))) (sym ((refl ∙ sym (subst (λ (us : List Thread). length us ≡ length ys) (e₅ .1 .0) (ls₄ .0)))), (sym ((refl ∙ sym (subst (λ (us : List (List ℕ)). length us ≡ length ys′) (e₅ .1 .1 .0) (ls₄ .1 .0)))), (sym ((refl ∙ sym (subst (λ (us : List (List ℕ)). length us ≡ length ys″) (e₅ .1 .1 .1) (ls₄ .1 .1 .0)))), (tt, (tt, tt)))))) $ says ! (so {X = Left Answered Lent} (record { answer = (V₁ .answer); memory = record { threads = (V₁ .memory .threads); cpus = (V₁ .memory .cpus); nodes = (V₁ .memory .nodes) } }) (commandDef (length ys‴) 0 (a .0) ys‴ (record { threads = ys; cpus = ys′; nodes = ys″ })) (refl)) $
-        leaves4 ! Answered° Ds a (V₁ .answer) are (is₆))))))))))))))))
+        closed ! tt Thread·.the-row ys (V₂ .memory .threads) b o room (sym ((refl ∙ sym (subst (λ (us : List Thread). length us ≡ length ys) (e₁₁ .1 .0) (ls₁₀ .0))))) $
+        returns ! (look ! 36 refl) $
+        move ! (36 ∷ 37 ∷ 34 ∷ 35 ∷ 32 ∷ 33 ∷ 30 ∷ 31 ∷ 28 ∷ 29 ∷ 26 ∷ 27 ∷ 24 ∷ 25 ∷ 22 ∷ 23 ∷ 20 ∷ 21 ∷ 18 ∷ 19 ∷ 16 ∷ 17 ∷ 14 ∷ 15 ∷ 12 ∷ 13 ∷ 10 ∷ 11 ∷ 8 ∷ 9 ∷ []) $
+        all-freed ! mir.locals (l₀ ∷ l₁ ∷ l₂ ∷ l₃ ∷ l₄ ∷ l₅ ∷ l₆ ∷ l₇ ∷ l₈ ∷ l₉ ∷ l₁₀ ∷ l₁₁ ∷ l₁₂ ∷ l₁₃ ∷ l₁₄ ∷ []) (full _ ∷ full _ ∷ full _ ∷ full _ ∷ full _ ∷ full _ ∷ full _ ∷ full _ ∷ full _ ∷ full _ ∷ full _ ∷ full _ ∷ full _ ∷ full _ ∷ full _ ∷ []) tt $
+        suffices ! _ (ends-at 𝓤 H A command.ended stayed c W y _ (V₂ .answer) (V₂ .memory .threads, (V₂ .memory .cpus, (V₂ .memory .nodes, (tt, (tt, tt))))) (sym ((refl ∙ sym (subst (λ (us : List Thread). length us ≡ length ys) (e₁₁ .1 .0) (ls₁₀ .0)))), (sym ((refl ∙ sym (subst (λ (us : List (List ℕ)). length us ≡ length ys′) (e₁₁ .1 .1 .0) (ls₁₀ .1 .0)))), (sym ((refl ∙ sym (subst (λ (us : List (List ℕ)). length us ≡ length ys″) (e₁₁ .1 .1 .1) (ls₁₀ .1 .1 .0)))), (tt, (tt, tt)))))) $ says ! (so {X = Left Answered Lent} (record { answer = (V₂ .answer); memory = record { threads = (V₂ .memory .threads); cpus = (V₂ .memory .cpus); nodes = (V₂ .memory .nodes) } }) (commandDef (length ys‴) 0 (a .0) ys‴ (record { threads = ys; cpus = ys′; nodes = ys″ })) (refl)) $
+        leaves4 ! Answered° Ds a (V₂ .answer) are (is₁₂))))))))))))))))))))
 
 pub command-spec : {M : Type 1} → stated.statement M
 unfolding code.routine
