@@ -2,11 +2,12 @@
 use Prim.Native.Nat.{ℕ, zero, suc, _+_, _-_, _*_, _%_, _^_, _≤_, _<_}
 use mathlib.Core.Path.{_≡_, refl, sym, ap, subst, _∙_}
 use mathlib.Core.Bool.{Bool, true, false, cond, true≢false, false≢true}
+use mathlib.Core.Logic.{_≢_}
 use mathlib.Core.List.{List, [], _++_, append-nil}
 use lib.ListN.{length, take, drop, length-drop, drop-of-length-le}
 use lib.Seq.{length-take-le}
 use lib.Dec.{eqb, ltb, leb}
-use borrow.Author.Tests.{le-ltb, ltb-true, ltb-false, leb-true, le-leb, eqb-true, eqb-false, eq-eqb, ne-eqb}
+use borrow.Author.Tests.{le-ltb, ltb-true, ltb-false, leb-true, leb-false, le-leb, eqb-true, eqb-false, eq-eqb, ne-eqb}
 use native.Mathlib.Omega.{arith}
 use native.Mathlib.Nat.{zero-add}
 use Rattle.rules.specs.Line.{both}
@@ -433,14 +434,11 @@ module _ (bytes : List ℕ) (n : ℕ) (fits : n ≤ length bytes) (to-come : Lis
       along = λ stream a. closed .along stream (ran .along stream (first .along stream a));
     }
 
-    module _ (large : 48 * (n + 2) ≤ length (w .output)) where
+    -- where the commands left room for a line
+    module _ (some : 48 ≤ length (w .output)) (room-then : room (then .output) (then .fed .done) ≡ true) where
       room-first : room (w .output) 0 ≡ true
       unfolding room
       room-first = le-leb (0 + 48) (length (w .output)) (omega arith)
-
-      room-then : room (then .output) (then .fed .done) ≡ true
-      unfolding room
-      room-then = le-leb (then .fed .done + 48) (length (then .output)) (omega (arith, ran .size, first .size, ran .within .short, ran .within .taken))
 
       phase-then : 1 ≤ then .fed .phase
       phase-then = ran .begun (first .begun room-first)
@@ -512,9 +510,46 @@ module _ (bytes : List ℕ) (n : ℕ) (fits : n ≤ length bytes) (to-come : Lis
           (λ q. run-ended (closed-due (due-end (eqb-true (then .fed .phase) END q))))
           (λ q. let c : then .fed .phase ≡ ENDED = phase-three p q in run-ended (ap (λ (f : Fed). f .phase) (closed-not (due-ended c)) ∙ c)))
 
-      pub leaves : Leaves last (feedDef bytes n last w .fed) (drop (feedDef bytes n last w .fed .at) block)
-      unfolding feedDef
-      leaves = leaves-then
+    room-large : 48 * (n + 2) ≤ length (w .output) → room (then .output) (then .fed .done) ≡ true
+    unfolding room
+    room-large large = le-leb (then .fed .done + 48) (length (then .output)) (omega (arith, ran .size, first .size, ran .within .short, ran .within .taken))
+
+    pub leaves : 48 * (n + 2) ≤ length (w .output) → Leaves last (feedDef bytes n last w .fed) (drop (feedDef bytes n last w .fed .at) block)
+    unfolding feedDef
+    leaves large = leaves-then (omega arith) (room-large large)
+
+    abbrev ends : Bool
+    ends = ends-now (then .output) n last (then .fed)
+
+    closed-ends : ends ≡ true → closedWorld n last then .fed .phase ≡ ENDED
+    unfolding closedFed withOutput
+    closed-ends e = rw e
+
+    closed-same : ends ≡ false → closedWorld n last then ≡ then
+    unfolding closedFed closedOut
+    closed-same e = rw e
+
+    abbrev room-after : World → Bool
+    room-after v = room (v .output) (v .fed .done)
+
+    -- a call that leaves room for a line,
+    pub leaves-room : 48 ≤ length (w .output) → room-after (feedDef bytes n last w) ≡ true
+        → Leaves last (feedDef bytes n last w .fed) (drop (feedDef bytes n last w .fed .at) block)
+    unfolding feedDef
+    leaves-room some h =
+        both ends (λ e. run-ended (closed-ends e)) (λ e. leaves-then some (subst (λ (v : World). room-after v ≡ true) (closed-same e) h))
+
+    full-done : room-after then ≡ false → length (w .output) < 48 * (then .fed .at + 2)
+    unfolding room
+    full-done h = omega (arith, leb-false (then .fed .done + 48) (length (then .output)) h, ran .size, first .size, ran .within .short)
+
+    -- and one that leaves none
+    pub full-takes : room-after (feedDef bytes n last w) ≡ false → feedDef bytes n last w .fed .phase ≢ ENDED
+        → length (w .output) < 48 * (feedDef bytes n last w .fed .at + 2)
+    unfolding feedDef
+    full-takes h on =
+        both ends (λ e. absurd (on (closed-ends e)))
+        (λ e. subst (λ (v : World). length (w .output) < 48 * (v .fed .at + 2)) (sym (closed-same e)) (full-done (subst (λ (v : World). room-after v ≡ false) (closed-same e) h)))
 
 -- ---- after the end line nothing changes
 

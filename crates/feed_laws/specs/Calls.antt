@@ -6,6 +6,7 @@ use mathlib.Core.Bool.{Bool, true, false}
 use mathlib.Core.List.{List, [], _∷_, _++_}
 use lib.ListN.{length, take, drop}
 use Rattle.thread.specs.declared.Thread.{Thread}
+use Rattle.lines.specs.Lines.{room}
 use Rattle.feed.specs.declared.fed.Fed.{Fed}
 use Rattle.feed.specs.Fed.{ENDED, begin}
 use Rattle.feed.specs.Feed.{World, worldOf, feedDef}
@@ -42,6 +43,10 @@ after r c =
 -- the bytes of output that the call made
 unfoldable pub output-of : Run → Call → List ℕ
 output-of r c = take (fed-by r c .fed .done) (fed-by r c .output)
+
+-- does a line of at most 48 bytes fit behind them?
+unfoldable pub room-left : Run → Call → Bool
+room-left r c = room (fed-by r c .output) (fed-by r c .fed .done)
 
 -- ---- one call after the other
 

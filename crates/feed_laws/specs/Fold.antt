@@ -1,9 +1,10 @@
 -- Any list of calls: what they write and what is then left to write are the rules' output, and the memory is behind the commands whose lines they wrote.
 use Prim.Native.Nat.{ℕ, _+_, _-_, _*_, _^_, _≤_, _<_}
 use mathlib.Core.Path.{_≡_, refl, sym, ap, subst, _∙_}
-use mathlib.Core.Bool.{true, true≢false, false≢true}
+use mathlib.Core.Bool.{true, false, true≢false, false≢true}
+use mathlib.Core.Logic.{_≢_}
 use mathlib.Core.List.{List, [], _∷_, _++_, append-assoc, append-nil, append-cancel-right, nil≢cons}
-use lib.ListN.{length, take, drop, length-append}
+use lib.ListN.{length, take, drop, length-append, length-drop}
 use lib.Seq.{take-append-seam}
 use native.Mathlib.Omega.{arith}
 use Rattle.rules.specs.State.{base-limits, State, start}
@@ -17,8 +18,8 @@ use Rattle.demands.specs.Kept.{ready-stands}
 use Rattle.feed_laws.specs.Going.{left-at, left, left-ended, Going}
 use Rattle.feed_laws.specs.Taken.{after-commands, so-far, Ended-within}
 use Rattle.feed_laws.specs.Along.{Along, waits, never-ended}
-use Rattle.feed_laws.specs.Block.{Called, called, Leaves, run-ended, run-waits, leaves, stays-ended}
-use Rattle.feed_laws.specs.Calls.{Call, Run, in-hand, fed-by, after, output-of, after-all, outputs, stream, Proper, Roomy, says-last, Settled, over, few, begun}
+use Rattle.feed_laws.specs.Block.{Called, called, Leaves, run-ended, run-waits, leaves, leaves-room, full-takes, stays-ended}
+use Rattle.feed_laws.specs.Calls.{Call, Run, in-hand, fed-by, after, output-of, room-left, after-all, outputs, stream, Proper, Roomy, says-last, Settled, over, few, begun}
 
 abbrev Goes : Run → State → Type 0
 Goes r s = Going (r .threads) (r .cpus) (r .nodes) (r .fed) s
@@ -67,6 +68,24 @@ module _ (r : Run) (c : Call) (s : State) (g : Goes r s) (small : length (c .buf
   one-leaves h =
       let w : World = feedDef (hand ++ c .behind) (length hand) (c .last) world in
       subst (λ (b : List ℕ). Leaves (c .last) (w .fed) (drop (w .fed .at) b)) front (leaves (hand ++ c .behind) (length hand) fits to-come (c .last) none-to-come world s g small h)
+
+  one-room : 48 ≤ length (c .buffer) → room-left r c ≡ true → Leaves (c .last) (after r c .fed) (after r c .left-over)
+  unfolding after fed-by room-left
+  one-room some h =
+      let w : World = feedDef (hand ++ c .behind) (length hand) (c .last) world in
+      subst (λ (b : List ℕ). Leaves (c .last) (w .fed) (drop (w .fed .at) b)) front (leaves-room (hand ++ c .behind) (length hand) fits to-come (c .last) none-to-come world s g small some h)
+
+  one-taken : after r c .left-over ≡ drop (fed-by r c .fed .at) hand
+  unfolding after
+  one-taken = refl
+
+  one-within : fed-by r c .fed .at ≤ length hand
+  unfolding fed-by
+  one-within = made .taken
+
+  one-full : room-left r c ≡ false → after r c .fed .phase ≢ ENDED → length (c .buffer) < 48 * (fed-by r c .fed .at + 2)
+  unfolding after fed-by room-left
+  one-full h on = full-takes (hand ++ c .behind) (length hand) fits to-come (c .last) none-to-come world s g small h on
 
 -- ---- a list of calls
 
@@ -282,3 +301,68 @@ pub from-start-by-command : (h : Held) → Ready h → (calls : List Call) (to-c
 from-start-by-command h r calls to-come p m d =
     let p′ : Proper calls [] = proper-none calls to-come p in
     over-or-waits (stream calls) (from-start h r calls [] p′ .state) (after-all (begun h) calls) (from-start-along h r calls [] p′) d (from-start-rests h r calls to-come p m)
+
+-- ---- buffers of any size: the call after a list of calls
+
+stream-behind : (calls more : List Call) → stream (calls ++ more) ≡ stream calls ++ stream more
+unfolding stream
+stream-behind [] more = refl
+stream-behind (c ∷ calls) more = ap (λ (l : List ℕ). c .block ++ l) (stream-behind calls more) ∙ sym (append-assoc (c .block) (stream calls) (stream more))
+
+proper-front : (calls more : List Call) (to-come : List ℕ) → Proper (calls ++ more) to-come → Proper calls (stream more ++ to-come)
+unfolding Proper
+proper-front [] more to-come p = tt
+proper-front (c ∷ calls) more to-come p = (
+  λ e. sym (append-assoc (stream calls) (stream more) to-come) ∙ ap (λ (l : List ℕ). l ++ to-come) (sym (stream-behind calls more)) ∙ p .0 e,
+  (p .1 .0, proper-front calls more to-come (p .1 .1)),
+)
+
+proper-behind : (calls more : List Call) (to-come : List ℕ) → Proper (calls ++ more) to-come → Proper more to-come
+unfolding Proper
+proper-behind [] more to-come p = p
+proper-behind (c ∷ calls) more to-come p = proper-behind calls more to-come (p .1 .1)
+
+all-behind : (r : Run) (calls : List Call) (c : Call) → after-all r (calls ++ (c ∷ [])) ≡ after (after-all r calls) c
+unfolding after-all
+all-behind r [] c = refl
+all-behind r (d ∷ calls) c = all-behind (after r d) calls c
+
+module _ (h : Held) (ready : Ready h) (calls : List Call) (c : Call) (to-come : List ℕ) (p : Proper (calls ++ (c ∷ [])) to-come) where
+  abbrev r : Run
+  r = after-all (begun h) calls
+
+  own : Proper (c ∷ []) to-come
+  own = proper-behind calls (c ∷ []) to-come p
+
+  before : All (begun h) (start base-limits) calls (stream (c ∷ []) ++ to-come) (output base-limits (stream calls ++ (stream (c ∷ []) ++ to-come)))
+  before = from-start h ready calls (stream (c ∷ []) ++ to-come) (proper-front calls (c ∷ []) to-come p)
+
+  -- what it leaves where there is room for a line
+  next-room : 48 ≤ length (c .buffer) → room-left r c ≡ true → Leaves (c .last) (after r c .fed) (after r c .left-over)
+  next-room = one-room r c (before .state) (before .going) (proper-small c [] to-come own) (stream [] ++ to-come) (proper-last c [] to-come own)
+
+  pub next-settled : 48 ≤ length (c .buffer) → room-left r c ≡ true → Settled (after r c)
+  next-settled some e = settled-after (after r c) (rests-after r c (next-room some e))
+
+  pub next-ends : 48 ≤ length (c .buffer) → room-left r c ≡ true → c .last ≡ true → after r c .fed .phase ≡ ENDED
+  next-ends some e l = last-over r c l (next-room some e)
+
+  pub next-by-command : 48 ≤ length (c .buffer) → room-left r c ≡ true → Ended-within (stream (calls ++ (c ∷ []))) → after r c .fed .phase ≡ ENDED
+  next-by-command some e d =
+      let all : List Call = calls ++ (c ∷ []) in
+      let p′ : Proper all [] = proper-none all to-come p in
+      let same : after-all (begun h) all ≡ after r c = all-behind (begun h) calls c in
+      sym (ap (λ (q : Run). q .fed .phase) same)
+      ∙ over-or-waits (stream all) (from-start h ready all [] p′ .state) (after-all (begun h) all) (from-start-along h ready all [] p′) d
+      (subst Rests (sym same) (rests-after r c (next-room some e)))
+
+  -- what it took where there is none
+  pub next-full : room-left r c ≡ false → after r c .fed .phase ≢ ENDED → length (c .buffer) < 48 * ((length (in-hand r c) - length (after r c .left-over)) + 2)
+  next-full e on =
+      let s = before .state in
+      let small = proper-small c [] to-come own in
+      let none = proper-last c [] to-come own in
+      let full = one-full r c s (before .going) small (stream [] ++ to-come) none e on in
+      let within = one-within r c s (before .going) small (stream [] ++ to-come) none in
+      rw (one-taken r c s (before .going) small (stream [] ++ to-come) none, length-drop)
+      (let k : length (in-hand r c) - (length (in-hand r c) - fed-by r c .fed .at) ≡ fed-by r c .fed .at = omega (arith, within) in rw k full)

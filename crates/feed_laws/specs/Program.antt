@@ -1,39 +1,55 @@
--- THE PROGRAM'S BUFFERS AND THE BYTES THAT IT KEEPS. `replay` (replay/src/main.rt) reads into an input of 672 bytes behind the bytes left over, feeds it with an output
--- of 32,768 bytes, writes what `feed` wrote, and moves the bytes not taken to the front by `keep` (feed/src/block.rt). A reader reads the statements of this file,
--- after Calls and Output.
+-- THE PROGRAM'S BUFFERS AND THE BYTES THAT IT KEEPS. `replay` (replay/src/main.rt) reads into an input of 4,096 bytes behind the bytes left over, feeds it with an output
+-- of 32,768 bytes, writes what `feed` wrote, and moves the bytes not taken to the front by `keep` (feed/src/block.rt). Where that call left no room for a line it
+-- feeds the bytes left over before it reads again. A reader reads the statements of this file, after Calls and Output.
 use Prim.Native.Nat.{ℕ, zero, suc, _+_, _-_, _*_, _≤_, _<_}
 use mathlib.Core.Path.{_≡_, refl, sym, ap, _∙_}
 use mathlib.Core.Logic.{_≢_}
+use mathlib.Core.Bool.{true, false}
 use mathlib.Core.List.{List, [], _∷_, _++_}
 use native.Mathlib.Omega.{arith}
 use lib.ListN.{length, take, drop, length-drop}
 use lib.Seq.{take-at, take-nil, length-take-le}
-use borrow.Author.Tests.{le-ltb}
+use lib.Dec.{eqb}
+use borrow.Author.Tests.{le-ltb, eqb-true, eqb-false}
+use Rattle.rules.specs.Line.{both}
 use Rattle.feed.specs.Fed.{ENDED}
 use Rattle.feed.specs.Block.{keptCount, keptBytes}
 use Rattle.demands.specs.Calls.{Held, Ready}
-use Rattle.feed_laws.specs.Calls.{Call, Run, after-all, Proper, Roomy, Settled, over, few, begun}
-use Rattle.feed_laws.specs.Output.{feed-left-over}
+use Rattle.feed_laws.specs.Calls.{Call, Run, in-hand, after, room-left, after-all, stream, Proper, Settled, over, few, begun}
+use Rattle.feed_laws.specs.Taken.{Ended-within}
+use Rattle.feed_laws.specs.Fold.{next-settled, next-ends, next-by-command, next-full}
 
--- The calls that the program makes: blocks that fit the input, each with the whole output.
-unfoldable pub Served : List Call → Type 0
-Served [] = Unit
-Served (c ∷ calls) = (length (c .block) ≤ 672) × ((length (c .buffer) ≡ 32768) × Served calls)
+-- h is what `start` left when it answered Ready; c is a call with the program's output, after any calls.
+module _ (h : Held) (ready : Ready h) (calls : List Call) (c : Call) (to-come : List ℕ) (p : Proper (calls ++ (c ∷ [])) to-come) (size : length (c .buffer) ≡ 32768) where
+  abbrev r : Run
+  r = after-all (begun h) calls
 
--- Their buffers are large enough for feed-output, feed-left-over and feed-ended-by-command.
-pub served-roomy : (calls : List Call) → Served calls → Roomy calls
-unfolding Served Roomy
-served-roomy [] s = tt
-served-roomy (c ∷ calls) s = (rw (s .1 .0) (omega (arith, s .0)), served-roomy calls (s .1 .1))
+  few-left : Settled (after r c) → after r c .fed .phase ≢ ENDED → length (after r c .left-over) ≤ 8
+  few-left (over e) n = absurd (n e)
+  few-left (few l) n = l
 
-few-left : {r : Run} → Settled r → r .fed .phase ≢ ENDED → length (r .left-over) ≤ 8
-few-left (over e) n = absurd (n e)
-few-left (few l) n = l
+  enough : 48 ≤ length (c .buffer)
+  enough = rw size (omega arith)
 
--- Until the end line is written at most eight bytes are left over, so that every read has room for 664 bytes or more: one that adds none is the end of the input.
-pub room-to-read : (h : Held) → Ready h → (calls : List Call) (to-come : List ℕ) → Proper calls to-come → Served calls → after-all (begun h) calls .fed .phase ≢ ENDED
-    → length (after-all (begun h) calls .left-over) + 664 ≤ 672
-room-to-read h ready calls to-come p s n = omega (arith, few-left (feed-left-over h ready calls to-come p (served-roomy calls s)) n)
+  -- A call that leaves no room for a line has taken 681 bytes or more: the program feeds a block of 4,096 bytes in at most seven calls.
+  pub full-taken : room-left r c ≡ false → after r c .fed .phase ≢ ENDED → length (after r c .left-over) + 681 ≤ length (in-hand r c)
+  full-taken e n = omega (arith, size, next-full h ready calls c to-come p e n)
+
+  -- The program reads after a call that left room for a line. Until the end line is written at most eight bytes are then left over, so that every read has room for
+  -- 4,088 bytes or more: one that adds none is the end of the input.
+  pub room-to-read : room-left r c ≡ true → after r c .fed .phase ≢ ENDED → length (after r c .left-over) + 4088 ≤ 4096
+  room-to-read e n = omega (arith, few-left (next-settled h ready calls c to-come p enough e) n)
+
+  -- So the call at the end of the input, with these bytes alone, writes the end line; feed-ended says that the output is then whole.
+  pub ended-at-last : c .last ≡ true → length (in-hand r c) ≤ 8 → after r c .fed .phase ≡ ENDED
+  ended-at-last l few-bytes =
+      both (room-left r c) (λ e. next-ends h ready calls c to-come p enough e l)
+      (λ e. both (eqb (after r c .fed .phase) ENDED) (λ z. eqb-true (after r c .fed .phase) ENDED z)
+      (λ z. absurd (omega (arith, full-taken e (eqb-false (after r c .fed .phase) ENDED z)))))
+
+  -- Without an end of the input: once the blocks given hold a command that ends the run, the end line is written by a call that leaves room for a line.
+  pub ended-by-command : room-left r c ≡ true → Ended-within (stream (calls ++ (c ∷ []))) → after r c .fed .phase ≡ ENDED
+  ended-by-command e d = next-by-command h ready calls c to-come p enough e d
 
 drop-take : (k n : ℕ) (l : List ℕ) → drop k (take n l) ≡ take (n - k) (drop k l)
 drop-take zero n l = let e : n - 0 ≡ n = omega arith in rw e

@@ -1,4 +1,4 @@
--- There are such calls: any stream cut into blocks of at most 672 bytes, each fed with one buffer of 32,768 bytes, and then a call with no new byte that says
+-- There are such calls: any stream cut into blocks of at most 4,096 bytes, each fed with one buffer of 262,144 bytes, and then a call with no new byte that says
 -- `last`.
 use Prim.Native.Nat.{ℕ, _≤_}
 use mathlib.Core.Path.{_≡_, refl, sym, ap, _∙_}
@@ -29,19 +29,19 @@ joined (block ∷ blocks) = block ++ joined blocks
 
 unfoldable pub Short : List (List ℕ) → Type 0
 Short [] = Unit
-Short (block ∷ blocks) = (length block ≤ 672) × Short blocks
+Short (block ∷ blocks) = (length block ≤ 4096) × Short blocks
 
 stream-joined : (buffer : List ℕ) (blocks : List (List ℕ)) → stream (fed-with buffer blocks) ≡ joined blocks
 unfolding stream fed-with joined
 stream-joined buffer [] = refl
 stream-joined buffer (block ∷ blocks) = ap (λ (l : List ℕ). block ++ l) (stream-joined buffer blocks)
 
-proper : (buffer : List ℕ) (blocks : List (List ℕ)) → length buffer ≡ 32768 → Proper (fed-with buffer blocks) []
+proper : (buffer : List ℕ) (blocks : List (List ℕ)) → length buffer ≡ 262144 → Proper (fed-with buffer blocks) []
 unfolding Proper fed-with stream
 proper buffer [] e = (λ t. refl, (rw e (omega arith), tt))
 proper buffer (block ∷ blocks) e = (λ t. absurd (false≢true t), (rw e (omega arith), proper buffer blocks e))
 
-roomy : (buffer : List ℕ) (blocks : List (List ℕ)) → length buffer ≡ 32768 → Short blocks → Roomy (fed-with buffer blocks)
+roomy : (buffer : List ℕ) (blocks : List (List ℕ)) → length buffer ≡ 262144 → Short blocks → Roomy (fed-with buffer blocks)
 unfolding Roomy fed-with Short
 roomy buffer [] e h = (rw e (omega arith), tt)
 roomy buffer (block ∷ blocks) e h = (rw e (omega (arith, h .0)), roomy buffer blocks e (h .1))
@@ -52,7 +52,7 @@ last-said buffer [] = refl
 last-said buffer (block ∷ []) = refl
 last-said buffer (block ∷ next ∷ blocks) = last-said buffer (next ∷ blocks)
 
-pub blocks-output : (h : Held) → Ready h → (buffer : List ℕ) (blocks : List (List ℕ)) → length buffer ≡ 32768 → Short blocks
+pub blocks-output : (h : Held) → Ready h → (buffer : List ℕ) (blocks : List (List ℕ)) → length buffer ≡ 262144 → Short blocks
     → outputs (begun h) (fed-with buffer blocks) ≡ output base-limits (joined blocks)
 blocks-output h ready buffer blocks e s =
     feed-output h ready (fed-with buffer blocks) (proper buffer blocks e) (roomy buffer blocks e s) (last-said buffer blocks)

@@ -8,6 +8,7 @@ use feed::fed::begin;
 use feed::feed::feed;
 use feed::start::Started;
 use feed::start::start;
+use lines::has_room;
 use nodes::words::NodeWords;
 use processor::words::CpuWords;
 use questions::state::State;
@@ -20,9 +21,10 @@ pub struct Serving {
     pub left: usize,
 }
 
-// The bytes at the front of the input after a read, and whether it failed.
+// The bytes at the front of the input, whether they are the last, and whether reading failed.
 pub struct Filled {
     pub bytes: usize,
+    pub last: bool,
     pub failed: bool,
 }
 
@@ -30,23 +32,30 @@ fn behind(input: &[u8], left: usize, got: isize) -> Filled {
     if got < 0 {
         return Filled {
             bytes: left,
+            last: false,
             failed: true,
         };
     }
+    let n = std::num::wrapping_add_usize(left, io::count(got, input));
     Filled {
-        bytes: std::num::wrapping_add_usize(left, io::count(got, input)),
+        bytes: n,
+        last: is_last(left, n),
         failed: false,
     }
 }
 
-// One read of standard input behind the first `left` bytes. One that adds nothing and does not fail is the end of the input.
-fn fill(input: &mut [u8], left: usize) -> Filled {
-    if left < input.len() {
-        let got = libc::read(libc::STDIN_FILENO, &mut input[left..]);
-        return behind(input, left, got);
+// One read of standard input behind the first `left` bytes. One that adds nothing and does not fail is the end of the input. Where the `done` bytes of output
+// left no room for a line, the bytes that are there come first, and nothing is read.
+fn fill(input: &mut [u8], output: &[u8], left: usize, done: usize) -> Filled {
+    if has_room(output, done) {
+        if left < input.len() {
+            let got = libc::read(libc::STDIN_FILENO, &mut input[left..]);
+            return behind(input, left, got);
+        }
     }
     Filled {
         bytes: left,
+        last: false,
         failed: false,
     }
 }
@@ -102,14 +111,14 @@ fn serve(
     while 0 < budget {
         let left = s.left;
         let fed = s.fed;
-        let got = fill(input, left);
+        let got = fill(input, output, left, fed.done);
         let failed = got.failed;
         if failed {
             input_failed();
             return false;
         }
         let n = got.bytes;
-        let last = is_last(left, n);
+        let last = got.last;
         let f = feed(threads, cpus, nodes, input, output, n, last, fed);
         let shown = show(output, f.done);
         if not(shown) {
@@ -170,7 +179,7 @@ fn main() {
     let mut threads = [t; 1024];
     let mut cpus = [c; 64];
     let mut nodes = [d; 128];
-    let mut input = [0u8; 672];
+    let mut input = [0u8; 4096];
     let mut output = [0u8; 32768];
     let started = start(&mut threads, &mut cpus, &mut nodes);
     let s = begun(started);

@@ -121,9 +121,9 @@ module _ {M : Type 1} (𝓤 : URA M) (H : Heap 𝓤) (𝓜 : Model 𝓤 H) (𝓖
     room₃ = (lit< tt, lit< tt)
 
     abbrev n₄ : ℕ
-    n₄ = 672
+    n₄ = 4096
 
-    room₄ : Room u8 672
+    room₄ : Room u8 4096
     room₄ = (lit< tt, lit< tt)
 
     abbrev n₅ : ℕ
@@ -171,9 +171,9 @@ module _ {M : Type 1} (𝓤 : URA M) (H : Heap 𝓤) (𝓜 : Model 𝓤 H) (𝓖
         assigns ! (rep ! 128 (load ! (from ! (stop !)) (look ! 48 refl))) (from ! (stop !)) (init ! 44 refl (array-typed-of (arr (number w64) 32) 𝓤 H A W 128 r₁₁ (is₁₃) .0)) $
         move ! (44 ∷ []) $
         arrayed ! (arr (number w64) 32) 128 (replicate {A = (List ℕ)} 128 r₁₁) (replicate 128 ((arr (number w64) 32) .val r₁₁)) tt refl (rep-is (arr (number w64) 32) 128 r₁₁ (is₁₃)) $
-        assigns ! (rep ! 672 (lit ! tt)) (from ! (stop !)) (init ! 43 refl (array-typed-of (number w8) 𝓤 H A W 672 0 ((refl, lit< tt)) .0)) $
+        assigns ! (rep ! 4096 (lit ! tt)) (from ! (stop !)) (init ! 43 refl (array-typed-of (number w8) 𝓤 H A W 4096 0 ((refl, lit< tt)) .0)) $
         move ! (43 ∷ []) $
-        arrayed ! (number w8) 672 (replicate {A = ℕ} 672 0) (replicate 672 ((number w8) .val 0)) tt refl (rep-is (number w8) 672 0 ((refl, lit< tt))) $
+        arrayed ! (number w8) 4096 (replicate {A = ℕ} 4096 0) (replicate 4096 ((number w8) .val 0)) tt refl (rep-is (number w8) 4096 0 ((refl, lit< tt))) $
         assigns ! (rep ! 32768 (lit ! tt)) (from ! (stop !)) (init ! 42 refl (array-typed-of (number w8) 𝓤 H A W 32768 0 ((refl, lit< tt)) .0)) $
         move ! (42 ∷ []) $
         arrayed ! (number w8) 32768 (replicate {A = ℕ} 32768 0) (replicate 32768 ((number w8) .val 0)) tt refl (rep-is (number w8) 32768 0 ((refl, lit< tt))) $
@@ -218,7 +218,7 @@ module _ {M : Type 1} (𝓤 : URA M) (H : Heap 𝓤) (𝓜 : Model 𝓤 H) (𝓖
         assigns ! (addr ! (from ! (stop !))) (from ! (stop !)) (init ! 15 refl (tt, tt)) $
         assigns ! (agg ! (and-then ! (load ! (from ! (stop !)) (look ! 15 refl)) (and-then ! (lit ! tt) (no-more !)))) (from ! (stop !)) (init ! 13 refl (tt, (tt, (record { fits = room₃ .0 }, tt)))) $
         assigns ! (addr ! (from ! (stop !))) (from ! (stop !)) (init ! 11 refl (tt, tt)) $
-        assigns ! (agg ! (and-then ! (load ! (from ! (stop !)) (look ! 11 refl)) (and-then ! (lit ! tt) (no-more !)))) (from ! (stop !)) (init ! 9 refl (tt, (tt, (record { fits = room₄ .0 }, tt)))) $
+        assigns ! (agg ! (and-then ! (load ! (from ! (stop !)) (look ! 11 refl)) (and-then ! (big-lit ! (record { fits = lit< tt })) (no-more !)))) (from ! (stop !)) (init ! 9 refl (tt, (tt, (record { fits = room₄ .0 }, tt)))) $
         assigns ! (addr ! (from ! (stop !))) (from ! (stop !)) (init ! 7 refl (tt, tt)) $
         assigns ! (agg ! (and-then ! (load ! (from ! (stop !)) (look ! 7 refl)) (and-then ! (big-lit ! (record { fits = lit< tt })) (no-more !)))) (from ! (stop !)) (init ! 5 refl (tt, (tt, (record { fits = room₅ .0 }, tt)))) $
         nothing ! $
@@ -232,8 +232,8 @@ module _ {M : Type 1} (𝓤 : URA M) (H : Heap 𝓤) (𝓜 : Model 𝓤 H) (𝓖
         join ! $
         move ! (1 ∷ 0 ∷ []) $
         join ! $
-        call-slices-none truth (Serving° ∷ []) ((r₂₁, tt)) (emp 𝓤) ((mutable Thread·.the-row ((startDef (record { threads = replicate {A = Thread} 1024 blank; cpus = replicate {A = (List ℕ)} 64 r₇; nodes = replicate {A = (List ℕ)} 128 r₁₁ })) .memory .threads) l₄ 0 n₁ ((sym (length-replicate {A = Thread} 1024 blank) ∙ sym (subst (λ (us : List Thread). length us ≡ length (replicate {A = Thread} 1024 blank)) (e₁₉ .1 .0) (ls₁₈ .0)))) room₁) ∷ (mutable (Array u64 96) ((startDef (record { threads = replicate {A = Thread} 1024 blank; cpus = replicate {A = (List ℕ)} 64 r₇; nodes = replicate {A = (List ℕ)} 128 r₁₁ })) .memory .cpus) l₅ 0 n₂ ((sym (length-replicate {A = (List ℕ)} 64 r₇) ∙ sym (subst (λ (us : List (List ℕ)). length us ≡ length (replicate {A = (List ℕ)} 64 r₇)) (e₁₉ .1 .1 .0) (ls₁₈ .1 .0)))) room₂) ∷ (mutable (Array u64 32) ((startDef (record { threads = replicate {A = Thread} 1024 blank; cpus = replicate {A = (List ℕ)} 64 r₇; nodes = replicate {A = (List ℕ)} 128 r₁₁ })) .memory .nodes) l₆ 0 n₃ ((sym (length-replicate {A = (List ℕ)} 128 r₁₁) ∙ sym (subst (λ (us : List (List ℕ)). length us ≡ length (replicate {A = (List ℕ)} 128 r₁₁)) (e₁₉ .1 .1 .1) (ls₁₈ .1 .1 .0)))) room₃) ∷ (mutable u8 (replicate {A = ℕ} 672 0) l₇ 0 n₄ (sym (length-replicate {A = ℕ} 672 0)) room₄) ∷ (mutable u8 (replicate {A = ℕ} 32768 0) l₈ 0 n₅ (sym (length-replicate {A = ℕ} 32768 0)) room₅) ∷ []) ! fm ((is₂₃, tt)) (id⊢ 𝓤 (emp 𝓤))
-        (λ νs. cited 𝓤 H (tripleOf 𝓤 H A fn-replay-serve.signature (fn-replay-serve.spec 𝓤 H A (𝓜 .mem) (𝓡 .run))) 𝓜 𝓡 code.env fn-replay-serve-def.name fn-replay-serve-def.routine code.calls-replay·serve (fn-replay-serve-thm.met 𝓤 H 𝓜 𝓖 𝓡) (((νs .0 .0 ∷ [], (νs .1 .0 .0 ∷ [], (νs .1 .1 .0 .0 ∷ [], (νs .1 .1 .1 .0 .0 ∷ [], (νs .1 .1 .1 .1 .0 .0 ∷ [], tt))))), (fullShare, (fullShare, (fullShare, (fullShare, (fullShare, tt))))), tt, (lent-as l₄ 0 (νs .0 .1) ((startDef (record { threads = replicate {A = Thread} 1024 blank; cpus = replicate {A = (List ℕ)} 64 r₇; nodes = replicate {A = (List ℕ)} 128 r₁₁ })) .memory .threads), (lent-as l₅ 0 (νs .1 .0 .1) ((startDef (record { threads = replicate {A = Thread} 1024 blank; cpus = replicate {A = (List ℕ)} 64 r₇; nodes = replicate {A = (List ℕ)} 128 r₁₁ })) .memory .cpus), (lent-as l₆ 0 (νs .1 .1 .0 .1) ((startDef (record { threads = replicate {A = Thread} 1024 blank; cpus = replicate {A = (List ℕ)} 64 r₇; nodes = replicate {A = (List ℕ)} 128 r₁₁ })) .memory .nodes), (lent-as l₇ 0 (νs .1 .1 .1 .0 .1) (replicate {A = ℕ} 672 0), (lent-as l₈ 0 (νs .1 .1 .1 .1 .0 .1) (replicate {A = ℕ} 32768 0), (r₂₁, tt)))))), (slice-of l₄ 0 ((startDef (record { threads = replicate {A = Thread} 1024 blank; cpus = replicate {A = (List ℕ)} 64 r₇; nodes = replicate {A = (List ℕ)} 128 r₁₁ })) .memory .threads) ∷ [], (slice-of l₅ 0 ((startDef (record { threads = replicate {A = Thread} 1024 blank; cpus = replicate {A = (List ℕ)} 64 r₇; nodes = replicate {A = (List ℕ)} 128 r₁₁ })) .memory .cpus) ∷ [], (slice-of l₆ 0 ((startDef (record { threads = replicate {A = Thread} 1024 blank; cpus = replicate {A = (List ℕ)} 64 r₇; nodes = replicate {A = (List ℕ)} 128 r₁₁ })) .memory .nodes) ∷ [], (slice-of l₇ 0 (replicate {A = ℕ} 672 0) ∷ [], (slice-of l₈ 0 (replicate {A = ℕ} 32768 0) ∷ [], spell (Serving° ∷ []) ((r₂₁, tt)))))))), tt))
+        call-slices-none truth (Serving° ∷ []) ((r₂₁, tt)) (emp 𝓤) ((mutable Thread·.the-row ((startDef (record { threads = replicate {A = Thread} 1024 blank; cpus = replicate {A = (List ℕ)} 64 r₇; nodes = replicate {A = (List ℕ)} 128 r₁₁ })) .memory .threads) l₄ 0 n₁ ((sym (length-replicate {A = Thread} 1024 blank) ∙ sym (subst (λ (us : List Thread). length us ≡ length (replicate {A = Thread} 1024 blank)) (e₁₉ .1 .0) (ls₁₈ .0)))) room₁) ∷ (mutable (Array u64 96) ((startDef (record { threads = replicate {A = Thread} 1024 blank; cpus = replicate {A = (List ℕ)} 64 r₇; nodes = replicate {A = (List ℕ)} 128 r₁₁ })) .memory .cpus) l₅ 0 n₂ ((sym (length-replicate {A = (List ℕ)} 64 r₇) ∙ sym (subst (λ (us : List (List ℕ)). length us ≡ length (replicate {A = (List ℕ)} 64 r₇)) (e₁₉ .1 .1 .0) (ls₁₈ .1 .0)))) room₂) ∷ (mutable (Array u64 32) ((startDef (record { threads = replicate {A = Thread} 1024 blank; cpus = replicate {A = (List ℕ)} 64 r₇; nodes = replicate {A = (List ℕ)} 128 r₁₁ })) .memory .nodes) l₆ 0 n₃ ((sym (length-replicate {A = (List ℕ)} 128 r₁₁) ∙ sym (subst (λ (us : List (List ℕ)). length us ≡ length (replicate {A = (List ℕ)} 128 r₁₁)) (e₁₉ .1 .1 .1) (ls₁₈ .1 .1 .0)))) room₃) ∷ (mutable u8 (replicate {A = ℕ} 4096 0) l₇ 0 n₄ (sym (length-replicate {A = ℕ} 4096 0)) room₄) ∷ (mutable u8 (replicate {A = ℕ} 32768 0) l₈ 0 n₅ (sym (length-replicate {A = ℕ} 32768 0)) room₅) ∷ []) ! fm ((is₂₃, tt)) (id⊢ 𝓤 (emp 𝓤))
+        (λ νs. cited 𝓤 H (tripleOf 𝓤 H A fn-replay-serve.signature (fn-replay-serve.spec 𝓤 H A (𝓜 .mem) (𝓡 .run))) 𝓜 𝓡 code.env fn-replay-serve-def.name fn-replay-serve-def.routine code.calls-replay·serve (fn-replay-serve-thm.met 𝓤 H 𝓜 𝓖 𝓡) (((νs .0 .0 ∷ [], (νs .1 .0 .0 ∷ [], (νs .1 .1 .0 .0 ∷ [], (νs .1 .1 .1 .0 .0 ∷ [], (νs .1 .1 .1 .1 .0 .0 ∷ [], tt))))), (fullShare, (fullShare, (fullShare, (fullShare, (fullShare, tt))))), tt, (lent-as l₄ 0 (νs .0 .1) ((startDef (record { threads = replicate {A = Thread} 1024 blank; cpus = replicate {A = (List ℕ)} 64 r₇; nodes = replicate {A = (List ℕ)} 128 r₁₁ })) .memory .threads), (lent-as l₅ 0 (νs .1 .0 .1) ((startDef (record { threads = replicate {A = Thread} 1024 blank; cpus = replicate {A = (List ℕ)} 64 r₇; nodes = replicate {A = (List ℕ)} 128 r₁₁ })) .memory .cpus), (lent-as l₆ 0 (νs .1 .1 .0 .1) ((startDef (record { threads = replicate {A = Thread} 1024 blank; cpus = replicate {A = (List ℕ)} 64 r₇; nodes = replicate {A = (List ℕ)} 128 r₁₁ })) .memory .nodes), (lent-as l₇ 0 (νs .1 .1 .1 .0 .1) (replicate {A = ℕ} 4096 0), (lent-as l₈ 0 (νs .1 .1 .1 .1 .0 .1) (replicate {A = ℕ} 32768 0), (r₂₁, tt)))))), (slice-of l₄ 0 ((startDef (record { threads = replicate {A = Thread} 1024 blank; cpus = replicate {A = (List ℕ)} 64 r₇; nodes = replicate {A = (List ℕ)} 128 r₁₁ })) .memory .threads) ∷ [], (slice-of l₅ 0 ((startDef (record { threads = replicate {A = Thread} 1024 blank; cpus = replicate {A = (List ℕ)} 64 r₇; nodes = replicate {A = (List ℕ)} 128 r₁₁ })) .memory .cpus) ∷ [], (slice-of l₆ 0 ((startDef (record { threads = replicate {A = Thread} 1024 blank; cpus = replicate {A = (List ℕ)} 64 r₇; nodes = replicate {A = (List ℕ)} 128 r₁₁ })) .memory .nodes) ∷ [], (slice-of l₇ 0 (replicate {A = ℕ} 4096 0) ∷ [], (slice-of l₈ 0 (replicate {A = ℕ} 32768 0) ∷ [], spell (Serving° ∷ []) ((r₂₁, tt)))))))), tt))
         (λ k. and-then ! (load ! (from ! (stop !)) (look ! 17 refl)) (and-then ! (load ! (from ! (stop !)) (look ! 13 refl)) (and-then ! (load ! (from ! (stop !)) (look ! 9 refl)) (and-then ! (load ! (from ! (stop !)) (look ! 5 refl)) (and-then ! (load ! (from ! (stop !)) (look ! 1 refl)) (and-then ! (load ! (from ! (stop !)) (look ! 35 refl)) (no-more !))))))) (λ r₂₅ ws₂₆ is₂₇ ls₂₈.
         split ! $
         move ! (1 ∷ []) $
@@ -250,7 +250,7 @@ module _ {M : Type 1} (𝓤 : URA M) (H : Heap 𝓤) (𝓜 : Model 𝓤 H) (𝓖
         assigns ! (of-opd ! (unit-lit !)) (from ! (stop !)) (init ! 54 refl (tt, tt)) $
         freed ! u8 32768 (ws₂₆ .1 .1 .1 .1 .0) (λ v. refl) (sym ((sym (length-replicate {A = ℕ} 32768 0) ∙ sym (ls₂₈ .1 .1 .1 .1 .0)))) $
         move ! (1 ∷ []) $
-        freed ! u8 672 (ws₂₆ .1 .1 .1 .0) (λ v. refl) (sym ((sym (length-replicate {A = ℕ} 672 0) ∙ sym (ls₂₈ .1 .1 .1 .0)))) $
+        freed ! u8 4096 (ws₂₆ .1 .1 .1 .0) (λ v. refl) (sym ((sym (length-replicate {A = ℕ} 4096 0) ∙ sym (ls₂₈ .1 .1 .1 .0)))) $
         move ! (2 ∷ []) $
         freed ! (Array u64 32) 128 (ws₂₆ .1 .1 .0) (λ v. refl) (sym (((sym (length-replicate {A = (List ℕ)} 128 r₁₁) ∙ sym (subst (λ (us : List (List ℕ)). length us ≡ length (replicate {A = (List ℕ)} 128 r₁₁)) (e₁₉ .1 .1 .1) (ls₁₈ .1 .1 .0))) ∙ sym (ls₂₈ .1 .1 .0)))) $
         move ! (3 ∷ []) $
