@@ -45,7 +45,7 @@ module _ (h : Held) (ready : Ready h) (calls : List Call) (c : Call) (to-come : 
   ended-at-last l few-bytes =
       both (room-left r c) (λ e. next-ends h ready calls c to-come p enough e l)
       (λ e. both (eqb (after r c .fed .phase) ENDED) (λ z. eqb-true (after r c .fed .phase) ENDED z)
-      (λ z. absurd (omega (arith, full-taken e (eqb-false (after r c .fed .phase) ENDED z)))))
+      (λ z. absurd (omega (arith, size, next-full h ready calls c to-come p e (eqb-false (after r c .fed .phase) ENDED z)))))
 
   -- Without an end of the input: once the blocks given hold a command that ends the run, the end line is written by a call that leaves room for a line.
   pub ended-by-command : room-left r c ≡ true → Ended-within (stream (calls ++ (c ∷ []))) → after r c .fed .phase ≡ ENDED

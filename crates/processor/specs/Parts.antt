@@ -155,21 +155,17 @@ pub hardtick-stored : (cs : List (List ℕ)) (c now : ℕ) → numbersStored cs 
 unfolding numbersStored queueStored queueAt queueIn queueFrom builtOf rqHardtick
 hardtick-stored cs c now = ap (λ (row : List ℕ). set cs c row) (numbers-alone (getD cs c []) (rqHardtick (queueIn (getD cs c [])) now .queue) refl refl refl refl)
 
--- the clock leaves the lists and counts of the timeshare part
-advance-counts : (t : TimeshareQueue) (steps : ℕ) (force : Bool) → tsAdvance t steps force .priorities ≡ t .priorities
-unfolding tsAdvance tsStep
-advance-counts t steps force =
-    both (eqb (t .count) 0) (λ e. rw e)
-    (λ e. both (eqb (t .«insert_idx») (t .«take_idx»)) (λ f. rw (e, f)) (λ f. both force (λ g. rw (e, f, g)) (λ g. rw (e, f, g))))
-
-advance-lists : (t : TimeshareQueue) (steps : ℕ) (force : Bool) → tsAdvance t steps force .queues ≡ t .queues
-unfolding tsAdvance tsStep
-advance-lists t steps force =
-    both (eqb (t .count) 0) (λ e. rw e)
-    (λ e. both (eqb (t .«insert_idx») (t .«take_idx»)) (λ f. rw (e, f)) (λ f. both force (λ g. rw (e, f, g)) (λ g. rw (e, f, g))))
+-- the clock moves the filling index alone
+advance-keeps : {X : Type 0} (f : TimeshareQueue → X) (t : TimeshareQueue) (steps : ℕ) (force : Bool) → f (tsStep t steps) ≡ f t → f (tsAdvance t steps force) ≡ f t
+unfolding tsAdvance
+advance-keeps f t steps force h =
+    both (eqb (t .count) 0) (λ a. rw a)
+    (λ a. both (eqb (t .«insert_idx») (t .«take_idx»)) (λ b. rw (a, b) h) (λ b. both force (λ c. rw (a, b, c) h) (λ c. rw (a, b, c))))
 
 pub clock-stored : (cs : List (List ℕ)) (c : ℕ) → numbersStored cs c (rqClock (queueAt cs c)) ≡ queueStored cs c (rqClock (queueAt cs c))
-unfolding numbersStored queueStored queueAt queueIn queueFrom builtOf rqClock withTimeshare
-clock-stored cs c = ap (λ (row : List ℕ). set cs c row)
-    (numbers-alone (getD cs c []) (rqClock (queueIn (getD cs c []))) refl (advance-counts (queueIn (getD cs c []) .timeshare) 1 true)
-    (advance-lists (queueIn (getD cs c []) .timeshare) 1 true) refl)
+unfolding numbersStored queueStored queueAt queueIn queueFrom builtOf rqClock withTimeshare tsStep
+clock-stored cs c =
+    let t : TimeshareQueue = queueIn (getD cs c []) .timeshare in
+    ap (λ (row : List ℕ). set cs c row)
+    (numbers-alone (getD cs c []) (rqClock (queueIn (getD cs c []))) refl (advance-keeps (λ (u : TimeshareQueue). u .priorities) t 1 true refl)
+    (advance-keeps (λ (u : TimeshareQueue). u .queues) t 1 true refl) refl)
