@@ -1,7 +1,7 @@
 #!/usr/bin/env python3
 """Writes the walks that tools/walks/CRATE.py describes, lays them out with `rt fmt`, and notes what each was made from and what came out (walks/STAMPS).
 
-usage: entry_gens.py [CRATE | CRATE::FUNCTION ..]    (`lent`, `lent::rq::take`; without a name: all)
+usage: entry_gens.py [CRATE | CRATE::FUNCTION ..]    (`records`, `records::rq::take`; without a name: all)
        entry_gens.py --check    says, in a second, which walk was changed by hand, or is older than what it is made from; exit status 1 if there is one"""
 import glob
 import hashlib

@@ -902,7 +902,7 @@ class Walk:
     def imports(self, text):
         lines = []
         for line in IMPORTS.strip().split('\n'):
-            m = re.match(r'use (\S+)\.\{(.*)\}$', line.replace('LIB.', module('lent.proofs.x', self.crate.name)[:-1]))
+            m = re.match(r'use (\S+)\.\{(.*)\}$', line.replace('LIB.', module('records.proofs.x', self.crate.name)[:-1]))
             names = [n for n in m.group(2).split(', ') if used(n.split(' as ')[-1], text)]
             if names:
                 lines.append('use %s.{%s}' % (m.group(1), ', '.join(names)))

@@ -1,10 +1,10 @@
 """The walks of crate sched_ticks."""
 
 WALKS = {
-    'balance::move_one': 'moveOne received',
-    'balance::balance': 'balanceDef moveTwo',
-    'balance::schedule_maybe_rebalance': 'maybeRebalance',
-    'balance::schedule_stattick': 'scheduleStattick clocked',
-    'ticks::schedule_hardtick': dict(unfolding='scheduleHardtick paidBy', cut=10),
-    'ticks::schedule_resched': 'scheduleResched',
+    'balance::move_one': 'move-one-def received',
+    'balance::balance': 'balance-def move-two',
+    'balance::schedule_maybe_rebalance': 'maybe-rebalance-def',
+    'balance::schedule_stattick': 'schedule-stattick-def clocked',
+    'ticks::schedule_hardtick': dict(unfolding='schedule-hardtick-def paid-by-def', cut=10),
+    'ticks::schedule_resched': 'schedule-resched-def',
 }

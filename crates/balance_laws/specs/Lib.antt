@@ -1,6 +1,6 @@
-pub mod Turns
-pub mod Pairs
-pub mod Moves
 pub mod Balance
+pub mod Move
+pub mod Pairs
 pub mod Rebalance
 pub mod Stattick
+pub mod Turns

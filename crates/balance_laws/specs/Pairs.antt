@@ -4,10 +4,11 @@ use mathlib.Core.Bool.{Bool}
 use mathlib.Core.List.{List, [], _∷_}
 use lib.Dec.{eqb, ltb}
 use native.Mathlib.Omega.{arith}
-use Rattle.rules.specs.Line.{both, Below}
+use Rattle.rules.specs.Laws.Line.{both}
+use Rattle.rules.specs.Line.{Below}
 use Rattle.rules.specs.State.{those-below, Limits, Topology}
 use Rattle.rules.specs.Topology.{cpus-of}
-use Rattle.rules.specs.Steps.{those-in}
+use Rattle.rules.specs.Laws.Steps.{those-in}
 use Rattle.rules.specs.Choice.{Best, none-yet, best, lower, Extremes, weigh, extremes, Pair, no-pair, pair, pair-of, choose-cpu-balance}
 
 unfoldable pub BestUnder : ℕ → Best → Type 0

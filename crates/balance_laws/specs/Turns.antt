@@ -6,7 +6,7 @@ use mathlib.Core.Option.{Option, none, some}
 use lib.Dec.{eqb, ltb}
 use borrow.Author.Tests.{le-ltb}
 use native.Mathlib.Omega.{arith}
-use Rattle.rules.specs.Line.{both}
+use Rattle.rules.specs.Laws.Line.{both}
 use Rattle.rules.specs.Queue.{load}
 use Rattle.rules.specs.State.{Limits, Topology}
 use Rattle.rules.specs.Choice.{Pair, no-pair, pair}

@@ -2,11 +2,11 @@
 use Prim.Native.Nat.{ℕ, _+_, _-_, _≤_, _<_}
 use mathlib.Core.Path.{_≡_, _∙_, ap, sym}
 use mathlib.Core.Bool.{Bool, true, false, cond, _&&_}
-use Rattle.rules.specs.Line.{both}
+use Rattle.rules.specs.Laws.Line.{both}
 use Rattle.rules.specs.Draw.{next-state, draw}
 use Rattle.rules.specs.Choice as rule
 use Rattle.rules.specs.Choice.{score, weigh, extremes}
-use Rattle.nodes.specs.Walk.{those-from, those-turn, those-end}
+use Rattle.topology.specs.Walk.{those-from, those-turn, those-end}
 use Rattle.choice.specs.declared.balance.Extremes.{Extremes}
 use Rattle.choice.specs.declared.balance.Pair.{Pair}
 use Rattle.choice.specs.declared.balance.Pair.the-variants as pair

@@ -5,12 +5,12 @@ use mathlib.Core.Bool.{Bool, cond}
 use mathlib.Core.List.{List, [], _∷_, _++_}
 use lib.Dec.{eqb}
 use Rattle.rules.specs.State.{join-all}
-use Rattle.rules.specs.Line.{both}
+use Rattle.rules.specs.Laws.Line.{both}
 use Rattle.rules.specs.Draw.{next-state, draw}
 use Rattle.rules.specs.Choice as rule
 use Rattle.rules.specs.Choice.{score, lower, find-cpu}
-use Rattle.nodes.specs.Words.{word}
-use Rattle.nodes.specs.Walk.{those-from, to-root, those-turn, those-end, root-turn}
+use Rattle.topology.specs.Words.{word}
+use Rattle.topology.specs.Walk.{those-from, to-root, those-turn, those-end, root-turn}
 use Rattle.choice.specs.declared.find.Best.{Best}
 use Rattle.choice.specs.declared.find.Best.the-variants as best
 use Rattle.choice.specs.declared.find.Searched.{Searched}

@@ -1,5 +1,5 @@
-pub mod Reads
-pub mod Found
-pub mod Steal
 pub mod Balance
+pub mod Found
+pub mod Reads
 pub mod Select
+pub mod Steal

@@ -8,7 +8,7 @@ use Rattle.rules.specs.declared.Priority.{Priority}
 use Rattle.rules.specs.Priority.{less}
 use Rattle.rules.specs.Choice.{Best, none-yet, best, Searched, find-cpu}
 use Rattle.rules.specs.Schedule.{same-cpu}
-use Rattle.nodes.specs.Walk.{visited-at}
+use Rattle.topology.specs.Walk.{visited-at}
 use Rattle.processor.specs.Words.{word, put-word}
 use Rattle.choice.specs.Reads.{weight-at, priority-at, queue-load-at, skips-at, draw-word}
 use Rattle.choice.specs.Found.{begun}

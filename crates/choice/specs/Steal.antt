@@ -6,13 +6,13 @@ use mathlib.Core.Option.{Option, none, some}
 use mathlib.Core.List.{List, [], _∷_, _++_}
 use lib.Dec.{eqb}
 use Rattle.rules.specs.State.{join-all}
-use Rattle.rules.specs.Line.{both}
+use Rattle.rules.specs.Laws.Line.{both}
 use Rattle.rules.specs.Times.{is-some}
 use Rattle.rules.specs.Choice.{first-that}
 use Rattle.thread.specs.declared.time.OptionCpu.{OptionCpu}
 use Rattle.thread.specs.Reads.{named}
-use Rattle.nodes.specs.Words.{word}
-use Rattle.nodes.specs.Walk.{those-from, to-root, those-turn, those-end, root-turn}
+use Rattle.topology.specs.Words.{word}
+use Rattle.topology.specs.Walk.{those-from, to-root, those-turn, those-end, root-turn}
 use Rattle.choice.specs.Reads.{as-cpu, named-as}
 
 module _ (donor : ℕ → Bool) where

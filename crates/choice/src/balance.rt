@@ -5,22 +5,22 @@ ghost use mathlib.Core.Bool.{_&&_};
 ghost use Rattle.rules.specs.Choice as rule;
 ghost use Rattle.rules.specs.Choice.{extremes, choose-cpu-balance};
 ghost use Rattle.topology.specs.CpuSet as set;
-ghost use Rattle.nodes.specs.Node.{contains-at};
-ghost use Rattle.nodes.specs.Walk.{those-from, cpus-at};
+ghost use Rattle.topology.specs.Node.{contains-at};
+ghost use Rattle.topology.specs.Walk.{those-from, cpus-at};
 ghost use Rattle.choice.specs.Reads.{weight-at};
 ghost use Rattle.choice.specs.Found.{best-in};
 ghost use Rattle.choice.specs.Balance.{extremes-in, pair-in, chosen-in, raised, unraised};
 use crate::find::Best;
 use crate::find::lower;
 use crate::reads::score;
-use nodes::node::contains;
-use nodes::node::end;
-use nodes::node::first;
-use nodes::words::NodeWords;
 use processor::cpu::current_load;
 use processor::random::next_state;
 use processor::words::CpuWords;
 use topology::cpuset::CpuSet;
+use topology::node::contains;
+use topology::node::end;
+use topology::node::first;
+use topology::words::NodeWords;
 
 // The highest score, and the lowest of the CPUs that did not raise the highest.
 pub struct Extremes {

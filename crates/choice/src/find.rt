@@ -2,24 +2,24 @@
 ghost use mathlib.Core.Path.{_≡_};
 ghost use Prim.Native.Nat.{_-_};
 ghost use Rattle.rules.specs.Choice.{lower, find-cpu};
-ghost use Rattle.nodes.specs.Node.{contains-at};
-ghost use Rattle.nodes.specs.Walk.{those-from, leaf-cpus, visited-at};
+ghost use Rattle.topology.specs.Node.{contains-at};
+ghost use Rattle.topology.specs.Walk.{those-from, leaf-cpus, visited-at};
 ghost use Rattle.thread.specs.Reads.{held};
 ghost use Rattle.choice.specs.Reads.{weight-at, skips-at};
 ghost use Rattle.choice.specs.Found.{best-in, searched-in, weighed, considered, begun};
 use crate::reads::score;
 use crate::reads::skips;
-use nodes::node::NEXT;
-use nodes::node::contains;
-use nodes::node::end;
-use nodes::node::first;
-use nodes::node::has_children;
-use nodes::words::NodeWords;
-use nodes::words::word;
 use processor::cpu::current_load;
 use processor::random::next_state;
 use processor::words::CpuWords;
 use thread::priority::OptionPriority;
+use topology::node::NEXT;
+use topology::node::contains;
+use topology::node::end;
+use topology::node::first;
+use topology::node::has_children;
+use topology::words::NodeWords;
+use topology::words::word;
 
 // The CPU found so far, with its score.
 pub enum Best {

@@ -9,7 +9,6 @@ use crate::find::Best;
 use crate::find::Searched;
 use crate::find::find_cpu_from_topo;
 use crate::reads::queue_load;
-use nodes::words::NodeWords;
 use processor::cpu::current_priority;
 use processor::words::CpuWords;
 use processor::words::RAND_STATE;
@@ -19,6 +18,7 @@ use rules::Priority;
 use thread::priority::OptionPriority;
 use thread::priority::less;
 use thread::time::OptionCpu;
+use topology::words::NodeWords;
 
 // Is the CPU the one named?
 pub fn same_cpu(c: u64, avoid: OptionCpu) -> bool

@@ -4,20 +4,20 @@ ghost use mathlib.Core.Bool.{_&&_};
 ghost use Prim.Native.Nat.{_-_};
 ghost use Rattle.rules.specs.Times.{is-some};
 ghost use Rattle.rules.specs.Choice.{may-steal-from, first-that};
-ghost use Rattle.nodes.specs.Node.{contains-at};
-ghost use Rattle.nodes.specs.Walk.{those-from, cpus-at, nearest-at};
+ghost use Rattle.topology.specs.Node.{contains-at};
+ghost use Rattle.topology.specs.Walk.{those-from, cpus-at, nearest-at};
 ghost use Rattle.thread.specs.Reads.{named};
 ghost use Rattle.choice.specs.Reads.{load-at, movable-at, as-cpu};
 use crate::reads::movable;
-use nodes::node::PARENT;
-use nodes::node::contains;
-use nodes::node::end;
-use nodes::node::first;
-use nodes::words::NodeWords;
-use nodes::words::word;
 use processor::cpu::current_load;
 use processor::words::CpuWords;
 use thread::time::OptionCpu;
+use topology::node::PARENT;
+use topology::node::contains;
+use topology::node::end;
+use topology::node::first;
+use topology::words::NodeWords;
+use topology::words::word;
 
 // The running thread is counted.
 pub const STEAL_LOAD_THRESH: u64 = 2;

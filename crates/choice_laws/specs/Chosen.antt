@@ -8,7 +8,8 @@ use native.Mathlib.Nat.{mod-eq-of-lt}
 use lib.Dec.{eqb}
 use borrow.Author.Tests.{eq-eqb}
 use Rattle.rules.specs.declared.Priority.{Priority}
-use Rattle.rules.specs.Line.{has, both, has-append}
+use Rattle.rules.specs.Line.{has}
+use Rattle.rules.specs.Laws.Line.{both, has-append}
 use Rattle.rules.specs.Priority.{less}
 use Rattle.rules.specs.Times.{effective-priority, preferred-cpu}
 use Rattle.rules.specs.Queue.{load}
@@ -18,15 +19,16 @@ use Rattle.rules.specs.Choice as rule
 use Rattle.rules.specs.Choice.{Best, none-yet, best, Searched, find-cpu, first-that, may-steal-from, Extremes, extremes, choose-cpu-balance}
 use Rattle.rules.specs.Schedule as sched
 use Rattle.rules.specs.Schedule.{World, Got, with-cpu, with-draws, current-load, current-priority, movable-on, same-cpu, skips, cpu-of}
-use Rattle.rules.specs.Sound.{at-keeps, at-here}
-use Rattle.nodes.specs.Walk.{cpus-at, nearest-at}
+use Rattle.rules.specs.Laws.Sound.{at-keeps, at-here}
+use Rattle.topology.specs.Walk.{cpus-at, nearest-at}
 use Rattle.processor.specs.Words.{word}
 use Rattle.choice.specs.Reads.{load-at, weight-at, priority-at, queue-load-at, movable-at, skips-at, draw-word}
 use Rattle.choice.specs.Found.{begun}
 use Rattle.choice.specs.Select.{runs-at-once, at-once, cpu-found, accepted, search-from, search-again, search-twice, select-cpu}
-use Rattle.tree.specs.Lists.{below-has}
-use Rattle.tree.specs.Tree.{Tree, cpus-same, nearest-same, visited-same}
-use Rattle.memory.specs.Frames.{at-again}
+use Rattle.represents.specs.Laws.NumberLists.{below-has}
+use Rattle.represents.specs.Topology.{Topology-rep}
+use Rattle.represents.specs.Laws.Topology.{cpus-same, nearest-same, visited-same}
+use Rattle.represents.specs.Laws.Frames.{at-again}
 
 -- ---- what the words must say of the CPUs of a world
 
@@ -94,7 +96,7 @@ module _ (limits : Limits) (t : Topology) where
 
 -- ---- the laws
 
-module _ (limits : Limits) (t : Topology) (tick us : ℕ) (cpus nodes : List (List ℕ)) (tree : Tree limits nodes t) where
+module _ (limits : Limits) (t : Topology) (tick us : ℕ) (cpus nodes : List (List ℕ)) (tree : Topology-rep limits nodes t) where
   module _ (w : World) (shows : Choice-reads limits cpus w) where
     weights : (c : ℕ) → c < limits .cpus → weight-at cpus c ≡ current-load (w .cpus c)
     unfolding weight-at
@@ -197,7 +199,7 @@ reads-drawn limits cpus us w d s = record {
   small = λ c h. rw (kept current-load load-kept us w d c) (s .small c h);
 }
 
-module _ (limits : Limits) (t : Topology) (tick us : ℕ) (cpus nodes : List (List ℕ)) (tree : Tree limits nodes t) where
+module _ (limits : Limits) (t : Topology) (tick us : ℕ) (cpus nodes : List (List ℕ)) (tree : Topology-rep limits nodes t) where
   got-found : (b : Best) → cpu-of limits t tick us b ≡ cpu-found b
   unfolding cpu-of cpu-found
   got-found none-yet = refl

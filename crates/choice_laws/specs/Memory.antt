@@ -5,7 +5,7 @@ use mathlib.Core.Bool.{Bool}
 use mathlib.Core.Option.{Option, some}
 use mathlib.Core.List.{List}
 use native.Mathlib.Omega.{arith}
-use Rattle.rules.specs.Line.{both}
+use Rattle.rules.specs.Laws.Line.{both}
 use Rattle.rules.specs.Times.{effective-priority, preferred-cpu}
 use Rattle.rules.specs.State.{Limits, Topology}
 use Rattle.rules.specs.Topology.{cpus-of}
@@ -15,16 +15,16 @@ use Rattle.rules.specs.Schedule.{World}
 use Rattle.thread.specs.declared.Thread.{Thread}
 use Rattle.processor.specs.Words.{word, put-word}
 use Rattle.processor.specs.Word.{PLACED}
-use Rattle.memory.specs.Shows.{number-or-none, Small, Shows}
-use Rattle.memory.specs.Frames.{shows-draws}
-use Rattle.memory.specs.Numbers.{word-load, word-movable, load-shown, movable-shown, current-load-shown, current-load-most, priority-shown}
-use Rattle.nodes.specs.Walk.{cpus-at, nearest-at}
+use Rattle.represents.specs.World.{number-or-none, Small, World-rep}
+use Rattle.represents.specs.Laws.Frames.{shows-draws}
+use Rattle.represents.specs.Laws.Numbers.{word-load, word-movable, load-shown, movable-shown, current-load-shown, current-load-most, priority-shown}
+use Rattle.topology.specs.Walk.{cpus-at, nearest-at}
 use Rattle.choice.specs.Reads.{load-at, weight-at, queue-load-at, movable-at, draw-word}
 use Rattle.choice.specs.Select.{at-once, select-cpu, after-select}
-use Rattle.tree.specs.Tree.{Tree}
+use Rattle.represents.specs.Topology.{Topology-rep}
 use Rattle.choice_laws.specs.Chosen.{Choice-reads, steal-law, balance-law, drawn, select-law}
 
-module _ {limits : Limits} {topology : Topology} {known active : ℕ → Bool} {ts : List Thread} {cs : List (List ℕ)} {w : World} (shows : Shows limits topology known active ts cs w)
+module _ {limits : Limits} {topology : Topology} {known active : ℕ → Bool} {ts : List Thread} {cs : List (List ℕ)} {w : World} (shows : World-rep limits topology known active ts cs w)
     (small : Small limits) where
   -- WHAT A CHOICE READS IS THE WORLD'S
   pub choice-reads : Choice-reads limits cs w
@@ -42,14 +42,14 @@ module _ {limits : Limits} {topology : Topology} {known active : ℕ → Bool} {
     draws-shown = shows .words us us-in .draw-state
 
     -- ITS DRAW STATE WRITTEN
-    pub shows-drawn : (d : ℕ) → Shows limits topology known active ts (put-word cs us draw-word d) (drawn us w d)
+    pub shows-drawn : (d : ℕ) → World-rep limits topology known active ts (put-word cs us draw-word d) (drawn us w d)
     unfolding drawn
     shows-drawn d = shows-draws shows us us-in d
 
     -- `select_cpu`: THE CPU THAT THE RULES CHOOSE, AND MEMORY THAT SHOWS THE WORLD AFTER IT
-    pub select-memory : (nodes : List (List ℕ)) → Tree limits nodes topology → (tick x : ℕ) (avoid : Option ℕ) → ((c : ℕ) → preferred-cpu (w .threads x) ≡ some c → c < limits .cpus)
+    pub select-memory : (nodes : List (List ℕ)) → Topology-rep limits nodes topology → (tick x : ℕ) (avoid : Option ℕ) → ((c : ℕ) → preferred-cpu (w .threads x) ≡ some c → c < limits .cpus)
         → (sched.select-cpu limits topology tick us w x avoid .got ≡ select-cpu cs nodes us (limits .cpus) (preferred-cpu (w .threads x)) (effective-priority (w .threads x)) avoid)
-        × Shows limits topology known active ts (after-select cs nodes us (limits .cpus) (preferred-cpu (w .threads x)) (effective-priority (w .threads x)) avoid)
+        × World-rep limits topology known active ts (after-select cs nodes us (limits .cpus) (preferred-cpu (w .threads x)) (effective-priority (w .threads x)) avoid)
         (sched.select-cpu limits topology tick us w x avoid .world)
     unfolding after-select
     select-memory nodes tree tick x avoid h =
@@ -57,7 +57,7 @@ module _ {limits : Limits} {topology : Topology} {known active : ℕ → Bool} {
         (refl, both (at-once cs (effective-priority (w .threads x)) avoid (preferred-cpu (w .threads x))) (λ e. rw e shows) (λ e. rw e (shows-drawn _)))
 
     -- THE CPU FROM WHICH THE RULES STEAL, from the node on which CPU us was put
-    pub steal-memory : (nodes : List (List ℕ)) → Tree limits nodes topology → (tick m : ℕ) → topology .placed us ≡ some m
+    pub steal-memory : (nodes : List (List ℕ)) → Topology-rep limits nodes topology → (tick m : ℕ) → topology .placed us ≡ some m
         → first-that (may-steal-from us (load-at cs) (movable-at cs)) (nearest-at nodes (limits .cpus) (word cs us PLACED)) ≡ sched.choose-cpu-steal-via-topo limits topology tick us w
     unfolding number-or-none
     steal-memory nodes tree tick m e =
@@ -65,7 +65,7 @@ module _ {limits : Limits} {topology : Topology} {known active : ℕ → Bool} {
         ∙ steal-law limits topology tick us cs nodes tree w choice-reads m e
 
     -- THE DONOR AND THE RECIPIENT THAT THE RULES CHOOSE, where the same CPUs are allowed
-    pub balance-memory : (nodes : List (List ℕ)) → Tree limits nodes topology → (allowed allowed′ : ℕ → Bool) → ((c : ℕ) → c < limits .cpus → allowed c ≡ allowed′ c)
+    pub balance-memory : (nodes : List (List ℕ)) → Topology-rep limits nodes topology → (allowed allowed′ : ℕ → Bool) → ((c : ℕ) → c < limits .cpus → allowed c ≡ allowed′ c)
         → choose-cpu-balance us allowed (weight-at cs) (cpus-at nodes (limits .cpus) 0) (word cs us draw-word)
         ≡ choose-cpu-balance us allowed′ (λ c. sched.current-load (w .cpus c)) (cpus-of limits topology 0) (w .cpus us .draw-state)
     balance-memory nodes tree allowed allowed′ h =

@@ -4,7 +4,7 @@ use mathlib.Core.List.{List}
 use Prim.Native.Nat.{ℕ}
 use denote.Ref.{now}
 use Rattle.thread.specs.declared.Thread.{Thread}
-use Rattle.lent.specs.Left.{Words, Memory, Left, Slice}
+use Rattle.records.specs.Left.{Words, Memory, Left, Slice}
 
 pub record Lent : Type 0 where
   pub threads : List Thread
@@ -12,8 +12,8 @@ pub record Lent : Type 0 where
   pub nodes : Words
 
 -- what the scheduler changes of it
-abbrev pub memoryOf : Lent → Memory
-memoryOf w = record { threads = w .threads; cpus = w .cpus }
+abbrev pub memory-of : Lent → Memory
+memory-of w = record { threads = w .threads; cpus = w .cpus }
 
 -- the function answers r and leaves all three slices as f says
 abbrev pub leaves-all : {A : Type 0} → (Lent → Left A Lent) → A → Slice Thread → Slice (List ℕ) → Slice (List ℕ) → Type 0

@@ -1,14 +1,11 @@
 // The commands after the seal, and the command of any bytes.
 ghost use mathlib.Core.Path.{_≡_};
 ghost use lib.ListN.{length};
-ghost use Rattle.lent.specs.Left.{leaves, leaves-one, leaves-over};
+ghost use Rattle.records.specs.Left.{leaves, leaves-one, leaves-over};
 ghost use Rattle.command.specs.Lent.{leaves-all};
 ghost use Rattle.outcome.specs.Answer.{changed, ran};
 ghost use Rattle.outcome.specs.Call.{ticked};
-ghost use Rattle.command.specs.Command.{thread-in, declareThread, scheduleThreadDef, scheduleCommand, hardtickCommand, stattickDef, reschedDef, maybePreemptDef, donateDef, removeDonation, criticalDef, obeyDef, answeredDef, commandDef};
-use lent::records::get;
-use lent::records::set;
-use nodes::words::NodeWords;
+ghost use Rattle.command.specs.Command.{thread-in, declare-thread-command, schedule-thread-command, schedule-command, hardtick-command, stattick-command, resched-command, maybe-preempt-command, donate-command, remove-donation-command, set-critical-command, obey-def, answered-def, command-def};
 use outcome::answer::Answered;
 use outcome::answer::changed;
 use outcome::answer::ran;
@@ -25,6 +22,8 @@ use outcome::call::ticked;
 use outcome::prepare::prepare;
 use processor::words::CpuWords;
 use questions::state::State;
+use records::record::get;
+use records::record::set;
 use request::Reading;
 use sched::preempt::schedule_maybe_preempt;
 use sched::schedule::schedule;
@@ -34,6 +33,7 @@ use sched_ticks::balance::schedule_stattick;
 use sched_ticks::ticks::schedule_hardtick;
 use sched_ticks::ticks::schedule_resched;
 use thread::Thread;
+use topology::words::NodeWords;
 
 // A command that shows nothing.
 fn done(state: State, call: Call) -> Answered
@@ -65,7 +65,7 @@ fn set_tick(state: State, call: Call) -> Answered
 }
 
 pub fn declare_thread(threads: &mut [Thread], state: State, call: Call) -> Answered
-    ensures { λ r. ⌜ leaves-one (declareThread state call) r threads ⌝ }
+    ensures { λ r. ⌜ leaves-one (declare-thread-command state call) r threads ⌝ }
 {
     let x = call.thread;
     let t = thread_in(call);
@@ -81,7 +81,7 @@ pub fn schedule_thread(
     state: State,
     call: Call,
 ) -> Answered
-    ensures { λ r. ⌜ leaves-over (scheduleThreadDef state call) r threads cpus nodes ⌝ }
+    ensures { λ r. ⌜ leaves-over (schedule-thread-command state call) r threads cpus nodes ⌝ }
 {
     let k = context_of(state, call);
     let x = call.thread;
@@ -99,7 +99,7 @@ pub fn schedule_on(
     state: State,
     call: Call,
 ) -> Answered
-    ensures { λ r. ⌜ leaves-over (scheduleCommand state call) r threads cpus nodes ⌝ }
+    ensures { λ r. ⌜ leaves-over (schedule-command state call) r threads cpus nodes ⌝ }
 {
     let k = context_of(state, call);
     let flags = flags_in(call);
@@ -108,7 +108,7 @@ pub fn schedule_on(
 }
 
 pub fn hardtick(threads: &mut [Thread], cpus: &mut [CpuWords], state: State, call: Call) -> Answered
-    ensures { λ r. ⌜ leaves (hardtickCommand state call) r threads cpus ⌝ }
+    ensures { λ r. ⌜ leaves (hardtick-command state call) r threads cpus ⌝ }
 {
     let k = context_of(state, call);
     schedule_hardtick(threads, cpus, k);
@@ -122,7 +122,7 @@ pub fn stattick(
     state: State,
     call: Call,
 ) -> Answered
-    ensures { λ r. ⌜ leaves-over (stattickDef state call) r threads cpus nodes ⌝ }
+    ensures { λ r. ⌜ leaves-over (stattick-command state call) r threads cpus nodes ⌝ }
 {
     let k = context_of(state, call);
     let dt = call.number;
@@ -131,7 +131,7 @@ pub fn stattick(
 }
 
 pub fn resched(threads: &[Thread], cpus: &mut [CpuWords], state: State, call: Call) -> Answered
-    ensures { λ r. ⌜ leaves-one (reschedDef state call (now (threads .entry))) r cpus ⌝ }
+    ensures { λ r. ⌜ leaves-one (resched-command state call (now (threads .entry))) r cpus ⌝ }
 {
     let us = call.cpu;
     schedule_resched(threads, cpus, us);
@@ -145,7 +145,7 @@ pub fn maybe_preempt(
     state: State,
     call: Call,
 ) -> Answered
-    ensures { λ r. ⌜ leaves-over (maybePreemptDef state call) r threads cpus nodes ⌝ }
+    ensures { λ r. ⌜ leaves-over (maybe-preempt-command state call) r threads cpus nodes ⌝ }
 {
     let k = context_of(state, call);
     let w = schedule_maybe_preempt(threads, cpus, nodes, k, 0);
@@ -153,7 +153,7 @@ pub fn maybe_preempt(
 }
 
 pub fn donate(threads: &mut [Thread], cpus: &[CpuWords], state: State, call: Call) -> Answered
-    ensures { λ r. ⌜ leaves-one (donateDef state call (now (cpus .entry))) r threads ⌝ }
+    ensures { λ r. ⌜ leaves-one (donate-command state call (now (cpus .entry))) r threads ⌝ }
 {
     let us = call.cpu;
     let x = call.thread;
@@ -163,7 +163,7 @@ pub fn donate(threads: &mut [Thread], cpus: &[CpuWords], state: State, call: Cal
 }
 
 pub fn remove_donation(threads: &mut [Thread], state: State, call: Call) -> Answered
-    ensures { λ r. ⌜ leaves-one (removeDonation state call) r threads ⌝ }
+    ensures { λ r. ⌜ leaves-one (remove-donation-command state call) r threads ⌝ }
 {
     let x = call.thread;
     remove_donated_priority(threads, x);
@@ -171,7 +171,7 @@ pub fn remove_donation(threads: &mut [Thread], state: State, call: Call) -> Answ
 }
 
 pub fn set_critical(threads: &mut [Thread], state: State, call: Call) -> Answered
-    ensures { λ r. ⌜ leaves-one (criticalDef state call) r threads ⌝ }
+    ensures { λ r. ⌜ leaves-one (set-critical-command state call) r threads ⌝ }
 {
     let x = call.thread;
     let mark = call.number;
@@ -187,7 +187,7 @@ pub fn obey(
     state: State,
     call: Call,
 ) -> Answered
-    ensures { λ r. ⌜ leaves-all (obeyDef state call) r threads cpus nodes ⌝ }
+    ensures { λ r. ⌜ leaves-all (obey-def state call) r threads cpus nodes ⌝ }
 {
     let kind = call.kind;
     if kind <= 4 {
@@ -234,7 +234,7 @@ pub fn command_read(
     state: State,
     reading: Reading,
 ) -> Answered
-    ensures { λ r. ⌜ leaves-all (answeredDef state reading) r threads cpus nodes ⌝ }
+    ensures { λ r. ⌜ leaves-all (answered-def state reading) r threads cpus nodes ⌝ }
 {
     let call = call_of(reading);
     let x = call.thread;
@@ -255,7 +255,7 @@ pub fn command(
     bytes: &[u8],
     state: State,
 ) -> Answered
-    ensures { λ r. ⌜ leaves-all (commandDef (length (now (bytes .entry))) 0 state (now (bytes .entry))) r threads cpus nodes ⌝ }
+    ensures { λ r. ⌜ leaves-all (command-def (length (now (bytes .entry))) 0 state (now (bytes .entry))) r threads cpus nodes ⌝ }
 {
     let n = bytes.len();
     let wide = state.wide;

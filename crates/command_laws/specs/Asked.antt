@@ -8,8 +8,8 @@ use lib.Dec.{ltb}
 use Rattle.rules.specs.Times.{is-some}
 use Rattle.rules.specs.State.{State}
 use Rattle.rules.specs.Questions.{Question, question, first-no, sealed-now, declared, cpu-declared}
-use Rattle.rules.specs.Effect.{and-right}
-use Rattle.rules.specs.Reached.{yes, declared-in}
+use Rattle.rules.specs.Laws.Effect.{and-right}
+use Rattle.rules.specs.Laws.Reached.{yes, declared-in}
 use Rattle.sched_laws.specs.Sealed.{Sealed}
 
 pub record On (s : State) (c : ℕ) : Type 0 where

@@ -10,7 +10,7 @@ use lib.Dec.{eqb, ltb}
 use borrow.Author.Tests.{eqb-true, eqb-false, ltb-true, ltb-false}
 use Rattle.rules.specs.declared.Part.{Part}
 use Rattle.rules.specs.declared.Part.the-variants as part
-use Rattle.rules.specs.Line.{both}
+use Rattle.rules.specs.Laws.Line.{both}
 use Rattle.rules.specs.Queue.{nr-buckets, class-bucket, part-of}
 use Rattle.thread.specs.Thread.{NONE}
 use Rattle.queue.specs.declared.lists.Lists.{Lists}
@@ -18,15 +18,15 @@ use Rattle.queue.specs.declared.lists.Found.{Found}
 use Rattle.queue.specs.declared.lists.Found.the-variants as found
 use Rattle.queue.specs.declared.pq.PriorityQueue.{PriorityQueue}
 use Rattle.queue.specs.declared.timeshare.TimeshareQueue.{TimeshareQueue}
-use Rattle.queue.specs.Lists.{noLists, pushBack, unlinked, scanHeads, firstFrom}
-use Rattle.queue.specs.PriorityQueue.{noPriority, pqInsert, pqFront, pqTaken}
-use Rattle.queue.specs.Timeshare.{noTimeshare, tsBucket, slot, tsInsert, tsFront, tsTaken, tsStep, tsAdvance}
+use Rattle.queue.specs.Lists.{no-lists-def, push-back, unlinked, scan-heads, first-from}
+use Rattle.queue.specs.PriorityQueue.{no-priority, pq-insert, pq-front, pq-taken}
+use Rattle.queue.specs.Timeshare.{no-timeshare, ts-bucket, slot, ts-insert, ts-front, ts-taken, ts-step, ts-advance}
 use Rattle.runqueue.specs.declared.rq.RunQueue.{RunQueue}
 use Rattle.runqueue.specs.declared.rq.Arrival.{Arrival}
 use Rattle.runqueue.specs.declared.rq.Front.{Front}
 use Rattle.runqueue.specs.declared.rq.Front.the-variants as front
-use Rattle.runqueue.specs.RunQueue.{noRunQueue, withRealtime, withTimeshare, withIdle, advertising, counted, uncounted, rqInsertRealtime, rqInsertTimeshare, rqInsertIdle, rqInsertInto, rqInsert, firstIn, rqFrontIdle, rqFrontTimeshare, rqFrontRealtime, rqFront, rqTakenRealtime, rqRecalc, rqTakenTimeshare, rqTakenIdle, rqTakenFrom, rqTaken, rqClock, rqHardtick}
-use Rattle.processor.specs.Queue.{Eight, Eights}
+use Rattle.runqueue.specs.RunQueue.{no-run-queue, with-realtime, with-timeshare, with-idle, advertising, counted, uncounted, rq-insert-realtime, rq-insert-timeshare, rq-insert-idle, rq-insert-into, rq-insert, first-in-def, rq-front-idle, rq-front-timeshare, rq-front-realtime, rq-front, rq-taken-realtime, rq-recalc, rq-taken-timeshare, rq-taken-idle, rq-taken-from, rq-taken, rq-clock, rq-hardtick}
+use Rattle.processor.specs.Laws.Queue.{Eight, Eights}
 
 -- a link number: that of a thread, or none
 abbrev pub Link : ℕ → Type 0
@@ -34,7 +34,7 @@ Link x = 1024 ≤ x → x ≡ NONE
 
 -- ---- eight lists
 
-pub record Neat (l : Lists) : Type 0 where
+pub record Lists-in-range (l : Lists) : Type 0 where
   pub eight : Eight l
   pub heads : (b : ℕ) → Link (getD (l .heads) b 0)
   pub tails : (b : ℕ) → Link (getD (l .tails) b 0)
@@ -47,8 +47,8 @@ links-set l i v h k b =
     (λ m. rw (set-out l i v (ltb-false _ _ m)) (h b)))
     (λ e. rw (getD-set-other l i b v 0 (eqb-false b i e)) (h b))
 
-pub neat-push : (l : Lists) (b t : ℕ) → Neat l → Link t → Neat (pushBack l b t .lists) × Link (pushBack l b t .behind)
-unfolding pushBack
+pub neat-push : (l : Lists) (b t : ℕ) → Lists-in-range l → Link t → Lists-in-range (push-back l b t .lists) × Link (push-back l b t .behind)
+unfolding push-back
 neat-push l b t n k =
     both (eqb (getD (l .heads) (b % nr-buckets) 0) NONE)
     (λ e. rw e (
@@ -72,7 +72,7 @@ neat-push l b t n k =
     ))
 
 -- the head of a list has left
-pub neat-unlinked : (l : Lists) (b next : ℕ) → Neat l → Link next → Neat (unlinked l b NONE next)
+pub neat-unlinked : (l : Lists) (b next : ℕ) → Lists-in-range l → Link next → Lists-in-range (unlinked l b NONE next)
 unfolding unlinked
 neat-unlinked l b next n k = record {
   eight = record { heads-8 = length-set (l .heads) (b % nr-buckets) next ∙ n .eight .heads-8; tails-8 = n .eight .tails-8 };
@@ -86,8 +86,8 @@ links-none n b =
     (λ e. rw (getD-replicate n b NONE 0 (ltb-true _ _ e)) (λ h. refl))
     (λ e. rw (List·getD-eq-default (replicate n NONE) 0 {n = b} (rw (length-replicate n NONE) (ltb-false _ _ e))) (λ h. absurd (omega arith)))
 
-neat-none : Neat noLists
-unfolding noLists nr-buckets
+neat-none : Lists-in-range no-lists-def
+unfolding no-lists-def nr-buckets
 neat-none = record { eight = record { heads-8 = refl; tails-8 = refl }; heads = links-none 8; tails = links-none 8 }
 
 -- ---- who is found
@@ -100,74 +100,74 @@ unfoldable pub Front-link : Front → Type 0
 Front-link (front.At p b x) = Link x
 Front-link front.Nothing = Unit
 
-scan-link : (n : ℕ) (hs : List ℕ) (i k : ℕ) → ((b : ℕ) → Link (getD hs b 0)) → Found-link (scanHeads n hs i k)
-unfolding scanHeads Found-link
+scan-link : (n : ℕ) (hs : List ℕ) (i k : ℕ) → ((b : ℕ) → Link (getD hs b 0)) → Found-link (scan-heads n hs i k)
+unfolding scan-heads Found-link
 scan-link n hs i zero h = tt
 scan-link n hs i (suc k) h = both (eqb (getD hs (i % n) 0) NONE) (λ e. rw e (scan-link n hs (i + 1) k h)) (λ e. rw e (h (i % n)))
 
-first-link : (l : Lists) (from : ℕ) → Neat l → Found-link (firstFrom l from)
-unfolding firstFrom
+first-link : (l : Lists) (from : ℕ) → Lists-in-range l → Found-link (first-from l from)
+unfolding first-from
 first-link l from n = scan-link nr-buckets (l .heads) (from % nr-buckets) nr-buckets (n .heads)
 
-pq-link : (p : PriorityQueue) → Neat (p .queues) → Found-link (pqFront p)
-unfolding pqFront Found-link
+pq-link : (p : PriorityQueue) → Lists-in-range (p .queues) → Found-link (pq-front p)
+unfolding pq-front Found-link
 pq-link p n = both (eqb (p .count) 0) (λ e. rw e tt) (λ e. rw e (first-link (p .queues) 0 n))
 
-ts-link : (t : TimeshareQueue) → Neat (t .queues) → Found-link (tsFront t)
-unfolding tsFront Found-link
+ts-link : (t : TimeshareQueue) → Lists-in-range (t .queues) → Found-link (ts-front t)
+unfolding ts-front Found-link
 ts-link t n = both (eqb (t .count) 0) (λ e. rw e tt) (λ e. rw e (first-link (t .queues) (t .«take_idx») n))
 
-in-link : (p : Part) (f : Found) (later : Front) → Found-link f → Front-link later → Front-link (firstIn p f later)
-unfolding firstIn Found-link Front-link
+in-link : (p : Part) (f : Found) (later : Front) → Found-link f → Front-link later → Front-link (first-in-def p f later)
+unfolding first-in-def Found-link Front-link
 in-link p (found.At b x) later h k = h
 in-link p found.Nothing later h k = k
 
 -- ---- the run queue
 
-pub record Orderly (q : RunQueue) : Type 0 where
-  pub realtime : Neat (q .realtime .queues)
-  pub timeshare : Neat (q .timeshare .queues)
-  pub idle : Neat (q .idle .queues)
+pub record Queue-in-range (q : RunQueue) : Type 0 where
+  pub realtime : Lists-in-range (q .realtime .queues)
+  pub timeshare : Lists-in-range (q .timeshare .queues)
+  pub idle : Lists-in-range (q .idle .queues)
   pub counts : length (q .timeshare .priorities) ≡ 8
 
-pub orderly-eights : {q : RunQueue} → Orderly q → Eights q
+pub orderly-eights : {q : RunQueue} → Queue-in-range q → Eights q
 orderly-eights o = record { realtime-8 = o .realtime .eight; priorities-8 = o .counts; timeshare-8 = o .timeshare .eight; idle-8 = o .idle .eight }
 
-pub orderly-none : Orderly noRunQueue
-unfolding noRunQueue noPriority noTimeshare nr-buckets
+pub orderly-none : Queue-in-range no-run-queue
+unfolding no-run-queue no-priority no-timeshare nr-buckets
 orderly-none = record { realtime = neat-none; timeshare = neat-none; idle = neat-none; counts = refl }
 
 -- a put, and whose link is to lead to the thread
-insert-into : (p : Part) (q : RunQueue) (a : Arrival) → Orderly q → Link (a .thread) → Orderly (rqInsertInto p q a .queue) × Link (rqInsertInto p q a .behind)
-unfolding rqInsertInto rqInsertRealtime rqInsertTimeshare rqInsertIdle withRealtime withTimeshare withIdle counted pqInsert tsInsert
+insert-into : (p : Part) (q : RunQueue) (a : Arrival) → Queue-in-range q → Link (a .thread) → Queue-in-range (rq-insert-into p q a .queue) × Link (rq-insert-into p q a .behind)
+unfolding rq-insert-into rq-insert-realtime rq-insert-timeshare rq-insert-idle with-realtime with-timeshare with-idle counted pq-insert ts-insert
 insert-into part.Realtime q a o k =
     let n = neat-push (q .realtime .queues) (class-bucket (a .priority .class) (a .priority .value)) (a .thread) (o .realtime) k in
     (record { realtime = n .0; timeshare = o .timeshare; idle = o .idle; counts = o .counts }, n .1)
 insert-into part.Timeshare q a o k =
-    let n = neat-push (q .timeshare .queues) (tsBucket (q .timeshare) (a .priority .value) (a .current)) (a .thread) (o .timeshare) k in
+    let n = neat-push (q .timeshare .queues) (ts-bucket (q .timeshare) (a .priority .value) (a .current)) (a .thread) (o .timeshare) k in
     (record { realtime = o .realtime; timeshare = n .0; idle = o .idle; counts = length-set (q .timeshare .priorities) (slot (a .priority .value)) _ ∙ o .counts }, n .1)
 insert-into part.Idle q a o k =
     let n = neat-push (q .idle .queues) (class-bucket (a .priority .class) (a .priority .value)) (a .thread) (o .idle) k in
     (record { realtime = o .realtime; timeshare = o .timeshare; idle = n .0; counts = o .counts }, n .1)
 
-pub orderly-insert : (q : RunQueue) (a : Arrival) → Orderly q → Link (a .thread) → Orderly (rqInsert q a .queue) × Link (rqInsert q a .behind)
-unfolding rqInsert
+pub orderly-insert : (q : RunQueue) (a : Arrival) → Queue-in-range q → Link (a .thread) → Queue-in-range (rq-insert q a .queue) × Link (rq-insert q a .behind)
+unfolding rq-insert
 orderly-insert q a o k = insert-into (part-of (a .priority .class) (a .due)) q a o k
 
 -- a take
-pub orderly-front : (q : RunQueue) (stealing : Bool) → Orderly q → Front-link (rqFront q stealing)
-unfolding rqFront rqFrontRealtime rqFrontTimeshare rqFrontIdle Front-link
+pub orderly-front : (q : RunQueue) (stealing : Bool) → Queue-in-range q → Front-link (rq-front q stealing)
+unfolding rq-front rq-front-realtime rq-front-timeshare rq-front-idle Front-link
 orderly-front q stealing o = go stealing
   where
-    later : Front-link (rqFrontRealtime q)
+    later : Front-link (rq-front-realtime q)
     later = in-link part.Realtime _ _ (pq-link (q .realtime) (o .realtime)) (in-link part.Timeshare _ _ (ts-link (q .timeshare) (o .timeshare)) (in-link part.Idle _ _ (pq-link (q .idle) (o .idle)) tt))
 
-    go : (s : Bool) → Front-link (rqFront q s)
+    go : (s : Bool) → Front-link (rq-front q s)
     go true = both (eqb (q .movable) 0) (λ e. rw e tt) (λ e. rw e later)
     go false = later
 
-taken-from : (p : Part) (q : RunQueue) (b next v : ℕ) (pinned : Bool) → Orderly q → Link next → Orderly (rqTakenFrom p q b NONE next v pinned)
-unfolding rqTakenFrom rqTakenRealtime rqTakenTimeshare rqTakenIdle rqRecalc advertising withRealtime withTimeshare withIdle uncounted pqTaken tsTaken
+taken-from : (p : Part) (q : RunQueue) (b next v : ℕ) (pinned : Bool) → Queue-in-range q → Link next → Queue-in-range (rq-taken-from p q b NONE next v pinned)
+unfolding rq-taken-from rq-taken-realtime rq-taken-timeshare rq-taken-idle rq-recalc advertising with-realtime with-timeshare with-idle uncounted pq-taken ts-taken
 taken-from part.Realtime q b next v pinned o k =
     record { realtime = neat-unlinked (q .realtime .queues) b next (o .realtime) k; timeshare = o .timeshare; idle = o .idle; counts = o .counts }
 taken-from part.Timeshare q b next v pinned o k = record {
@@ -179,24 +179,24 @@ taken-from part.Timeshare q b next v pinned o k = record {
 taken-from part.Idle q b next v pinned o k =
     record { realtime = o .realtime; timeshare = o .timeshare; idle = neat-unlinked (q .idle .queues) b next (o .idle) k; counts = o .counts }
 
-pub orderly-taken : (q : RunQueue) (f : Front) (next v : ℕ) (pinned : Bool) → Orderly q → Link next → Orderly (rqTaken q f NONE next v pinned)
-unfolding rqTaken
+pub orderly-taken : (q : RunQueue) (f : Front) (next v : ℕ) (pinned : Bool) → Queue-in-range q → Link next → Queue-in-range (rq-taken q f NONE next v pinned)
+unfolding rq-taken
 orderly-taken q (front.At p b x) next v pinned o k = taken-from p q b next v pinned o k
 orderly-taken q front.Nothing next v pinned o k = o
 
 -- clock and hard tick
-advance-queues : (t : TimeshareQueue) (steps : ℕ) (force : Bool) → (tsAdvance t steps force .queues ≡ t .queues) × (tsAdvance t steps force .priorities ≡ t .priorities)
-unfolding tsAdvance tsStep
+advance-queues : (t : TimeshareQueue) (steps : ℕ) (force : Bool) → (ts-advance t steps force .queues ≡ t .queues) × (ts-advance t steps force .priorities ≡ t .priorities)
+unfolding ts-advance ts-step
 advance-queues t steps force =
     both (eqb (t .count) 0) (λ e. rw e (refl, refl))
     (λ e. rw e (both (eqb (t .«insert_idx») (t .«take_idx»)) (λ d. rw d (refl, refl)) (λ d. rw d (both force (λ f. rw f (refl, refl)) (λ f. rw f (refl, refl))))))
 
-pub orderly-clock : (q : RunQueue) → Orderly q → Orderly (rqClock q)
-unfolding rqClock withTimeshare
+pub orderly-clock : (q : RunQueue) → Queue-in-range q → Queue-in-range (rq-clock q)
+unfolding rq-clock with-timeshare
 orderly-clock q o =
     let e = advance-queues (q .timeshare) 1 true in
-    record { realtime = o .realtime; timeshare = subst Neat (sym (e .0)) (o .timeshare); idle = o .idle; counts = ap length (e .1) ∙ o .counts }
+    record { realtime = o .realtime; timeshare = subst Lists-in-range (sym (e .0)) (o .timeshare); idle = o .idle; counts = ap length (e .1) ∙ o .counts }
 
-pub orderly-hardtick : (q : RunQueue) (now : ℕ) → Orderly q → Orderly (rqHardtick q now .queue)
-unfolding rqHardtick
+pub orderly-hardtick : (q : RunQueue) (now : ℕ) → Queue-in-range q → Queue-in-range (rq-hardtick q now .queue)
+unfolding rq-hardtick
 orderly-hardtick q now o = record { realtime = o .realtime; timeshare = o .timeshare; idle = o .idle; counts = o .counts }

@@ -9,18 +9,19 @@ use lib.ListN.{length, getD, set, length-set, getD-replicate}
 use lib.Seq.{getD-set-same, getD-set-other, set-out}
 use lib.Dec.{eqb, ltb}
 use borrow.Author.Tests.{eqb-true, eqb-false, ltb-true, ltb-false, lt-ltb}
-use Rattle.rules.specs.Line.{has, both}
+use Rattle.rules.specs.Line.{has}
+use Rattle.rules.specs.Laws.Line.{both}
 use Rattle.rules.specs.State.{Limits, Topology}
 use Rattle.rules.specs.Topology.{nr-nodes}
 use Rattle.topology.specs.CpuSet.{max-cpu-id}
-use Rattle.nodes.specs.Words.{width, word, put-word}
-use Rattle.nodes.specs.Node.{parent, children, first, end, next, prev, sets, new-node, new-root, put-node, linked, add-child, put-cpu, set-cpu-up, set-cpu}
-use Rattle.tree.specs.Rows.{Sized}
-use Rattle.tree.specs.Links.{linked-prev, linked-prev-end}
-use Rattle.tree.specs.Order.{met-first}
-use Rattle.tree.specs.Tree.{Tree}
-use Rattle.tree.specs.Grown.{length-new}
-use Rattle.tree.specs.Placed.{put-else}
+use Rattle.topology.specs.Words.{width, word, put-word}
+use Rattle.topology.specs.Node.{parent, children, first, end, next, prev, sets, new-node, new-root, put-node, linked, add-child, put-cpu, set-cpu-up, set-cpu}
+use Rattle.represents.specs.Topology.{Sized}
+use Rattle.represents.specs.Laws.Ring.{linked-prev, linked-prev-end}
+use Rattle.represents.specs.Topology.{met-first}
+use Rattle.represents.specs.Topology.{Topology-rep}
+use Rattle.represents.specs.Laws.Grown.{length-new}
+use Rattle.represents.specs.Laws.Placed.{put-else}
 
 -- Of as many nodes as `count` says, made on rows that were found so: a row that is not made is as found, and in one that is made the words 7 to 31
 -- but the first of the set, 16, are 0.
@@ -79,7 +80,7 @@ nodes-up (suc j) ns n c h l up k =
     (λ e. let z : n ≢ 0 = eqb-false n 0 e in
     rw e (nodes-up j (put-cpu ns n c) _ c (rw (parent-stays ns n c n l) (up n (omega arith) h)) l (λ y a b. rw (parent-stays ns n c y l) (up y a b)) on))
 
-pub nodes-placed : {found : List (List ℕ)} {ns : List (List ℕ)} {limits : Limits} {t : Topology} (n c : ℕ) → Tree limits ns t → n < nr-nodes limits t → c < 64 → Nodes found (nr-nodes limits t) ns
+pub nodes-placed : {found : List (List ℕ)} {ns : List (List ℕ)} {limits : Limits} {t : Topology} (n c : ℕ) → Topology-rep limits ns t → n < nr-nodes limits t → c < 64 → Nodes found (nr-nodes limits t) ns
     → Nodes found (nr-nodes limits t) (set-cpu ns n c)
 unfolding set-cpu
 nodes-placed {ns = ns} {limits} {t} n c tree h l k =
@@ -112,7 +113,7 @@ nodes-made {found} {count} ns type p a b h sized k =
     }
 
 -- the node before another in the order of a search is one that is made
-before-made : {ns : List (List ℕ)} {limits : Limits} {t : Topology} (p : ℕ) → Tree limits ns t → p < nr-nodes limits t → word ns p prev < nr-nodes limits t
+before-made : {ns : List (List ℕ)} {limits : Limits} {t : Topology} (p : ℕ) → Topology-rep limits ns t → p < nr-nodes limits t → word ns p prev < nr-nodes limits t
 before-made {ns} {limits} {t} p tree h =
     let go : (y : ℕ) → has y (met-first limits t) ≡ true → y < nr-nodes limits t = λ y e. tree .sound .within y e in
     both (eqb p 0)
@@ -120,7 +121,7 @@ before-made {ns} {limits} {t} p tree h =
     (λ e. let z : p ≢ 0 = eqb-false p 0 e in
     linked-prev (λ n. word ns n next) (λ n. word ns n prev) (λ y. y < nr-nodes limits t) (met-first limits t) 0 0 p (tree .order-is) (tree .sound .root) go (tree .sound .all-met p (omega arith) h))
 
-pub nodes-grown : {found : List (List ℕ)} {ns : List (List ℕ)} {limits : Limits} {t : Topology} (p type : ℕ) → Tree limits ns t → p < nr-nodes limits t → nr-nodes limits t < length found → Sized found
+pub nodes-grown : {found : List (List ℕ)} {ns : List (List ℕ)} {limits : Limits} {t : Topology} (p type : ℕ) → Topology-rep limits ns t → p < nr-nodes limits t → nr-nodes limits t < length found → Sized found
     → Nodes found (nr-nodes limits t) ns → Nodes found (suc (nr-nodes limits t)) (add-child ns (nr-nodes limits t) p type)
 unfolding add-child linked
 nodes-grown {ns = ns} {limits} {t} p type tree h room sized k =

@@ -7,12 +7,12 @@ use mathlib.Core.List.{List, [], _∷_, _++_}
 use native.Mathlib.Omega.{arith}
 use lib.Dec.{leb}
 use borrow.Author.Tests.{leb-true, ltb-true}
-use Rattle.rules.specs.Line.{both}
-use Rattle.rules.specs.Effect.{and-left, and-right}
+use Rattle.rules.specs.Laws.Line.{both}
+use Rattle.rules.specs.Laws.Effect.{and-left, and-right}
 use Rattle.rules.specs.State.{State}
 use Rattle.rules.specs.Requests.{Request, declare-cpu, add-node, place-cpu, seal, declare-thread, set-tick, schedule-thread, schedule, hardtick, stattick, resched, maybe-preempt, donate, remove-donation, set-critical, Reading, unknown, cut-short, asks}
 use Rattle.rules.specs.Questions.{Question, question, first-no, refusal, concerning, room, most-accepted, open-yet, sealed-now, cpu-declared, cpu-new, cpu-unplaced, pin-declared, thread-declared, thread-new, thread-blocked, priority-in-range, at-most, node-exists, parent-without-cpus, node-fits, node-childless, tick-fits, all-placed}
-use Rattle.rules.specs.Reached.{yes}
+use Rattle.rules.specs.Laws.Reached.{yes}
 
 unfoldable numbered : List Question → Bool
 numbered [] = true

@@ -3,7 +3,7 @@ use Prim.Native.Nat.{ℕ}
 use mathlib.Core.Path.{_≡_, refl}
 use mathlib.Core.List.{List}
 use lib.Dec.{eqb, leb}
-use Rattle.rules.specs.Line.{both}
+use Rattle.rules.specs.Laws.Line.{both}
 use Rattle.rules.specs.Puts.{PutOrTake}
 use Rattle.rules.specs.State as rules
 use Rattle.rules.specs.Requests.{Request, declare-cpu, add-node, place-cpu, seal, declare-thread, set-tick, schedule-thread, schedule, hardtick, stattick, resched, maybe-preempt, donate, remove-donation, set-critical, asks}
@@ -16,19 +16,19 @@ use Rattle.outcome.specs.declared.call.Call.{Call}
 use Rattle.outcome.specs.Answer.{nothing-shown, shown, changed, ran}
 use Rattle.outcome.specs.Call.{call-of}
 use Rattle.outcome.specs.Prepare.{prepares}
-use Rattle.command.specs.Command.{declareThread, scheduleThreadDef, scheduleCommand, hardtickCommand, stattickDef, reschedDef, maybePreemptDef, donateDef, removeDonation, criticalDef, by-prepared, obeyDef}
-use Rattle.question_laws.specs.Stands.{Stands}
+use Rattle.command.specs.Command.{declare-thread-command, schedule-thread-command, schedule-command, hardtick-command, stattick-command, resched-command, maybe-preempt-command, donate-command, remove-donation-command, set-critical-command, by-prepared, obey-def}
+use Rattle.represents.specs.State.{State-rep}
 use Rattle.command_laws.specs.Law.{Reachable, As-ruled}
 use Rattle.command_laws.specs.Plain.{plain-declare-cpu, plain-add-node, plain-place-cpu, plain-seal, plain-declare-thread, plain-set-tick, plain-remove-donation, plain-set-critical}
 use Rattle.command_laws.specs.Ran.{ran-schedule-thread, ran-schedule, ran-hardtick, ran-stattick, ran-resched, ran-maybe-preempt, ran-donate}
 use Rattle.command_laws.specs.Law.{lent}
 use Rattle.command.specs.Lent.{Lent}
-use Rattle.lent.specs.Left.{Left}
+use Rattle.records.specs.Left.{Left}
 use Rattle.outcome.specs.declared.answer.Answered.{Answered}
 
-pub obey-law : {H : ℕ → List PutOrTake} {ts : List Thread} {cs ns : List (List ℕ)} {a : State} {s : rules.State} → Stands ts cs ns a s → Reachable H s
-    → (r : Request) (used : ℕ) → refusal s (asks r used) ≡ 0 → As-ruled (obeyDef a (call-of r used) (lent ts cs ns)) (obeys s r)
-unfolding obeyDef call-of
+pub obey-law : {H : ℕ → List PutOrTake} {ts : List Thread} {cs ns : List (List ℕ)} {a : State} {s : rules.State} → State-rep ts cs ns a s → Reachable H s
+    → (r : Request) (used : ℕ) → refusal s (asks r used) ≡ 0 → As-ruled (obey-def a (call-of r used) (lent ts cs ns)) (obeys s r)
+unfolding obey-def call-of
 obey-law m h (declare-cpu c) used e = plain-declare-cpu m h c used e
 obey-law m h (add-node p k) used e = plain-add-node m h p k used e
 obey-law m h (place-cpu n c) used e = plain-place-cpu m h n c used e
@@ -59,8 +59,8 @@ prepares-obeyed ts cs ns a k =
     (λ t. rw t (both (eqb (k .kind) 0x03) (λ t. rw t (record { number = refl; used = refl }))
     (λ t. rw t (record { number = refl; used = refl }))))))
 
-pub obey-obeyed : (ts : List Thread) (cs ns : List (List ℕ)) (a : State) (k : Call) → Obeyed k (obeyDef a k (lent ts cs ns))
-unfolding obeyDef declareThread scheduleThreadDef scheduleCommand hardtickCommand stattickDef reschedDef maybePreemptDef donateDef removeDonation criticalDef changed ran nothing-shown shown refusal-number
+pub obey-obeyed : (ts : List Thread) (cs ns : List (List ℕ)) (a : State) (k : Call) → Obeyed k (obey-def a k (lent ts cs ns))
+unfolding obey-def declare-thread-command schedule-thread-command schedule-command hardtick-command stattick-command resched-command maybe-preempt-command donate-command remove-donation-command set-critical-command changed ran nothing-shown shown refusal-number
 obey-obeyed ts cs ns a k =
     both (leb (k .kind) 4) (λ t. rw t (prepares-obeyed ts cs ns a k))
     (λ t. rw t (both (eqb (k .kind) 0x10) (λ t. rw t (record { number = refl; used = refl }))

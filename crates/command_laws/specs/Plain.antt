@@ -13,17 +13,18 @@ use Rattle.rules.specs.Requests.{declare-cpu, add-node, place-cpu, seal, declar
 use Rattle.rules.specs.Questions.{refusal, concerning, open-yet, at-most, node-exists, parent-without-cpus, node-fits, most-accepted}
 use Rattle.rules.specs.Commands as ruled
 use Rattle.rules.specs.Commands.{obeys}
-use Rattle.rules.specs.Reached.{yes}
+use Rattle.rules.specs.Laws.Reached.{yes}
 use Rattle.thread.specs.declared.Thread.{Thread}
 use Rattle.lines.specs.Lines.{refusal-number, shown-option, running-option, answer-of}
 use Rattle.questions.specs.declared.state.State.{State}
-use Rattle.sched_queues.specs.Donate.{removeDonated, setCritical}
+use Rattle.sched_queues.specs.Donate.{remove-donated, set-critical-def}
 use Rattle.outcome.specs.Answer.{accepted, nothing-shown, changed}
 use Rattle.outcome.specs.Call.{call-of, priority-in, ticked, sealed-now, one-node-more}
 use Rattle.outcome.specs.Prepare.{prepares}
-use Rattle.command.specs.Command.{declareThread, removeDonation, criticalDef, obeyDef}
-use Rattle.question_laws.specs.Stands.{limits-in, Stands}
-use Rattle.question_laws.specs.Changes.{Counted, stands-declare-cpu, stands-add-node, stands-place-cpu, stands-seal, stands-declare-thread, stands-set-tick, stands-remove-donation, stands-set-critical}
+use Rattle.command.specs.Command.{declare-thread-command, remove-donation-command, set-critical-command, obey-def}
+use Rattle.represents.specs.State.{limits-in, State-rep}
+use Rattle.represents.specs.Laws.State.{Counted}
+use Rattle.question_laws.specs.Changes.{stands-declare-cpu, stands-add-node, stands-place-cpu, stands-seal, stands-declare-thread, stands-set-tick, stands-remove-donation, stands-set-critical}
 use Rattle.command_laws.specs.Law.{Reachable, As-ruled}
 use Rattle.command_laws.specs.Numbers.{few-accepted}
 -- one command more does not wrap
@@ -33,7 +34,7 @@ pub one-more : (n : ℕ) → n < most-accepted → (n + 1) % 2 ^ 64 ≡ n + 1
 unfolding most-accepted
 one-more n h = omega arith
 
-module _ {H : ℕ → List PutOrTake} {ts : List Thread} {cs ns : List (List ℕ)} {a : State} {s : rules.State} (m : Stands ts cs ns a s) (reachable : Reachable H s) where
+module _ {H : ℕ → List PutOrTake} {ts : List Thread} {cs ns : List (List ℕ)} {a : State} {s : rules.State} (m : State-rep ts cs ns a s) (reachable : Reachable H s) where
   accepted-one : s .accepted < most-accepted → (a .accepted + 1) % 2 ^ 64 ≡ a .accepted + 1
   accepted-one h = one-more (a .accepted) (subst (λ (n : ℕ). n < most-accepted) (sym (m .accepted)) h)
 
@@ -42,8 +43,8 @@ module _ {H : ℕ → List PutOrTake} {ts : List Thread} {cs ns : List (List ℕ
   counted h = record { limits-stay = refl; sealed-is = m .sealed; tick-is = m .tick; count-is = m .node-count; accepted-is = accepted-one h }
 
   -- 01
-  pub plain-declare-cpu : (c used : ℕ) → refusal s (asks (declare-cpu c) used) ≡ 0 → As-ruled (obeyDef a (call-of (declare-cpu c) used) (lent ts cs ns)) (obeys s (declare-cpu c))
-  unfolding obeyDef prepares call-of changed nothing-shown answer-of refusal-number shown-option running-option obeys ruled.changed ruled.nothing-shown
+  pub plain-declare-cpu : (c used : ℕ) → refusal s (asks (declare-cpu c) used) ≡ 0 → As-ruled (obey-def a (call-of (declare-cpu c) used) (lent ts cs ns)) (obeys s (declare-cpu c))
+  unfolding obey-def prepares call-of changed nothing-shown answer-of refusal-number shown-option running-option obeys ruled.changed ruled.nothing-shown
   plain-declare-cpu c used e = record {
     stands = stands-declare-cpu m (reachable .reached) c used (accepted a) (counted (few-accepted s (declare-cpu c) used e)) e;
     answer = refl;
@@ -67,16 +68,16 @@ module _ {H : ℕ → List PutOrTake} {ts : List Thread} {cs ns : List (List ℕ
     accepted-is = accepted-one h;
   }
 
-  pub plain-add-node : (p k used : ℕ) → refusal s (asks (add-node p k) used) ≡ 0 → As-ruled (obeyDef a (call-of (add-node p k) used) (lent ts cs ns)) (obeys s (add-node p k))
-  unfolding obeyDef prepares call-of changed nothing-shown answer-of refusal-number shown-option running-option obeys ruled.changed ruled.nothing-shown
+  pub plain-add-node : (p k used : ℕ) → refusal s (asks (add-node p k) used) ≡ 0 → As-ruled (obey-def a (call-of (add-node p k) used) (lent ts cs ns)) (obeys s (add-node p k))
+  unfolding obey-def prepares call-of changed nothing-shown answer-of refusal-number shown-option running-option obeys ruled.changed ruled.nothing-shown
   plain-add-node p k used e = record {
     stands = stands-add-node m (reachable .reached) p k used (accepted (one-node-more a)) (counted-node (few-accepted s (add-node p k) used e) (node-more p k used e)) e;
     answer = refl;
   }
 
   -- 03
-  pub plain-place-cpu : (n c used : ℕ) → refusal s (asks (place-cpu n c) used) ≡ 0 → As-ruled (obeyDef a (call-of (place-cpu n c) used) (lent ts cs ns)) (obeys s (place-cpu n c))
-  unfolding obeyDef prepares call-of changed nothing-shown answer-of refusal-number shown-option running-option obeys ruled.changed ruled.nothing-shown
+  pub plain-place-cpu : (n c used : ℕ) → refusal s (asks (place-cpu n c) used) ≡ 0 → As-ruled (obey-def a (call-of (place-cpu n c) used) (lent ts cs ns)) (obeys s (place-cpu n c))
+  unfolding obey-def prepares call-of changed nothing-shown answer-of refusal-number shown-option running-option obeys ruled.changed ruled.nothing-shown
   plain-place-cpu n c used e = record {
     stands = stands-place-cpu m (reachable .reached) n c used (accepted a) (counted (few-accepted s (place-cpu n c) used e)) e;
     answer = refl;
@@ -87,8 +88,8 @@ module _ {H : ℕ → List PutOrTake} {ts : List Thread} {cs ns : List (List ℕ
   unfolding accepted sealed-now limits-in
   counted-seal h = record { limits-stay = refl; sealed-is = refl; tick-is = m .tick; count-is = m .node-count; accepted-is = accepted-one h }
 
-  pub plain-seal : (used : ℕ) → refusal s (asks seal used) ≡ 0 → As-ruled (obeyDef a (call-of seal used) (lent ts cs ns)) (obeys s seal)
-  unfolding obeyDef prepares call-of changed nothing-shown answer-of refusal-number shown-option running-option obeys ruled.changed ruled.nothing-shown
+  pub plain-seal : (used : ℕ) → refusal s (asks seal used) ≡ 0 → As-ruled (obey-def a (call-of seal used) (lent ts cs ns)) (obeys s seal)
+  unfolding obey-def prepares call-of changed nothing-shown answer-of refusal-number shown-option running-option obeys ruled.changed ruled.nothing-shown
   plain-seal used e = record {
     stands = stands-seal m (reachable .reached) used (accepted (sealed-now a)) (counted-seal (few-accepted s seal used e)) e;
     answer = refl;
@@ -96,8 +97,8 @@ module _ {H : ℕ → List PutOrTake} {ts : List Thread} {cs ns : List (List ℕ
 
   -- 10
   pub plain-declare-thread : (x k v : ℕ) (pin : Option ℕ) (used : ℕ) → refusal s (asks (declare-thread x k v pin) used) ≡ 0
-      → As-ruled (obeyDef a (call-of (declare-thread x k v pin) used) (lent ts cs ns)) (obeys s (declare-thread x k v pin))
-  unfolding obeyDef declareThread call-of priority-in changed nothing-shown answer-of refusal-number shown-option running-option obeys ruled.changed ruled.nothing-shown
+      → As-ruled (obey-def a (call-of (declare-thread x k v pin) used) (lent ts cs ns)) (obeys s (declare-thread x k v pin))
+  unfolding obey-def declare-thread-command call-of priority-in changed nothing-shown answer-of refusal-number shown-option running-option obeys ruled.changed ruled.nothing-shown
   plain-declare-thread x k v pin used e = record {
     stands = stands-declare-thread m (reachable .reached) x k v used pin (accepted a) (counted (few-accepted s (declare-thread x k v pin) used e)) e;
     answer = refl;
@@ -108,24 +109,24 @@ module _ {H : ℕ → List PutOrTake} {ts : List Thread} {cs ns : List (List ℕ
   unfolding accepted ticked limits-in
   counted-tick t h = record { limits-stay = refl; sealed-is = m .sealed; tick-is = refl; count-is = m .node-count; accepted-is = accepted-one h }
 
-  pub plain-set-tick : (t used : ℕ) → refusal s (asks (set-tick t) used) ≡ 0 → As-ruled (obeyDef a (call-of (set-tick t) used) (lent ts cs ns)) (obeys s (set-tick t))
-  unfolding obeyDef call-of changed nothing-shown answer-of refusal-number shown-option running-option obeys ruled.changed ruled.nothing-shown
+  pub plain-set-tick : (t used : ℕ) → refusal s (asks (set-tick t) used) ≡ 0 → As-ruled (obey-def a (call-of (set-tick t) used) (lent ts cs ns)) (obeys s (set-tick t))
+  unfolding obey-def call-of changed nothing-shown answer-of refusal-number shown-option running-option obeys ruled.changed ruled.nothing-shown
   plain-set-tick t used e = record {
     stands = stands-set-tick m (reachable .reached) t used (accepted (ticked a t)) (counted-tick t (few-accepted s (set-tick t) used e)) e;
     answer = refl;
   }
 
   -- 19
-  pub plain-remove-donation : (x used : ℕ) → refusal s (asks (remove-donation x) used) ≡ 0 → As-ruled (obeyDef a (call-of (remove-donation x) used) (lent ts cs ns)) (obeys s (remove-donation x))
-  unfolding obeyDef removeDonation removeDonated call-of changed nothing-shown answer-of refusal-number shown-option running-option obeys ruled.changed ruled.nothing-shown
+  pub plain-remove-donation : (x used : ℕ) → refusal s (asks (remove-donation x) used) ≡ 0 → As-ruled (obey-def a (call-of (remove-donation x) used) (lent ts cs ns)) (obeys s (remove-donation x))
+  unfolding obey-def remove-donation-command remove-donated call-of changed nothing-shown answer-of refusal-number shown-option running-option obeys ruled.changed ruled.nothing-shown
   plain-remove-donation x used e = record {
     stands = stands-remove-donation m (reachable .reached) x used (accepted a) (counted (few-accepted s (remove-donation x) used e)) e;
     answer = refl;
   }
 
   -- 1A
-  pub plain-set-critical : (x k used : ℕ) → refusal s (asks (set-critical x k) used) ≡ 0 → As-ruled (obeyDef a (call-of (set-critical x k) used) (lent ts cs ns)) (obeys s (set-critical x k))
-  unfolding obeyDef criticalDef setCritical call-of changed nothing-shown answer-of refusal-number shown-option running-option obeys ruled.changed ruled.nothing-shown
+  pub plain-set-critical : (x k used : ℕ) → refusal s (asks (set-critical x k) used) ≡ 0 → As-ruled (obey-def a (call-of (set-critical x k) used) (lent ts cs ns)) (obeys s (set-critical x k))
+  unfolding obey-def set-critical-command set-critical-def call-of changed nothing-shown answer-of refusal-number shown-option running-option obeys ruled.changed ruled.nothing-shown
   plain-set-critical x k used e = record {
     stands = stands-set-critical m (reachable .reached) x k used (accepted a) (counted (few-accepted s (set-critical x k) used e)) e;
     answer = refl;

@@ -8,7 +8,7 @@ use native.Mathlib.Omega.{arith}
 use lib.Dec.{ltb}
 use borrow.Author.Tests.{ne-eqb, ltb-false}
 use Rattle.rules.specs.declared.Priority.{Priority}
-use Rattle.rules.specs.Line.{both}
+use Rattle.rules.specs.Laws.Line.{both}
 use Rattle.rules.specs.Priority.{nr-values, priority, class-at}
 use Rattle.rules.specs.Times.{is-some}
 use Rattle.rules.specs.Queue.{load}
@@ -21,39 +21,40 @@ use Rattle.rules.specs.Requests.{schedule-thread, schedule, hardtick, stattick,
 use Rattle.rules.specs.Questions.{refusal, concerning, thread-declared, thread-blocked, most-accepted}
 use Rattle.rules.specs.Commands as rule
 use Rattle.rules.specs.Commands.{Answer, world-of, running-of, obeys, schedules, scheduled-on}
-use Rattle.rules.specs.Sound.{Under, Sound, New}
-use Rattle.rules.specs.Steps.{nobody-but, select-cpu-selected, ok-scheduled, ok-schedule, ok-hardtick, ok-stattick, ok-resched, ok-maybe-preempt, ok-donate}
-use Rattle.rules.specs.Reached.{yes, value-below, blocked-new}
+use Rattle.rules.specs.Waits.{Under}
+use Rattle.rules.specs.Laws.Sound.{Sound, New}
+use Rattle.rules.specs.Laws.Steps.{nobody-but, select-cpu-selected, ok-scheduled, ok-schedule, ok-hardtick, ok-stattick, ok-resched, ok-maybe-preempt, ok-donate}
+use Rattle.rules.specs.Laws.Reached.{yes, value-below, blocked-new}
 use Rattle.thread.specs.declared.Thread.{Thread}
 use Rattle.thread.specs.Thread.{NONE}
 use Rattle.processor.specs.Words.{word}
 use Rattle.processor.specs.Word.{LOAD, RUNNING}
-use Rattle.memory.specs.Shows.{number-or-none, Shows, most-tick}
-use Rattle.memory.specs.Frames.{shows-alike}
-use Rattle.memory.specs.Numbers.{word-load, load-shown, running-shown}
+use Rattle.represents.specs.World.{number-or-none, World-rep, most-tick}
+use Rattle.represents.specs.Laws.Frames.{shows-alike}
+use Rattle.represents.specs.Laws.Numbers.{word-load, load-shown, running-shown}
 use Rattle.lines.specs.Lines.{refusal-number, shown-option, running-option, answer-of}
 use Rattle.topology.specs.CpuSet.{max-cpu-id}
-use Rattle.nodes.specs.Node.{lesser}
+use Rattle.topology.specs.Node.{lesser}
 use Rattle.questions.specs.declared.state.State.{State}
-use Rattle.step.specs.declared.context.Context.{Context}
-use Rattle.step.specs.declared.context.Scheduled.{Scheduled}
-use Rattle.sched.specs.Schedule.{scheduleDef, scheduleThread}
-use Rattle.sched_ticks.specs.Balance.{scheduleStattick}
-use Rattle.sched_ticks.specs.Ticks.{scheduleHardtick, scheduleResched}
-use Rattle.sched.specs.Preempt.{scheduleMaybePreempt}
-use Rattle.sched_queues.specs.Donate.{donatePriority}
+use Rattle.sched_words.specs.declared.context.Context.{Context}
+use Rattle.sched_words.specs.declared.context.Scheduled.{Scheduled}
+use Rattle.sched.specs.Schedule.{schedule-def, schedule-thread-def}
+use Rattle.sched_ticks.specs.Balance.{schedule-stattick-def}
+use Rattle.sched_ticks.specs.Ticks.{schedule-hardtick-def, schedule-resched-def}
+use Rattle.sched.specs.Preempt.{schedule-maybe-preempt-def}
+use Rattle.sched_queues.specs.Donate.{donate-priority-def}
 use Rattle.outcome.specs.Answer.{accepted, running-in, shown, ran}
 use Rattle.outcome.specs.Call.{call-of, priority-in, context-of, flags-in}
-use Rattle.command.specs.Command.{scheduledThread, scheduleThreadDef, scheduleCommand, hardtickCommand, stattickDef, reschedDef, maybePreemptDef, donateDef}
-use Rattle.sched_laws.specs.Ticked.{context}
-use Rattle.sched_laws.specs.Picks.{Settled, no-one, Ends}
-use Rattle.sched_laws.specs.Scheduled as law
-use Rattle.sched_laws.specs.Scheduled.{Leaves, shows-schedule}
+use Rattle.command.specs.Command.{scheduled-thread-def, schedule-thread-command, schedule-command, hardtick-command, stattick-command, resched-command, maybe-preempt-command, donate-command}
+use Rattle.sched_laws.specs.Hardtick.{context}
+use Rattle.sched_laws.specs.Switch.{Settled, no-one, Ends}
+use Rattle.sched_laws.specs.Schedule as law
+use Rattle.sched_laws.specs.Schedule.{Leaves, shows-schedule}
 use Rattle.sched_laws.specs.Commands.{settled-same, runs-somewhere, settled-runs, ends-runs, shows-maybe-preempt, ends-resched, ends-hardtick, woken-on, wakes, scheduled-thread}
-use Rattle.sched_laws.specs.Donates.{shows-donated, counts-donated}
-use Rattle.sched_laws.specs.Spared.{donate-running, resched-wakeups, hardtick-wakeups}
+use Rattle.sched_laws.specs.Donate.{shows-donated, counts-donated}
+use Rattle.sched_laws.specs.Frames.{donate-running, resched-wakeups, hardtick-wakeups}
 use Rattle.balance_laws.specs.Stattick.{stattick-law}
-use Rattle.question_laws.specs.Stands.{limits-in, runs, Stands}
+use Rattle.represents.specs.State.{limits-in, runs, State-rep}
 use Rattle.command_laws.specs.Law.{Reachable, As-ruled}
 use Rattle.command_laws.specs.Numbers.{few-accepted}
 use Rattle.command_laws.specs.Asked.{On, on-node}
@@ -61,7 +62,7 @@ use Rattle.command_laws.specs.Plain.{one-more}
 -- ---- the line: what a CPU runs
 use Rattle.command_laws.specs.Law.{lent}
 use Rattle.command.specs.Lent.{in-memory, in-threads, in-cpus}
-use Rattle.lent.specs.Left.{Memory, mem, Left}
+use Rattle.records.specs.Left.{Memory, mem, Left}
 
 running-same : (o : Option ℕ) → ((x : ℕ) → o ≡ some x → x < NONE) → running-option (running-in (number-or-none o)) ≡ some (running-of o)
 unfolding running-option running-in number-or-none running-of
@@ -73,7 +74,7 @@ uncut : (n : ℕ) → n ≤ max-cpu-id → lesser n max-cpu-id ≡ n
 unfolding lesser
 uncut n h = both (ltb n max-cpu-id) (λ e. rw e) (λ e. rw e (let l : max-cpu-id ≤ n = ltb-false _ _ e in omega arith))
 
-module _ {H : ℕ → List PutOrTake} {ts : List Thread} {cs ns : List (List ℕ)} {a : State} {s : rules.State} (m : Stands ts cs ns a s) (r : Reachable H s) where
+module _ {H : ℕ → List PutOrTake} {ts : List Thread} {cs ns : List (List ℕ)} {a : State} {s : rules.State} (m : State-rep ts cs ns a s) (r : Reachable H s) where
   abbrev Soundly : World → Type 0
   Soundly v = Sound (s .limits) (s .known) H nobody-but v
 
@@ -112,12 +113,12 @@ module _ {H : ℕ → List PutOrTake} {ts : List Thread} {cs ns : List (List ℕ
   -- ---- what is left: the records and words show what the rules leave
 
   shows-left : {ts′ : List Thread} {cs′ : List (List ℕ)} (v : World) (x : Answer) → Soundly v → Ends (s .limits) (s .topology) (s .known) ts′ cs′ v
-      → Shows (s .limits) (s .topology) (s .known) (runs (rule.ran s v x .state)) ts′ cs′ (world-of (rule.ran s v x .state))
+      → World-rep (s .limits) (s .topology) (s .known) (runs (rule.ran s v x .state)) ts′ cs′ (world-of (rule.ran s v x .state))
   unfolding rule.ran runs runs-on runs-somewhere world-of
   shows-left v x d e = shows-alike v _ (λ c. refl) (λ z. refl) (ends-runs (λ c y q. d .runs c y q .0) e)
 
   stands-ran : {ts′ : List Thread} {cs′ : List (List ℕ)} (v : World) (x : Answer) → s .accepted < most-accepted → Soundly v → Ends (s .limits) (s .topology) (s .known) ts′ cs′ v
-      → Stands ts′ cs′ ns (accepted a) (rule.ran s v x .state)
+      → State-rep ts′ cs′ ns (accepted a) (rule.ran s v x .state)
   unfolding rule.ran accepted limits-in
   stands-ran v x room d e = record {
     limits = m .limits;
@@ -136,7 +137,7 @@ module _ {H : ℕ → List PutOrTake} {ts : List Thread} {cs ns : List (List ℕ
 
   -- ---- what is answered
 
-  shown-same : {active : ℕ → Bool} {ts′ : List Thread} {cs′ : List (List ℕ)} (v : World) (c n : ℕ) → c < s .limits .cpus → Soundly v → Shows (s .limits) (s .topology) (s .known) active ts′ cs′ v → n ≡ v .wakeups
+  shown-same : {active : ℕ → Bool} {ts′ : List Thread} {cs′ : List (List ℕ)} (v : World) (c n : ℕ) → c < s .limits .cpus → Soundly v → World-rep (s .limits) (s .topology) (s .known) active ts′ cs′ v → n ≡ v .wakeups
       → answer-of (shown cs′ c n) ≡ rule.shown v c
   unfolding answer-of shown rule.shown refusal-number shown-option
   shown-same {cs′ = cs′} v c n near d e k =
@@ -161,22 +162,22 @@ module _ {H : ℕ → List PutOrTake} {ts : List Thread} {cs ns : List (List ℕ
     chosen = sched.select-cpu (s .limits) (s .topology) (s .tick) c w x none
 
     on-chosen : (o : Option ℕ) → chosen .got ≡ o → is-some o ≡ true → Under (s .limits .cpus) o
-        → As-ruled (in-memory (lent ts cs ns) (scheduleThreadDef a (call-of (schedule-thread c x) used) ns (mem ts cs))) (scheduled-on s c x (chosen .world) o)
-    unfolding is-some Under scheduled-on scheduleThreadDef call-of context-of
+        → As-ruled (in-memory (lent ts cs ns) (schedule-thread-command a (call-of (schedule-thread c x) used) ns (mem ts cs))) (scheduled-on s c x (chosen .world) o)
+    unfolding is-some Under scheduled-on schedule-thread-command call-of context-of
     on-chosen none e i u = absurd (false≢true i)
     on-chosen (some d) e i u =
         let new : (b : ℕ) → b < s .limits .cpus → New (s .limits) (s .known) nobody-but w b x = λ b h. blocked-new b x (r .reached) idle known h in
         let v : World = sched.schedule-thread-on-cpu (s .limits) (s .topology) (s .tick) c (chosen .world) d x in
         let same = select-cpu-selected (s .limits) (s .topology) (s .tick) c (s .known) (r .reached .numbered) H (on .near) w x none (safe .mild x) .same in
-        subst (λ (k : Context). As-ruled (in-memory (lent ts cs ns) (scheduledThread a (call-of (schedule-thread c x) used) (scheduleThread k x ns (mem ts cs)))) (rule.ran s v (rule.shown v d))) (told c)
-        (subst (λ (z : Left Scheduled Memory). As-ruled (in-memory (lent ts cs ns) (scheduledThread a (call-of (schedule-thread c x) used) z)) (rule.ran s v (rule.shown v d)))
+        subst (λ (k : Context). As-ruled (in-memory (lent ts cs ns) (scheduled-thread-def a (call-of (schedule-thread c x) used) (schedule-thread-def k x ns (mem ts cs)))) (rule.ran s v (rule.shown v d))) (told c)
+        (subst (λ (z : Left Scheduled Memory). As-ruled (in-memory (lent ts cs ns) (scheduled-thread-def a (call-of (schedule-thread c x) used) z)) (rule.ran s v (rule.shown v d)))
         (sym (scheduled-thread (s .limits) (s .topology) (s .tick) c (s .known) (r .reached .numbered) (m .small) early (on .near) H ns (m .tree) (on .node) (on .put-on) (m .shows) safe settled 0 no-wakeups few x known new d e))
         (ran-law _ v d used room u (ok-scheduled (s .limits) (s .topology) (s .tick) c (s .known) (r .reached .numbered) H (on .near) w (chosen .world) x d safe same (new d u))
         (wakes (s .limits) (s .topology) (s .tick) c (s .known) (r .reached .numbered) (m .small) early (on .near) H ns (m .tree) (on .node) (on .put-on) (m .shows) safe settled 0 no-wakeups few x known new d e u no-wakeups)))
 
   -- 12
   pub ran-schedule-thread : (c x used : ℕ) → refusal s (asks (schedule-thread c x) used) ≡ 0
-      → As-ruled (in-memory (lent ts cs ns) (scheduleThreadDef a (call-of (schedule-thread c x) used) ns (mem ts cs))) (obeys s (schedule-thread c x))
+      → As-ruled (in-memory (lent ts cs ns) (schedule-thread-command a (call-of (schedule-thread c x) used) ns (mem ts cs))) (obeys s (schedule-thread c x))
   unfolding refusal concerning thread-declared thread-blocked obeys schedules
   ran-schedule-thread c x used e =
       let there = on-node s c _ (r .sealed) e in
@@ -189,50 +190,50 @@ module _ {H : ℕ → List PutOrTake} {ts : List Thread} {cs ns : List (List ℕ
       (select-cpu-selected (s .limits) (s .topology) (s .tick) c (s .known) (r .reached .numbered) H (on .near) w x none (safe .mild x) .under)
 
   -- 13
-  pub ran-schedule : (c f used : ℕ) → refusal s (asks (schedule c f) used) ≡ 0 → As-ruled (in-memory (lent ts cs ns) (scheduleCommand a (call-of (schedule c f) used) ns (mem ts cs))) (obeys s (schedule c f))
-  unfolding refusal concerning scheduleCommand call-of context-of flags-in obeys rule.ran-on flags-of law.flags-in
+  pub ran-schedule : (c f used : ℕ) → refusal s (asks (schedule c f) used) ≡ 0 → As-ruled (in-memory (lent ts cs ns) (schedule-command a (call-of (schedule c f) used) ns (mem ts cs))) (obeys s (schedule c f))
+  unfolding refusal concerning schedule-command call-of context-of flags-in obeys rule.ran-on flags-of law.flags-in
   ran-schedule c f used e =
       let on : On s c = on-node s c _ (r .sealed) e .0 in
       let v : World = sched.schedule (s .limits) (s .topology) (s .tick) c w (flags-of f) in
       ran-law _ v c used (few-accepted s (schedule c f) used e) (on .near)
       (ok-schedule (s .limits) (s .topology) (s .tick) c (s .known) (r .reached .numbered) H (on .near) w (flags-of f) safe)
-      (subst (λ (k : Context). Leave (scheduleDef k (flags-in (call-of (schedule c f) used)) 0 ns (mem ts cs)) v) (told c)
+      (subst (λ (k : Context). Leave (schedule-def k (flags-in (call-of (schedule c f) used)) 0 ns (mem ts cs)) v) (told c)
       (shows-schedule (s .limits) (s .topology) (s .tick) c (s .known) (r .reached .numbered) (m .small) early (on .near) H ns (m .tree) (on .node) (on .put-on) (m .shows) safe settled 0 no-wakeups few
       (flags-in (call-of (schedule c f) used))))
 
   -- 14
-  pub ran-hardtick : (c used : ℕ) → refusal s (asks (hardtick c) used) ≡ 0 → As-ruled (in-memory (lent ts cs ns) (hardtickCommand a (call-of (hardtick c) used) (mem ts cs))) (obeys s (hardtick c))
-  unfolding refusal concerning hardtickCommand call-of context-of obeys rule.ran-on
+  pub ran-hardtick : (c used : ℕ) → refusal s (asks (hardtick c) used) ≡ 0 → As-ruled (in-memory (lent ts cs ns) (hardtick-command a (call-of (hardtick c) used) (mem ts cs))) (obeys s (hardtick c))
+  unfolding refusal concerning hardtick-command call-of context-of obeys rule.ran-on
   ran-hardtick c used e =
       let on : On s c = on-node s c _ (r .sealed) e .0 in
       let v : World = sched.schedule-hardtick (s .limits) (s .topology) (s .tick) c w in
       let late : w .cpus c .last-tick ≤ s .tick = unfold world-of in r .late .last c in
       ran-law _ v c used (few-accepted s (hardtick c) used e) (on .near)
       (ok-hardtick (s .limits) (s .topology) (s .tick) c (s .known) (r .reached .numbered) H (on .near) w safe)
-      (subst (λ (k : Context). Leave (record { answer = 0; memory = scheduleHardtick k (mem ts cs) }) v) (told c)
+      (subst (λ (k : Context). Leave (record { answer = 0; memory = schedule-hardtick-def k (mem ts cs) }) v) (told c)
       (record {
         ends = ends-hardtick (s .limits) (s .topology) (s .tick) c (s .known) (r .reached .numbered) (m .small) early (on .near) H ns (m .tree) (on .node) (on .put-on) (m .shows) safe settled 0 no-wakeups few late;
         counted = no-wakeups ∙ sym (hardtick-wakeups (s .limits) (s .topology) (s .tick) c w);
       }))
 
   -- 15
-  pub ran-stattick : (c n used : ℕ) → refusal s (asks (stattick c n) used) ≡ 0 → As-ruled (in-memory (lent ts cs ns) (stattickDef a (call-of (stattick c n) used) ns (mem ts cs))) (obeys s (stattick c n))
-  unfolding refusal concerning stattickDef call-of context-of obeys rule.ran-on
+  pub ran-stattick : (c n used : ℕ) → refusal s (asks (stattick c n) used) ≡ 0 → As-ruled (in-memory (lent ts cs ns) (stattick-command a (call-of (stattick c n) used) ns (mem ts cs))) (obeys s (stattick c n))
+  unfolding refusal concerning stattick-command call-of context-of obeys rule.ran-on
   ran-stattick c n used e =
       let on : On s c = on-node s c _ (r .sealed) e .0 in
       let v : World = sched.schedule-stattick (s .limits) (s .topology) (s .tick) c w n in
       ran-law _ v c used (few-accepted s (stattick c n) used e) (on .near)
       (ok-stattick (s .limits) (s .topology) (s .tick) c (s .known) (r .reached .numbered) H (on .near) w n safe)
-      (subst (λ (k : Context). Leave (scheduleStattick k n 0 ns (mem ts cs)) v) (told c)
+      (subst (λ (k : Context). Leave (schedule-stattick-def k n 0 ns (mem ts cs)) v) (told c)
       (stattick-law (s .limits) (s .topology) (s .tick) c (s .known) (r .reached .numbered) (m .small) early (on .near) H ns (m .tree) (m .shows) safe settled 0 no-wakeups few-still n))
 
   -- 16
-  pub ran-resched : (c used : ℕ) → refusal s (asks (resched c) used) ≡ 0 → As-ruled (in-cpus (lent ts cs ns) (reschedDef a (call-of (resched c) used) ts cs)) (obeys s (resched c))
-  unfolding refusal concerning reschedDef call-of obeys rule.ran-on
+  pub ran-resched : (c used : ℕ) → refusal s (asks (resched c) used) ≡ 0 → As-ruled (in-cpus (lent ts cs ns) (resched-command a (call-of (resched c) used) ts cs)) (obeys s (resched c))
+  unfolding refusal concerning resched-command call-of obeys rule.ran-on
   ran-resched c used e =
       let on : On s c = on-node s c _ (r .sealed) e .0 in
       let v : World = sched.schedule-resched (s .limits) (s .topology) (s .tick) c w in
-      ran-law (record { answer = 0; memory = mem ts (scheduleResched c ts cs) }) v c used (few-accepted s (resched c) used e) (on .near)
+      ran-law (record { answer = 0; memory = mem ts (schedule-resched-def c ts cs) }) v c used (few-accepted s (resched c) used e) (on .near)
       (ok-resched (s .limits) (s .topology) (s .tick) c (s .known) (r .reached .numbered) H (on .near) w safe)
       (record {
         ends = ends-resched (s .limits) (s .topology) (s .tick) c (s .known) (r .reached .numbered) (m .small) early (on .near) H ns (m .tree) (on .node) (on .put-on) (m .shows) safe settled 0 no-wakeups few;
@@ -240,19 +241,19 @@ module _ {H : ℕ → List PutOrTake} {ts : List Thread} {cs ns : List (List ℕ
       })
 
   -- 17
-  pub ran-maybe-preempt : (c used : ℕ) → refusal s (asks (maybe-preempt c) used) ≡ 0 → As-ruled (in-memory (lent ts cs ns) (maybePreemptDef a (call-of (maybe-preempt c) used) ns (mem ts cs))) (obeys s (maybe-preempt c))
-  unfolding refusal concerning maybePreemptDef call-of context-of obeys rule.ran-on
+  pub ran-maybe-preempt : (c used : ℕ) → refusal s (asks (maybe-preempt c) used) ≡ 0 → As-ruled (in-memory (lent ts cs ns) (maybe-preempt-command a (call-of (maybe-preempt c) used) ns (mem ts cs))) (obeys s (maybe-preempt c))
+  unfolding refusal concerning maybe-preempt-command call-of context-of obeys rule.ran-on
   ran-maybe-preempt c used e =
       let on : On s c = on-node s c _ (r .sealed) e .0 in
       let v : World = sched.schedule-maybe-preempt (s .limits) (s .topology) (s .tick) c w in
       ran-law _ v c used (few-accepted s (maybe-preempt c) used e) (on .near)
       (ok-maybe-preempt (s .limits) (s .topology) (s .tick) c (s .known) (r .reached .numbered) H (on .near) w safe)
-      (subst (λ (k : Context). Leave (scheduleMaybePreempt k 0 ns (mem ts cs)) v) (told c)
+      (subst (λ (k : Context). Leave (schedule-maybe-preempt-def k 0 ns (mem ts cs)) v) (told c)
       (shows-maybe-preempt (s .limits) (s .topology) (s .tick) c (s .known) (r .reached .numbered) (m .small) early (on .near) H ns (m .tree) (on .node) (on .put-on) (m .shows) safe settled 0 no-wakeups few))
 
   -- 18
-  pub ran-donate : (c x k v used : ℕ) → refusal s (asks (donate c x k v) used) ≡ 0 → As-ruled (in-threads (lent ts cs ns) (donateDef a (call-of (donate c x k v) used) cs ts)) (obeys s (donate c x k v))
-  unfolding refusal concerning thread-declared donateDef call-of priority-in obeys rule.ran-on
+  pub ran-donate : (c x k v used : ℕ) → refusal s (asks (donate c x k v) used) ≡ 0 → As-ruled (in-threads (lent ts cs ns) (donate-command a (call-of (donate c x k v) used) cs ts)) (obeys s (donate c x k v))
+  unfolding refusal concerning thread-declared donate-command call-of priority-in obeys rule.ran-on
   ran-donate c x k v used e =
       let there = on-node s c _ (r .sealed) e in
       let on : On s c = there .0 in
@@ -260,7 +261,7 @@ module _ {H : ℕ → List PutOrTake} {ts : List Thread} {cs ns : List (List ℕ
       let p : Priority = priority (class-at k) v in
       let low : v < nr-values = value-below k v _ (known .1) in
       let u : World = sched.donate-priority (s .limits) (s .topology) (s .tick) c w x p in
-      let d : Left ℕ (List Thread) = donatePriority c x p 0 cs ts in
+      let d : Left ℕ (List Thread) = donate-priority-def c x p 0 cs ts in
       let below : x < s .limits .threads = r .reached .numbered x (known .0) in
       ran-law (record { answer = d .answer; memory = mem (d .memory) cs }) u c used (few-accepted s (donate c x k v) used e) (on .near)
       (ok-donate (s .limits) (s .topology) (s .tick) c (s .known) (r .reached .numbered) H (on .near) w x p low safe)

@@ -18,15 +18,15 @@ use Rattle.rules.specs.Puts.{Put, PutOrTake, a-put}
 use Rattle.rules.specs.Ahead.{gone, served}
 use Rattle.rules.specs.State.{base-limits, start}
 use Rattle.rules.specs.Commands.{after-calls, history}
-use Rattle.rules.specs.Reached.{limits-kept}
+use Rattle.rules.specs.Laws.Reached.{limits-kept}
 use Rattle.rules.specs.Demand3 as rules
 use Rattle.rules.specs.Demand3.{AsDemanded}
-use Rattle.demands.specs.Calls.{Held, Ready, after, queue-in}
+use Rattle.demands.specs.Calls.{Lent-state, Ready, after, queue-in}
 use Rattle.demands.specs.Provisos.{Provided, gone-within}
-use Rattle.demands.specs.Kept.{follows-start, follows-after, queue-is}
+use Rattle.demands.specs.Laws.Kept.{follows-start, follows-after, queue-is}
 
 -- THE THEOREM: h is what `start` left when it answered Ready; for every list of calls, of any length, each on any bytes, and every CPU.
-pub demand-3 : (h : Held) → Ready h → (calls : List (List ℕ)) (c : ℕ) → c < 64 → AsDemanded 8192 (queue-in (after h calls) c) (history (start base-limits) calls c)
+pub demand-3 : (h : Lent-state) → Ready h → (calls : List (List ℕ)) (c : ℕ) → c < 64 → AsDemanded 8192 (queue-in (after h calls) c) (history (start base-limits) calls c)
 unfolding start
 demand-3 h ready calls c near =
     let f = follows-after h (start base-limits) calls (follows-start h ready) in
@@ -34,7 +34,7 @@ demand-3 h ready calls c near =
     (sym (queue-is (after h calls) (after-calls (start base-limits) calls) (limits-kept (start base-limits) calls) (f .stood) c near)) (rules.demand-3 calls c)
 
 -- The bound with the provisos as the demand words them (Provisos): a timeshare thread that was put in by p is gone once 8,192 takes after it handed out a thread.
-pub demand-3-bound : (h : Held) → Ready h → (calls : List (List ℕ)) (c : ℕ) → c < 64
+pub demand-3-bound : (h : Lent-state) → Ready h → (calls : List (List ℕ)) (c : ℕ) → c < 64
     → (pre mid post : List PutOrTake) (p : Put) → history (start base-limits) calls c ≡ pre ++ (a-put p ∷ mid) ++ post
     → p .part ≡ part.Timeshare → Provided pre p mid → 8192 ≤ served mid → gone (p .thread) mid ≡ true
 demand-3-bound h ready calls c near pre mid post p = gone-within (demand-3 h ready calls c near) pre mid post p

@@ -9,21 +9,21 @@ use lib.ListN.{length, getD}
 use Rattle.rules.specs.State as rules
 use Rattle.rules.specs.State.{base-limits, start}
 use Rattle.rules.specs.Commands.{step, after-calls}
-use Rattle.rules.specs.Reached.{limits-kept}
+use Rattle.rules.specs.Laws.Reached.{limits-kept}
 use Rattle.thread.specs.Thread.{NONE, blank}
-use Rattle.lent.specs.Left.{mem}
-use Rattle.tree.specs.Rows.{Sized}
+use Rattle.records.specs.Left.{mem}
+use Rattle.represents.specs.Topology.{Sized}
 use Rattle.command.specs.Lent.{Lent}
 use Rattle.command_laws.specs.Law.{lent, reachable-step}
-use Rattle.command_laws.specs.Tame.{Tame, Goes, goes-none, goes-then, tame-ends}
+use Rattle.command_laws.specs.InRange.{In-range, Stays-in-range, goes-none, goes-then, tame-ends}
 use Rattle.command_laws.specs.Nodes.{Nodes}
-use Rattle.command_laws.specs.Confined.{command-confined}
-use Rattle.demands.specs.Calls.{Held, Ready, call, left-by, after}
-use Rattle.demands.specs.Kept.{Follows, call-ruled, follows-start}
-use Rattle.demands.specs.Begun.{ready-begun}
+use Rattle.command_laws.specs.Written.{command-confined}
+use Rattle.demands.specs.Calls.{Lent-state, Ready, call, left-by, after}
+use Rattle.demands.specs.Laws.Kept.{Represents-reached, call-ruled, follows-start}
+use Rattle.demands.specs.Laws.Begun.{ready-begun}
 
 -- found: the memory as it was lent to `start`; h: what `start` and the calls left.
-pub record Frame (found : Lent) (h : Held) : Type 0 where
+pub record Frame (found : Lent) (h : Lent-state) : Type 0 where
   -- The slices keep their lengths, and so does every row.
   pub as-many-records : length (h .threads) ≡ length (found .threads)
   pub as-many-cpus : length (h .cpus) ≡ length (found .cpus)
@@ -49,23 +49,23 @@ pub record Frame (found : Lent) (h : Held) : Type 0 where
 
 -- ---- for the proof
 
-record Kept-free (found : List (List ℕ)) (b h : Held) : Type 0 where
-  memory : Goes (mem (b .threads) (b .cpus)) (mem (h .threads) (h .cpus))
+record Kept-free (found : List (List ℕ)) (b h : Lent-state) : Type 0 where
+  memory : Stays-in-range (mem (b .threads) (b .cpus)) (mem (h .threads) (h .cpus))
   nodes : Nodes found (h .state .«node_count») (h .nodes)
 
-free-after : (found : List (List ℕ)) → Sized found → (h : Held) (s : rules.State) (calls : List (List ℕ)) → Follows h s → s .limits ≡ base-limits → Tame (mem (h .threads) (h .cpus))
+free-after : (found : List (List ℕ)) → Sized found → (h : Lent-state) (s : rules.State) (calls : List (List ℕ)) → Represents-reached h s → s .limits ≡ base-limits → In-range (mem (h .threads) (h .cpus))
     → Nodes found (h .state .«node_count») (h .nodes) → Kept-free found h (after h calls)
 unfolding after after-calls step
 free-after found sized h s [] f base t k = record { memory = goes-none t; nodes = k }
 free-after found sized h s (bytes ∷ calls) f base t k =
     let c = command-confined (f .stood) (f .reachable) base found sized t k bytes (length bytes) 0 in
-    let g : Follows (left-by (call h bytes)) (step s bytes .state) =
+    let g : Represents-reached (left-by (call h bytes)) (step s bytes .state) =
     record { puts-and-takes = _; stood = call-ruled h bytes (f .stood) (f .reachable) .stands; reachable = reachable-step bytes (f .reachable) } in
     let r = free-after found sized (left-by (call h bytes)) (step s bytes .state) calls g (limits-kept s (bytes ∷ []) ∙ base) (c .memory .tame) (c .nodes) in
     record { memory = goes-then (c .memory) (r .memory); nodes = r .nodes }
 
 -- THE THEOREM: `start` answered Ready on the memory found, and left h; for every list of calls, of any length, each on any bytes.
-pub frame : (h : Held) (ready : Ready h) (calls : List (List ℕ)) → Frame (lent (ready .threads) (ready .cpus) (ready .nodes)) (after h calls)
+pub frame : (h : Lent-state) (ready : Ready h) (calls : List (List ℕ)) → Frame (lent (ready .threads) (ready .cpus) (ready .nodes)) (after h calls)
 frame h ready calls =
     let b = ready-begun h ready in
     let k = free-after (ready .nodes) (ready .typed .node-rows) h (start base-limits) calls (follows-start h ready) (unfold start in refl) (b .tame) (b .nodes) in

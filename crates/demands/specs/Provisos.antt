@@ -13,7 +13,7 @@ use lib.Dec.{eqb}
 use borrow.Author.Tests.{ne-eqb}
 use Rattle.rules.specs.declared.Part.{Part}
 use Rattle.rules.specs.declared.Part.the-variants as part
-use Rattle.rules.specs.Line.{both}
+use Rattle.rules.specs.Laws.Line.{both}
 use Rattle.rules.specs.Queue.{Queue}
 use Rattle.rules.specs.Puts.{Put, PutOrTake, a-put, a-take}
 use Rattle.rules.specs.Ahead.{Wait, who-waits, In, gone, served, calm-in, calm-while}

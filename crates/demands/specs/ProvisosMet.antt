@@ -12,7 +12,7 @@ use borrow.Author.Tests.{lt-ltb, eqb-true}
 use Rattle.rules.specs.declared.PriorityClass.the-variants as class
 use Rattle.rules.specs.declared.Part.{Part}
 use Rattle.rules.specs.declared.Part.the-variants as part
-use Rattle.rules.specs.Line.{both}
+use Rattle.rules.specs.Laws.Line.{both}
 use Rattle.rules.specs.Priority.{priority}
 use Rattle.rules.specs.Times.{Thread}
 use Rattle.rules.specs.Puts.{Put, PutOrTake, a-put, a-take}
@@ -20,7 +20,7 @@ use Rattle.rules.specs.Ahead.{gone, Wait, waiting, In, how-many, rank, first-bu
 use Rattle.rules.specs.State.{at, is-number, base-limits, Topology, Cpu, State, start}
 use Rattle.rules.specs.Requests.{schedule}
 use Rattle.rules.specs.Commands.{Step, obeys, step, after-calls, history}
-use Rattle.rules.specs.Computed.{computed}
+use Rattle.rules.specs.Laws.Computed.{computed}
 use Rattle.rules.specs.Witnesses.{one-cpu, comes}
 use Rattle.demands.specs.Provisos.{Arrivals, Provided}
 use Rattle.demands.specs.Demand3.{demand-3-bound}

@@ -11,15 +11,15 @@ use Rattle.rules.specs.State.{base-limits, start}
 use Rattle.rules.specs.Schedule as sched
 use Rattle.rules.specs.Schedule.{World}
 use Rattle.rules.specs.Commands.{after-calls}
-use Rattle.rules.specs.Reached.{limits-kept}
-use Rattle.sched_laws.specs.Crowd.{visited-placed}
-use Rattle.sched_laws.specs.Schedules.{select-finds}
-use Rattle.demands.specs.Calls.{Held, after}
-use Rattle.demands.specs.Kept.{Follows, follows-start, follows-after}
+use Rattle.rules.specs.Laws.Reached.{limits-kept}
+use Rattle.sched_laws.specs.Visited.{visited-placed}
+use Rattle.sched_laws.specs.DoSchedule.{select-finds}
+use Rattle.demands.specs.Calls.{Lent-state, after}
+use Rattle.demands.specs.Laws.Kept.{Represents-reached, follows-start, follows-after}
 use Rattle.demands.specs.Witness.{begun, ready}
 
 -- a search by a CPU that was put on a node
-module _ (h : Held) (s : rules.State) (f : Follows h s) (us : ℕ) (us-in : us < s .limits .cpus) (w : World) (x : ℕ) (avoid : Option ℕ) where
+module _ (h : Lent-state) (s : rules.State) (f : Represents-reached h s) (us : ℕ) (us-in : us < s .limits .cpus) (w : World) (x : ℕ) (avoid : Option ℕ) where
   placed-finds : (o : Option ℕ) → s .topology .placed us ≡ o → is-some o ≡ true → is-some (sched.select-cpu (s .limits) (s .topology) (s .tick) us w x avoid .got) ≡ true
   unfolding is-some
   placed-finds none e i = absurd (false≢true i)
@@ -33,6 +33,6 @@ pub selects : (calls : List (List ℕ)) (us : ℕ) → us < 64
 unfolding start base-limits
 selects calls us near sealed declared w x avoid =
     let s : rules.State = after-calls (start base-limits) calls in
-    let f : Follows (after begun calls) s = follows-after begun (start base-limits) calls (follows-start begun ready) in
+    let f : Represents-reached (after begun calls) s = follows-after begun (start base-limits) calls (follows-start begun ready) in
     let near-us : us < s .limits .cpus = rw (ap (λ (l : rules.Limits). l .cpus) (limits-kept (start base-limits) calls)) near in
     placed-finds (after begun calls) s f us near-us w x avoid (s .topology .placed us) refl (f .reachable .sealed .on-node sealed us near-us declared)

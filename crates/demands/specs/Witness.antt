@@ -7,11 +7,11 @@ use lib.ListN.{length, getD, replicate, length-replicate, getD-replicate}
 use Rattle.thread.specs.declared.Thread.{Thread}
 use Rattle.thread.specs.Thread.{blank}
 use Rattle.processor.specs.Words as cpu
-use Rattle.nodes.specs.Words as node
-use Rattle.tree.specs.Rows.{Sized}
+use Rattle.topology.specs.Words as node
+use Rattle.represents.specs.Topology.{Sized}
 use Rattle.command_laws.specs.Law.{lent}
-use Rattle.feed.specs.Start.{initial, noRoom, startDef}
-use Rattle.demands.specs.Calls.{Held, Ready}
+use Rattle.stream.specs.Start.{initial, no-room-def, start-def}
+use Rattle.demands.specs.Calls.{Lent-state, Ready}
 
 abbrev records : List Thread
 records = replicate 1024 blank
@@ -25,16 +25,16 @@ rows n k = replicate n (zeros k)
 row-long : (n k c : ℕ) → c < length (rows n k) → length (getD (rows n k) c []) ≡ k
 row-long n k c h = rw (getD-replicate n c (zeros k) [] (rw (length-replicate n (zeros k)) at h)) (length-replicate {A = ℕ} k 0)
 
-abbrev pub begun : Held
+abbrev pub begun : Lent-state
 begun = record {
-  threads = startDef (lent records (rows 64 cpu.width) (rows 128 node.width)) .memory .threads;
-  cpus = startDef (lent records (rows 64 cpu.width) (rows 128 node.width)) .memory .cpus;
-  nodes = startDef (lent records (rows 64 cpu.width) (rows 128 node.width)) .memory .nodes;
+  threads = start-def (lent records (rows 64 cpu.width) (rows 128 node.width)) .memory .threads;
+  cpus = start-def (lent records (rows 64 cpu.width) (rows 128 node.width)) .memory .cpus;
+  nodes = start-def (lent records (rows 64 cpu.width) (rows 128 node.width)) .memory .nodes;
   state = initial;
 }
 
 pub ready : Ready begun
-unfolding startDef noRoom Sized
+unfolding start-def no-room-def Sized
 ready = record {
   threads = records;
   cpus = rows 64 cpu.width;

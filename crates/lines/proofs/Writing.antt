@@ -10,7 +10,7 @@ use native.Mathlib.Omega.{arith}
 use native.Mathlib.Nat.{zero-min, min-zero, suc-min-suc}
 use native.Mathlib.Numerals.{add-one}
 use borrow.Author.Tests.{lt-ltb, le-ltb, le-leb, lt-leb, leb-true, leb-false, ltb-true, ltb-false}
-use Rattle.rules.specs.Line.{both}
+use Rattle.rules.specs.Laws.Line.{both}
 use Rattle.rules.specs.Commands.{Answer}
 use Rattle.rules.specs.Lines.{decimal, space, line-feed, number-or-dash, running-or-dash, line, end-word, end-line}
 use Rattle.lines.specs.declared.Rendered.the-variants as render

@@ -21,10 +21,10 @@ use Rattle.lines.specs.declared.Refusal.{Refusal}
 use Rattle.lines.specs.declared.Refusal.the-variants as refusal
 use Rattle.lines.specs.Lines.{refusal-number}
 use Rattle.topology.specs.CpuSet.{max-cpu-id}
-use Rattle.nodes.specs.Node.{lesser}
+use Rattle.topology.specs.Node.{lesser}
 use Rattle.questions.specs.declared.state.State.{State}
-use Rattle.step.specs.declared.context.Context.{Context}
-use Rattle.step.specs.declared.context.SchedFlags.{SchedFlags}
+use Rattle.sched_words.specs.declared.context.Context.{Context}
+use Rattle.sched_words.specs.declared.context.SchedFlags.{SchedFlags}
 use Rattle.outcome.specs.declared.call.Call.{Call}
 
 -- ---- the declared case of what the rules read, and of a refusal's number
@@ -70,8 +70,8 @@ refusal-back n =
     (cond (eqb n 10) refusal.TooMany refusal.SmallBuffer))))))))))
 
 -- what the bytes from `at` to below n ask
-abbrev pub askedDef : List ℕ → ℕ → ℕ → Bool → Reading
-askedDef bytes n at wide = reading-back (rules.read (limits-of wide) (drop at (take n bytes)))
+abbrev pub asked-def : List ℕ → ℕ → ℕ → Bool → Reading
+asked-def bytes n at wide = reading-back (rules.read (limits-of wide) (drop at (take n bytes)))
 
 -- ---- the numbers of a command
 

@@ -4,7 +4,7 @@ use mathlib.Core.Bool.{cond}
 use mathlib.Core.List.{List}
 use lib.Dec.{eqb}
 use Rattle.processor.specs.Words.{put-word}
-use Rattle.nodes.specs.Node.{add-child, set-cpu}
+use Rattle.topology.specs.Node.{add-child, set-cpu}
 use Rattle.questions.specs.declared.state.State.{State}
 use Rattle.processor.specs.Word.{DECLARED, PLACED}
 use Rattle.outcome.specs.declared.answer.Answered.{Answered}

@@ -5,11 +5,9 @@ ghost use lib.Dec.{eqb};
 ghost use Rattle.request.specs.Request.{pin-option, request-of, reading-of};
 ghost use Rattle.lines.specs.Lines.{refusal-number};
 ghost use Rattle.questions.specs.Questions.{refusal-in};
-ghost use Rattle.outcome.specs.Call.{askedDef, refusal-back, pin-number, call-in, call-of, call-read, priority-in, context-of, flags-in, ticked, sealed-now, one-node-more};
+ghost use Rattle.outcome.specs.Call.{asked-def, refusal-back, pin-number, call-in, call-of, call-read, priority-in, context-of, flags-in, ticked, sealed-now, one-node-more};
 use lines::Refusal;
 use lines::refusal_number;
-use nodes::node::lesser;
-use nodes::words::NodeWords;
 use processor::words::CpuWords;
 use questions::refusal::refusal_of;
 use questions::state::State;
@@ -18,12 +16,14 @@ use request::Reading;
 use request::Request;
 use request::read;
 use rules::Priority;
-use step::context::Context;
-use step::context::SchedFlags;
+use sched_words::context::Context;
+use sched_words::context::SchedFlags;
 use thread::NONE;
 use thread::Thread;
 use thread::priority::class_at;
 use topology::cpuset::MAX_CPU_ID;
+use topology::node::lesser;
+use topology::words::NodeWords;
 
 // The command byte; the CPU, thread and node that are named; a number: type, tick, flags, nanoseconds or mark; class, value and pin; and the bytes that
 // the command takes. What a command does not name is 0, a thread NONE.
@@ -41,7 +41,7 @@ pub struct Call {
 
 // What the bytes from `at` to below n ask.
 pub fn asked(bytes: &[u8], n: usize, at: usize, wide: bool) -> Reading
-    ensures { λ r. ⌜ r ≡ askedDef (now (bytes .entry)) n at wide ⌝ }
+    ensures { λ r. ⌜ r ≡ asked-def (now (bytes .entry)) n at wide ⌝ }
 {
     if n <= bytes.len() {
         return read(&bytes[..n], at, wide);

@@ -1,7 +1,7 @@
 // The commands before the seal: they change the words of CPUs and nodes alone.
 ghost use mathlib.Core.Path.{_≡_};
 ghost use Rattle.processor.specs.Words.{put-word};
-ghost use Rattle.nodes.specs.Node.{add-child, set-cpu};
+ghost use Rattle.topology.specs.Node.{add-child, set-cpu};
 ghost use Rattle.processor.specs.Word.{DECLARED, PLACED};
 ghost use Rattle.outcome.specs.Answer.{changed};
 ghost use Rattle.outcome.specs.Call.{sealed-now, one-node-more};
@@ -11,14 +11,14 @@ use crate::answer::changed;
 use crate::call::Call;
 use crate::call::one_node_more;
 use crate::call::sealed;
-use nodes::node::add_child;
-use nodes::node::set_cpu;
-use nodes::words::NodeWords;
 use processor::words::CpuWords;
 use processor::words::DECLARED;
 use processor::words::PLACED;
 use processor::words::put_word;
 use questions::state::State;
+use topology::node::add_child;
+use topology::node::set_cpu;
+use topology::words::NodeWords;
 
 fn declare_cpu(cpus: &mut [CpuWords], state: State, call: Call) -> Answered
     ensures { λ r. ⌜ (r ≡ changed state (call .used)) × (now (cpus .exit) ≡ put-word (now (cpus .entry)) (call .cpu) DECLARED 1) ⌝ }

@@ -1,7 +1,8 @@
+pub mod Cpu
+pub mod Laws
+pub mod Parts
+pub mod Queue
+pub mod Random
 pub mod Window
 pub mod Word
 pub mod Words
-pub mod Queue
-pub mod Parts
-pub mod Cpu
-pub mod Random

@@ -6,11 +6,11 @@ ghost use mathlib.Core.Bool.{_&&_};
 ghost use lib.Dec.{eqb};
 ghost use Rattle.rules.specs.declared.Part.the-variants as part;
 ghost use Rattle.thread.specs.Thread.{NONE};
-ghost use Rattle.runqueue.specs.RunQueue.{rqInsertRealtime, rqInsertTimeshare, rqInsertIdle, rqInsertInto};
-ghost use Rattle.runqueue.specs.RunQueue.{rqFrontRealtime, rqFrontTimeshare, rqFrontIdle, rqFront, rqTakenRealtime, rqTakenTimeshare, rqTakenIdle, rqTaken};
-ghost use Rattle.processor.specs.Window.{loadN, placeN};
-ghost use Rattle.processor.specs.Queue.{listsAt, listsStored, firstEight, lastTwo, builtOf, queueIn, queueInto, queueAt, queueStored};
-ghost use Rattle.processor.specs.Parts.{numbersInto, partInto, numbersStored, partStored};
+ghost use Rattle.runqueue.specs.RunQueue.{rq-insert-realtime, rq-insert-timeshare, rq-insert-idle, rq-insert-into};
+ghost use Rattle.runqueue.specs.RunQueue.{rq-front-realtime, rq-front-timeshare, rq-front-idle, rq-front, rq-taken-realtime, rq-taken-timeshare, rq-taken-idle, rq-taken};
+ghost use Rattle.processor.specs.Window.{load-n, place-n};
+ghost use Rattle.processor.specs.Queue.{lists-at, lists-stored-def, first-eight, last-two, built-of, queue-in-def, queue-into, queue-at, queue-stored};
+ghost use Rattle.processor.specs.Parts.{numbers-into, part-into, numbers-stored, part-stored};
 use crate::words::CpuWords;
 use queue::lists::Found;
 use queue::lists::Lists;
@@ -24,7 +24,7 @@ use thread::NONE;
 
 fn load(row: &CpuWords, at: usize) -> [u64; 8]
     requires { ⌜ at + 8 ≤ 96 ⌝ }
-    ensures { λ r. ⌜ r ≡ loadN (now (row .entry)) at 8 8 ⌝ }
+    ensures { λ r. ⌜ r ≡ load-n (now (row .entry)) at 8 8 ⌝ }
 {
     let mut out = [0u64; 8];
     let mut i: usize = 0;
@@ -38,7 +38,7 @@ fn load(row: &CpuWords, at: usize) -> [u64; 8]
 
 fn store(row: &mut CpuWords, at: usize, v: [u64; 8])
     requires { ⌜ at + 8 ≤ 96 ⌝ }
-    ensures { λ r. ⌜ now (row .exit) ≡ placeN (now (row .entry)) at v 8 ⌝ }
+    ensures { λ r. ⌜ now (row .exit) ≡ place-n (now (row .entry)) at v 8 ⌝ }
 {
     let mut i: usize = 0;
     while i < 8 {
@@ -51,7 +51,7 @@ fn store(row: &mut CpuWords, at: usize, v: [u64; 8])
 // First and last threads, sixteen words.
 fn load_lists(row: &CpuWords, at: usize) -> Lists
     requires { ⌜ at + 16 ≤ 96 ⌝ }
-    ensures { λ r. ⌜ r ≡ listsAt (now (row .entry)) at ⌝ }
+    ensures { λ r. ⌜ r ≡ lists-at (now (row .entry)) at ⌝ }
 {
     let heads = load(row, at);
     let tails = load(row, at + 8);
@@ -60,7 +60,7 @@ fn load_lists(row: &CpuWords, at: usize) -> Lists
 
 fn store_lists(row: &mut CpuWords, at: usize, l: Lists)
     requires { ⌜ at + 16 ≤ 96 ⌝ }
-    ensures { λ r. ⌜ now (row .exit) ≡ listsStored (now (row .entry)) at l ⌝ }
+    ensures { λ r. ⌜ now (row .exit) ≡ lists-stored-def (now (row .entry)) at l ⌝ }
 {
     let heads = l.heads;
     let tails = l.tails;
@@ -70,7 +70,7 @@ fn store_lists(row: &mut CpuWords, at: usize, l: Lists)
 
 // The ten numbers of a queue, in two arrays, and back.
 fn first_eight(q: RunQueue) -> [u64; 8]
-    ensures { λ r. ⌜ r ≡ firstEight q ⌝ }
+    ensures { λ r. ⌜ r ≡ first-eight q ⌝ }
 {
     let r = q.realtime;
     let t = q.timeshare;
@@ -88,13 +88,13 @@ fn first_eight(q: RunQueue) -> [u64; 8]
 }
 
 fn last_two(q: RunQueue) -> [u64; 8]
-    ensures { λ r. ⌜ r ≡ lastTwo q ⌝ }
+    ensures { λ r. ⌜ r ≡ last-two q ⌝ }
 {
     [q.movable, q.last_tick, 0, 0, 0, 0, 0, 0]
 }
 
 fn built(a: Lists, c: [u64; 8], d: Lists, f: Lists, s: [u64; 8], t: [u64; 8]) -> RunQueue
-    ensures { λ r. ⌜ r ≡ builtOf a c d f s t ⌝ }
+    ensures { λ r. ⌜ r ≡ built-of a c d f s t ⌝ }
 {
     let realtime = PriorityQueue {
         count: s[0],
@@ -124,7 +124,7 @@ fn built(a: Lists, c: [u64; 8], d: Lists, f: Lists, s: [u64; 8], t: [u64; 8]) ->
 }
 
 fn queue_in(row: &CpuWords) -> RunQueue
-    ensures { λ r. ⌜ r ≡ queueIn (now (row .entry)) ⌝ }
+    ensures { λ r. ⌜ r ≡ queue-in-def (now (row .entry)) ⌝ }
 {
     let a = load_lists(row, 0);
     let c = load(row, 16);
@@ -136,14 +136,14 @@ fn queue_in(row: &CpuWords) -> RunQueue
 }
 
 fn numbers_into(row: &mut CpuWords, q: RunQueue)
-    ensures { λ r. ⌜ now (row .exit) ≡ numbersInto (now (row .entry)) q ⌝ }
+    ensures { λ r. ⌜ now (row .exit) ≡ numbers-into (now (row .entry)) q ⌝ }
 {
     store(row, 56, first_eight(q));
     store(row, 64, last_two(q));
 }
 
 fn queue_into(row: &mut CpuWords, q: RunQueue)
-    ensures { λ r. ⌜ now (row .exit) ≡ queueInto (now (row .entry)) q ⌝ }
+    ensures { λ r. ⌜ now (row .exit) ≡ queue-into (now (row .entry)) q ⌝ }
 {
     let realtime = q.realtime;
     let timeshare = q.timeshare;
@@ -161,7 +161,7 @@ fn queue_into(row: &mut CpuWords, q: RunQueue)
 
 // One part, and the numbers.
 fn realtime_into(row: &mut CpuWords, q: RunQueue)
-    ensures { λ r. ⌜ now (row .exit) ≡ partInto part.Realtime (now (row .entry)) q ⌝ }
+    ensures { λ r. ⌜ now (row .exit) ≡ part-into part.Realtime (now (row .entry)) q ⌝ }
 {
     let realtime = q.realtime;
     let l = realtime.queues;
@@ -170,7 +170,7 @@ fn realtime_into(row: &mut CpuWords, q: RunQueue)
 }
 
 fn timeshare_into(row: &mut CpuWords, q: RunQueue)
-    ensures { λ r. ⌜ now (row .exit) ≡ partInto part.Timeshare (now (row .entry)) q ⌝ }
+    ensures { λ r. ⌜ now (row .exit) ≡ part-into part.Timeshare (now (row .entry)) q ⌝ }
 {
     let timeshare = q.timeshare;
     let c = timeshare.priorities;
@@ -181,7 +181,7 @@ fn timeshare_into(row: &mut CpuWords, q: RunQueue)
 }
 
 fn idle_into(row: &mut CpuWords, q: RunQueue)
-    ensures { λ r. ⌜ now (row .exit) ≡ partInto part.Idle (now (row .entry)) q ⌝ }
+    ensures { λ r. ⌜ now (row .exit) ≡ part-into part.Idle (now (row .entry)) q ⌝ }
 {
     let idle = q.idle;
     let l = idle.queues;
@@ -191,7 +191,7 @@ fn idle_into(row: &mut CpuWords, q: RunQueue)
 
 // The run queue of CPU c.
 pub fn load_queue(cpus: &[CpuWords], c: u64) -> RunQueue
-    ensures { λ r. ⌜ r ≡ queueAt (now (cpus .entry)) c ⌝ }
+    ensures { λ r. ⌜ r ≡ queue-at (now (cpus .entry)) c ⌝ }
 {
     let i = c as usize;
     if i < cpus.len() {
@@ -202,7 +202,7 @@ pub fn load_queue(cpus: &[CpuWords], c: u64) -> RunQueue
 }
 
 pub fn store_queue(cpus: &mut [CpuWords], c: u64, q: RunQueue)
-    ensures { λ r. ⌜ now (cpus .exit) ≡ queueStored (now (cpus .entry)) c q ⌝ }
+    ensures { λ r. ⌜ now (cpus .exit) ≡ queue-stored (now (cpus .entry)) c q ⌝ }
 {
     let i = c as usize;
     if i < cpus.len() {
@@ -212,7 +212,7 @@ pub fn store_queue(cpus: &mut [CpuWords], c: u64, q: RunQueue)
 
 // The numbers of a queue whose lists stand there already.
 pub fn store_numbers(cpus: &mut [CpuWords], c: u64, q: RunQueue)
-    ensures { λ r. ⌜ now (cpus .exit) ≡ numbersStored (now (cpus .entry)) c q ⌝ }
+    ensures { λ r. ⌜ now (cpus .exit) ≡ numbers-stored (now (cpus .entry)) c q ⌝ }
 {
     let i = c as usize;
     if i < cpus.len() {
@@ -221,7 +221,7 @@ pub fn store_numbers(cpus: &mut [CpuWords], c: u64, q: RunQueue)
 }
 
 fn store_realtime(cpus: &mut [CpuWords], c: u64, q: RunQueue)
-    ensures { λ r. ⌜ now (cpus .exit) ≡ partStored part.Realtime (now (cpus .entry)) c q ⌝ }
+    ensures { λ r. ⌜ now (cpus .exit) ≡ part-stored part.Realtime (now (cpus .entry)) c q ⌝ }
 {
     let i = c as usize;
     if i < cpus.len() {
@@ -230,7 +230,7 @@ fn store_realtime(cpus: &mut [CpuWords], c: u64, q: RunQueue)
 }
 
 fn store_timeshare(cpus: &mut [CpuWords], c: u64, q: RunQueue)
-    ensures { λ r. ⌜ now (cpus .exit) ≡ partStored part.Timeshare (now (cpus .entry)) c q ⌝ }
+    ensures { λ r. ⌜ now (cpus .exit) ≡ part-stored part.Timeshare (now (cpus .entry)) c q ⌝ }
 {
     let i = c as usize;
     if i < cpus.len() {
@@ -239,7 +239,7 @@ fn store_timeshare(cpus: &mut [CpuWords], c: u64, q: RunQueue)
 }
 
 fn store_idle(cpus: &mut [CpuWords], c: u64, q: RunQueue)
-    ensures { λ r. ⌜ now (cpus .exit) ≡ partStored part.Idle (now (cpus .entry)) c q ⌝ }
+    ensures { λ r. ⌜ now (cpus .exit) ≡ part-stored part.Idle (now (cpus .entry)) c q ⌝ }
 {
     let i = c as usize;
     if i < cpus.len() {
@@ -250,8 +250,8 @@ fn store_idle(cpus: &mut [CpuWords], c: u64, q: RunQueue)
 fn insert_realtime(cpus: &mut [CpuWords], c: u64, a: Arrival) -> u64
     ensures { λ r.
         ⌜
-        (r ≡ rqInsertRealtime (queueAt (now (cpus .entry)) c) a .behind)
-        × (now (cpus .exit) ≡ queueStored (now (cpus .entry)) c (rqInsertRealtime (queueAt (now (cpus .entry)) c) a .queue))
+        (r ≡ rq-insert-realtime (queue-at (now (cpus .entry)) c) a .behind)
+        × (now (cpus .exit) ≡ queue-stored (now (cpus .entry)) c (rq-insert-realtime (queue-at (now (cpus .entry)) c) a .queue))
         ⌝ }
 {
     let q = load_queue(cpus, c);
@@ -263,8 +263,8 @@ fn insert_realtime(cpus: &mut [CpuWords], c: u64, a: Arrival) -> u64
 fn insert_timeshare(cpus: &mut [CpuWords], c: u64, a: Arrival) -> u64
     ensures { λ r.
         ⌜
-        (r ≡ rqInsertTimeshare (queueAt (now (cpus .entry)) c) a .behind)
-        × (now (cpus .exit) ≡ queueStored (now (cpus .entry)) c (rqInsertTimeshare (queueAt (now (cpus .entry)) c) a .queue))
+        (r ≡ rq-insert-timeshare (queue-at (now (cpus .entry)) c) a .behind)
+        × (now (cpus .exit) ≡ queue-stored (now (cpus .entry)) c (rq-insert-timeshare (queue-at (now (cpus .entry)) c) a .queue))
         ⌝ }
 {
     let q = load_queue(cpus, c);
@@ -276,8 +276,8 @@ fn insert_timeshare(cpus: &mut [CpuWords], c: u64, a: Arrival) -> u64
 fn insert_idle(cpus: &mut [CpuWords], c: u64, a: Arrival) -> u64
     ensures { λ r.
         ⌜
-        (r ≡ rqInsertIdle (queueAt (now (cpus .entry)) c) a .behind)
-        × (now (cpus .exit) ≡ queueStored (now (cpus .entry)) c (rqInsertIdle (queueAt (now (cpus .entry)) c) a .queue))
+        (r ≡ rq-insert-idle (queue-at (now (cpus .entry)) c) a .behind)
+        × (now (cpus .exit) ≡ queue-stored (now (cpus .entry)) c (rq-insert-idle (queue-at (now (cpus .entry)) c) a .queue))
         ⌝ }
 {
     let q = load_queue(cpus, c);
@@ -290,8 +290,8 @@ fn insert_idle(cpus: &mut [CpuWords], c: u64, a: Arrival) -> u64
 pub fn insert_into(cpus: &mut [CpuWords], c: u64, a: Arrival, part: Part) -> u64
     ensures { λ r.
         ⌜
-        (r ≡ rqInsertInto part (queueAt (now (cpus .entry)) c) a .behind)
-        × (now (cpus .exit) ≡ queueStored (now (cpus .entry)) c (rqInsertInto part (queueAt (now (cpus .entry)) c) a .queue))
+        (r ≡ rq-insert-into part (queue-at (now (cpus .entry)) c) a .behind)
+        × (now (cpus .exit) ≡ queue-stored (now (cpus .entry)) c (rq-insert-into part (queue-at (now (cpus .entry)) c) a .queue))
         ⌝ }
 {
     match part {
@@ -303,14 +303,14 @@ pub fn insert_into(cpus: &mut [CpuWords], c: u64, a: Arrival, part: Part) -> u64
 
 // Who leaves next: a part is loaded only if those before it are empty.
 fn front_idle(cpus: &[CpuWords], c: u64) -> Front
-    ensures { λ r. ⌜ r ≡ rqFrontIdle (queueAt (now (cpus .entry)) c) ⌝ }
+    ensures { λ r. ⌜ r ≡ rq-front-idle (queue-at (now (cpus .entry)) c) ⌝ }
 {
     let q = load_queue(cpus, c);
     q.front_idle()
 }
 
 fn front_timeshare(cpus: &[CpuWords], c: u64) -> Front
-    ensures { λ r. ⌜ r ≡ rqFrontTimeshare (queueAt (now (cpus .entry)) c) ⌝ }
+    ensures { λ r. ⌜ r ≡ rq-front-timeshare (queue-at (now (cpus .entry)) c) ⌝ }
 {
     let q = load_queue(cpus, c);
     let part = q.timeshare;
@@ -326,7 +326,7 @@ fn front_timeshare(cpus: &[CpuWords], c: u64) -> Front
 }
 
 fn front_realtime(cpus: &[CpuWords], c: u64) -> Front
-    ensures { λ r. ⌜ r ≡ rqFrontRealtime (queueAt (now (cpus .entry)) c) ⌝ }
+    ensures { λ r. ⌜ r ≡ rq-front-realtime (queue-at (now (cpus .entry)) c) ⌝ }
 {
     let q = load_queue(cpus, c);
     let part = q.realtime;
@@ -343,7 +343,7 @@ fn front_realtime(cpus: &[CpuWords], c: u64) -> Front
 
 // Does CPU c keep what waits there? A stealing take finds nobody where all are pinned.
 fn keeps(cpus: &[CpuWords], c: u64, stealing: bool) -> bool
-    ensures { λ r. ⌜ r ≡ (stealing && eqb (queueAt (now (cpus .entry)) c .movable) 0) ⌝ }
+    ensures { λ r. ⌜ r ≡ (stealing && eqb (queue-at (now (cpus .entry)) c .movable) 0) ⌝ }
 {
     if stealing {
         let q = load_queue(cpus, c);
@@ -354,7 +354,7 @@ fn keeps(cpus: &[CpuWords], c: u64, stealing: bool) -> bool
 
 // Who leaves if a thread is asked of the queue of CPU c.
 pub fn front(cpus: &[CpuWords], c: u64, stealing: bool) -> Front
-    ensures { λ r. ⌜ r ≡ rqFront (queueAt (now (cpus .entry)) c) stealing ⌝ }
+    ensures { λ r. ⌜ r ≡ rq-front (queue-at (now (cpus .entry)) c) stealing ⌝ }
 {
     if keeps(cpus, c, stealing) {
         return Front::Nothing;
@@ -363,7 +363,7 @@ pub fn front(cpus: &[CpuWords], c: u64, stealing: bool) -> Front
 }
 
 fn taken_realtime(cpus: &mut [CpuWords], c: u64, bucket: u64, next: u64, pinned: bool)
-    ensures { λ _. ⌜ now (cpus .exit) ≡ queueStored (now (cpus .entry)) c (rqTakenRealtime (queueAt (now (cpus .entry)) c) bucket NONE next pinned) ⌝ }
+    ensures { λ _. ⌜ now (cpus .exit) ≡ queue-stored (now (cpus .entry)) c (rq-taken-realtime (queue-at (now (cpus .entry)) c) bucket NONE next pinned) ⌝ }
 {
     let q = load_queue(cpus, c);
     let left = q.taken_realtime(bucket, NONE, next, pinned);
@@ -371,7 +371,7 @@ fn taken_realtime(cpus: &mut [CpuWords], c: u64, bucket: u64, next: u64, pinned:
 }
 
 fn taken_timeshare(cpus: &mut [CpuWords], c: u64, bucket: u64, next: u64, value: u64, pinned: bool)
-    ensures { λ _. ⌜ now (cpus .exit) ≡ queueStored (now (cpus .entry)) c (rqTakenTimeshare (queueAt (now (cpus .entry)) c) bucket NONE next value pinned) ⌝ }
+    ensures { λ _. ⌜ now (cpus .exit) ≡ queue-stored (now (cpus .entry)) c (rq-taken-timeshare (queue-at (now (cpus .entry)) c) bucket NONE next value pinned) ⌝ }
 {
     let q = load_queue(cpus, c);
     let left = q.taken_timeshare(bucket, NONE, next, value, pinned);
@@ -379,7 +379,7 @@ fn taken_timeshare(cpus: &mut [CpuWords], c: u64, bucket: u64, next: u64, value:
 }
 
 fn taken_idle(cpus: &mut [CpuWords], c: u64, bucket: u64, next: u64, pinned: bool)
-    ensures { λ _. ⌜ now (cpus .exit) ≡ queueStored (now (cpus .entry)) c (rqTakenIdle (queueAt (now (cpus .entry)) c) bucket NONE next pinned) ⌝ }
+    ensures { λ _. ⌜ now (cpus .exit) ≡ queue-stored (now (cpus .entry)) c (rq-taken-idle (queue-at (now (cpus .entry)) c) bucket NONE next pinned) ⌝ }
 {
     let q = load_queue(cpus, c);
     let left = q.taken_idle(bucket, NONE, next, pinned);
@@ -388,7 +388,7 @@ fn taken_idle(cpus: &mut [CpuWords], c: u64, bucket: u64, next: u64, pinned: boo
 
 // Nobody has left.
 fn taken_none(cpus: &mut [CpuWords], c: u64)
-    ensures { λ _. ⌜ now (cpus .exit) ≡ queueStored (now (cpus .entry)) c (queueAt (now (cpus .entry)) c) ⌝ }
+    ensures { λ _. ⌜ now (cpus .exit) ≡ queue-stored (now (cpus .entry)) c (queue-at (now (cpus .entry)) c) ⌝ }
 {
     let q = load_queue(cpus, c);
     store_numbers(cpus, c, q);
@@ -396,7 +396,7 @@ fn taken_none(cpus: &mut [CpuWords], c: u64)
 
 // The thread that `front` answered, the first of its list, has left: its link was `next`, its value when it was put in `value`.
 pub fn taken_front(cpus: &mut [CpuWords], c: u64, front: Front, next: u64, value: u64, pinned: bool)
-    ensures { λ _. ⌜ now (cpus .exit) ≡ queueStored (now (cpus .entry)) c (rqTaken (queueAt (now (cpus .entry)) c) front NONE next value pinned) ⌝ }
+    ensures { λ _. ⌜ now (cpus .exit) ≡ queue-stored (now (cpus .entry)) c (rq-taken (queue-at (now (cpus .entry)) c) front NONE next value pinned) ⌝ }
 {
     match front {
         Front::At {

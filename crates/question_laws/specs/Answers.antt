@@ -9,7 +9,8 @@ use native.Mathlib.Omega.{arith}
 use lib.ListN.{length}
 use lib.Dec.{eqb, ltb, leb}
 use borrow.Author.Tests.{ne-eqb, lt-ltb, lt-leb, ltb-true}
-use Rattle.rules.specs.Line.{has, both}
+use Rattle.rules.specs.Line.{has}
+use Rattle.rules.specs.Laws.Line.{both}
 use Rattle.rules.specs.Times.{is-some}
 use Rattle.rules.specs.Queue.{order}
 use Rattle.rules.specs.Puts.{PutOrTake}
@@ -20,8 +21,8 @@ use Rattle.rules.specs.Requests.{Request, declare-cpu, add-node, place-cpu, sea
 use Rattle.rules.specs.Questions as rules-ask
 use Rattle.rules.specs.Questions.{Question, question, first-no, refusal}
 use Rattle.rules.specs.Commands.{world-of}
-use Rattle.rules.specs.Sound.{Free}
-use Rattle.rules.specs.Reached.{Reached, any-not}
+use Rattle.rules.specs.Waits.{Free}
+use Rattle.rules.specs.Laws.Reached.{Reached, any-not}
 use Rattle.thread.specs.declared.Thread.{Thread}
 use Rattle.thread.specs.declared.place.Place.{Place}
 use Rattle.thread.specs.declared.place.Place.the-variants as place
@@ -29,15 +30,16 @@ use Rattle.thread.specs.Thread.{NONE, BLOCKED, RUNNING, WAITING}
 use Rattle.thread.specs.Place.{place-in, is-declared}
 use Rattle.processor.specs.Words.{word}
 use Rattle.processor.specs.Word.{DECLARED, PLACED}
-use Rattle.lent.specs.Rq.{recordAt}
-use Rattle.memory.specs.Shows.{mark-in, place-at}
-use Rattle.memory.specs.Numbers.{none-number}
-use Rattle.tree.specs.Lists.{any-true, any-none, any-at}
-use Rattle.tree.specs.Tree.{own-same}
+use Rattle.records.specs.Rq.{record-at}
+use Rattle.represents.specs.World.{mark-in, place-at}
+use Rattle.represents.specs.Laws.Numbers.{none-number}
+use Rattle.represents.specs.Laws.NumberLists.{any-true, any-none, any-at}
+use Rattle.represents.specs.Laws.Topology.{own-same}
 use Rattle.request.specs.Request.{limits-of}
 use Rattle.questions.specs.declared.state.State.{State}
 use Rattle.questions.specs.Questions as ask
-use Rattle.question_laws.specs.Stands.{limits-in, runs, Stands}
+use Rattle.represents.specs.State.{limits-in, runs, State-rep}
+use Rattle.represents.specs.Laws.State.{cpus-are, nodes-are, threads-are}
 
 -- the thread that a request names, NONE where it names none
 unfoldable pub thread-named : Request → ℕ
@@ -121,19 +123,7 @@ read-widths l k e (byte ∷ bytes) = read-operands-same l k e byte bytes (widths
 
 -- ---- memory that stands for a state
 
-module _ {H : ℕ → List PutOrTake} {ts : List Thread} {cs ns : List (List ℕ)} {a : State} {s : rules.State} (m : Stands ts cs ns a s) (reached : Reached H s) where
-  pub cpus-are : s .limits .cpus ≡ a .cpus
-  unfolding limits-in
-  cpus-are = ap (λ (l : Limits). l .cpus) (m .limits)
-
-  pub nodes-are : s .limits .nodes ≡ a .nodes
-  unfolding limits-in
-  nodes-are = ap (λ (l : Limits). l .nodes) (m .limits)
-
-  pub threads-are : s .limits .threads ≡ 1024
-  unfolding limits-in
-  threads-are = ap (λ (l : Limits). l .threads) (m .limits)
-
+module _ {H : ℕ → List PutOrTake} {ts : List Thread} {cs ns : List (List ℕ)} {a : State} {s : rules.State} (m : State-rep ts cs ns a s) (reached : Reached H s) where
   -- 1 and 2: THE BYTES, read by the state's widths
   pub read-same : (bytes : List ℕ) → read (limits-of (a .wide)) bytes ≡ read (s .limits) bytes
   unfolding limits-of limits-in
@@ -166,7 +156,7 @@ module _ {H : ℕ → List PutOrTake} {ts : List Thread} {cs ns : List (List ℕ
   pub declared-same : (c : ℕ) → ask.declared cs a c ≡ rules-ask.declared s c
   unfolding ask.declared rules-ask.declared
   declared-same c =
-      rw (← cpus-are)
+      rw (← (cpus-are m))
       (both (ltb c (s .limits .cpus)) (λ e. rw (e, mark-test (word cs c DECLARED)) (declared-word c (ltb-true _ _ e))) (λ e. rw e))
 
   pub cpu-declared-same : (c : ℕ) → ask.cpu-declared cs a c ≡ rules-ask.cpu-declared s c
@@ -176,7 +166,7 @@ module _ {H : ℕ → List PutOrTake} {ts : List Thread} {cs ns : List (List ℕ
   pub cpu-new-same : (c : ℕ) → ask.cpu-new cs a c ≡ rules-ask.cpu-new s c
   unfolding ask.cpu-new rules-ask.cpu-new
   cpu-new-same c =
-      rw (← cpus-are)
+      rw (← (cpus-are m))
       (ap (question 4)
       (both (ltb c (s .limits .cpus)) (λ e. rw (e, zero-test (word cs c DECLARED)) (ap not (declared-word c (ltb-true _ _ e)))) (λ e. rw e)))
 
@@ -228,18 +218,18 @@ module _ {H : ℕ → List PutOrTake} {ts : List Thread} {cs ns : List (List ℕ
   known-same x = both (s .known x) (λ k. known-place x k .0 ∙ sym k) (λ k. rw (unknown-place x k, k) (unfold is-declared in refl))
 
   -- 5
-  pub thread-declared-same : (x : ℕ) → ask.thread-declared (recordAt ts x) ≡ rules-ask.thread-declared s x
+  pub thread-declared-same : (x : ℕ) → ask.thread-declared (record-at ts x) ≡ rules-ask.thread-declared s x
   unfolding ask.thread-declared rules-ask.thread-declared
   thread-declared-same x = ap (question 5) (known-same x)
 
-  pub thread-new-same : (x : ℕ) → ask.thread-new x (recordAt ts x) ≡ rules-ask.thread-new s x
+  pub thread-new-same : (x : ℕ) → ask.thread-new x (record-at ts x) ≡ rules-ask.thread-new s x
   unfolding ask.thread-new rules-ask.thread-new
-  thread-new-same x = rw (known-same x, threads-are)
+  thread-new-same x = rw (known-same x, (threads-are m))
 
   -- 7: of a thread that is declared
-  pub thread-blocked-same : (x : ℕ) → s .known x ≡ true → ask.thread-blocked (recordAt ts x) ≡ rules-ask.thread-blocked s x
+  pub thread-blocked-same : (x : ℕ) → s .known x ≡ true → ask.thread-blocked (record-at ts x) ≡ rules-ask.thread-blocked s x
   unfolding ask.thread-blocked rules-ask.thread-blocked
-  thread-blocked-same x k = ap (question 7) (blocked-test (recordAt ts x .place) ∙ known-place x k .1)
+  thread-blocked-same x k = ap (question 7) (blocked-test (record-at ts x .place) ∙ known-place x k .1)
 
   -- 6
   pub node-exists-same : (n : ℕ) → ask.node-exists a n ≡ rules-ask.node-exists s n
@@ -252,7 +242,7 @@ module _ {H : ℕ → List PutOrTake} {ts : List Thread} {cs ns : List (List ℕ
 
   pub node-fits-same : ask.node-fits a ≡ rules-ask.node-fits s
   unfolding ask.node-fits rules-ask.node-fits
-  node-fits-same = rw (← nodes-are, m .node-count)
+  node-fits-same = rw (← (nodes-are m), m .node-count)
 
   pub childless-same : (n : ℕ) → n < length (s .topology .nodes) → ask.node-childless ns n ≡ rules-ask.node-childless s n
   unfolding ask.node-childless rules-ask.node-childless nr-nodes
@@ -273,7 +263,7 @@ module _ {H : ℕ → List PutOrTake} {ts : List Thread} {cs ns : List (List ℕ
   pub all-placed-same : ask.all-placed cs a ≡ rules-ask.all-placed s
   unfolding ask.all-placed rules-ask.all-placed
   all-placed-same =
-      let k : min (a .cpus) (length cs) ≡ s .limits .cpus = omega (arith, m .shows .queues .cpus, cpus-are) in
+      let k : min (a .cpus) (length cs) ≡ s .limits .cpus = omega (arith, m .shows .queues .cpus, (cpus-are m)) in
       rw (declared-same 0, k, all-same (s .limits .cpus) (ask.placed-if-declared cs) (rules-ask.placed-if-declared s) placed-if-declared-same)
 
   -- 10
@@ -290,7 +280,7 @@ module _ {H : ℕ → List PutOrTake} {ts : List Thread} {cs ns : List (List ℕ
   knows x e = e
 
   -- THE REFUSAL OF EACH REQUEST, asked with the record of the thread that it names
-  pub asked-same : (r : Request) → ask.asked-of cs ns a (recordAt ts (thread-named r)) r ≡ first-no (rules-ask.concerning s r ++ (rules-ask.room s ∷ []))
+  pub asked-same : (r : Request) → ask.asked-of cs ns a (record-at ts (thread-named r)) r ≡ first-no (rules-ask.concerning s r ++ (rules-ask.room s ∷ []))
   unfolding ask.asked-of ask.concerning rules-ask.concerning thread-named
   asked-same (declare-cpu c) = rw (open-same, cpu-new-same c, room-same)
   asked-same (add-node p k) =
@@ -315,7 +305,7 @@ module _ {H : ℕ → List PutOrTake} {ts : List Thread} {cs ns : List (List ℕ
   asked-same (set-critical x k) = rw (sealed-same, thread-declared-same x, room-same)
 
   -- THE REFUSAL OF EACH READING
-  pub refusal-same : (r : Reading) → ask.refusal-in cs ns a (recordAt ts (thread-in r)) r ≡ refusal s r
+  pub refusal-same : (r : Reading) → ask.refusal-in cs ns a (record-at ts (thread-in r)) r ≡ refusal s r
   unfolding ask.refusal-in refusal thread-in
   refusal-same unknown = refl
   refusal-same cut-short = refl

@@ -1,4 +1,3 @@
-pub mod Stands
 pub mod Answers
 pub mod Changes
 pub mod Start

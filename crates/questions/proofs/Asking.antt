@@ -8,7 +8,7 @@ use lib.Dec.{eqb}
 use native.Mathlib.Omega.{arith}
 use native.Mathlib.Numerals.{add-one}
 use borrow.Author.Tests.{eqb-true, eqb-false}
-use Rattle.rules.specs.Line.{both}
+use Rattle.rules.specs.Laws.Line.{both}
 use Rattle.rules.specs.State.{all-below}
 use Rattle.rules.specs.Questions.{Question, question, first-no}
 use Rattle.questions.specs.declared.state.State.{State}

@@ -14,7 +14,7 @@ use Rattle.thread.specs.Thread.{NONE, BLOCKED}
 use Rattle.thread.specs.Place.{place-in, is-declared}
 use Rattle.processor.specs.Word.{DECLARED, PLACED}
 use Rattle.processor.specs.Words.{word}
-use Rattle.nodes.specs.Node.{has-children, has-cpus}
+use Rattle.topology.specs.Node.{has-children, has-cpus}
 use Rattle.questions.specs.declared.state.State.{State}
 
 -- 3

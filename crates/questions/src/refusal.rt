@@ -12,15 +12,15 @@ use crate::cpu::pin_declared;
 use crate::cpu::unplaced;
 use crate::state::State;
 use lines::Refusal;
-use nodes::node::has_children;
-use nodes::node::has_cpus;
-use nodes::words::NodeWords;
 use processor::words::CpuWords;
 use request::Pin;
 use request::Reading;
 use request::Request;
 use request::in_range;
 use thread::Thread;
+use topology::node::has_children;
+use topology::node::has_cpus;
+use topology::words::NodeWords;
 
 // There may be 1,024 threads.
 pub const MAX_THREADS: u64 = 1024;

@@ -1,4 +1,4 @@
-pub mod Num
 pub mod Lists
-pub mod Timeshare
+pub mod Num
 pub mod PriorityQueue
+pub mod Timeshare

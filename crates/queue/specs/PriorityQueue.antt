@@ -10,30 +10,30 @@ use Rattle.queue.specs.declared.lists.Found.the-variants.{Nothing}
 use Rattle.queue.specs.declared.pq.PriorityQueue.{PriorityQueue}
 use Rattle.queue.specs.declared.pq.PriorityPut.{PriorityPut}
 use Rattle.queue.specs.Num.{sum, difference}
-use Rattle.queue.specs.Lists.{noLists, pushBack, unlinked, firstFrom, highestHeld}
+use Rattle.queue.specs.Lists.{no-lists-def, push-back, unlinked, first-from, highest-held}
 
 -- newly made
-unfoldable pub noPriority : PriorityQueue
-noPriority = record { count = 0; queues = noLists }
+unfoldable pub no-priority : PriorityQueue
+no-priority = record { count = 0; queues = no-lists-def }
 
 -- nobody waits: the Rust's flag of the part
-unfoldable pub pqEmpty : PriorityQueue → Bool
-pqEmpty p = eqb (p .count) 0
+unfoldable pub pq-empty : PriorityQueue → Bool
+pq-empty p = eqb (p .count) 0
 
 -- the least value of the highest bucket that holds a thread, 0 if none does
-unfoldable pub pqHighest : PriorityQueue → ℕ
-pqHighest p = cond (eqb (p .count) 0) 0 (highestHeld (p .queues))
+unfoldable pub pq-highest : PriorityQueue → ℕ
+pq-highest p = cond (eqb (p .count) 0) 0 (highest-held (p .queues))
 
 -- thread x of class c and value v comes in
-unfoldable pub pqInsert : PriorityQueue → ℕ → PriorityClass → ℕ → PriorityPut
-pqInsert p x c v =
-    let u : Pushed = pushBack (p .queues) (class-bucket c v) x in
+unfoldable pub pq-insert : PriorityQueue → ℕ → PriorityClass → ℕ → PriorityPut
+pq-insert p x c v =
+    let u : Pushed = push-back (p .queues) (class-bucket c v) x in
     record { queue = record { count = sum (p .count) 1; queues = u .lists }; behind = u .behind }
 
 -- "bucket 0 is handed out first"
-unfoldable pub pqFront : PriorityQueue → Found
-pqFront p = cond (eqb (p .count) 0) Nothing (firstFrom (p .queues) 0)
+unfoldable pub pq-front : PriorityQueue → Found
+pq-front p = cond (eqb (p .count) 0) Nothing (first-from (p .queues) 0)
 
 -- a thread has left bucket q from behind `previous`; its link was `next`
-unfoldable pub pqTaken : PriorityQueue → ℕ → ℕ → ℕ → PriorityQueue
-pqTaken p q previous next = record { count = difference (p .count) 1; queues = unlinked (p .queues) q previous next }
+unfoldable pub pq-taken : PriorityQueue → ℕ → ℕ → ℕ → PriorityQueue
+pq-taken p q previous next = record { count = difference (p .count) 1; queues = unlinked (p .queues) q previous next }

@@ -14,43 +14,43 @@ use Rattle.queue.specs.declared.lists.Found.the-variants.{Nothing}
 use Rattle.queue.specs.declared.timeshare.TimeshareQueue.{TimeshareQueue}
 use Rattle.queue.specs.declared.timeshare.TimesharePut.{TimesharePut}
 use Rattle.queue.specs.Num.{sum, difference}
-use Rattle.queue.specs.Lists.{noLists, pushBack, unlinked, firstFrom}
+use Rattle.queue.specs.Lists.{no-lists-def, push-back, unlinked, first-from}
 
 -- newly made
-unfoldable pub noTimeshare : TimeshareQueue
-noTimeshare = record { count = 0; priorities = replicate nr-buckets 0; «insert_idx» = 0; «take_idx» = 0; queues = noLists }
+unfoldable pub no-timeshare : TimeshareQueue
+no-timeshare = record { count = 0; priorities = replicate nr-buckets 0; «insert_idx» = 0; «take_idx» = 0; queues = no-lists-def }
 
 -- nobody waits: the Rust's flag of the part
-unfoldable pub tsEmpty : TimeshareQueue → Bool
-tsEmpty t = eqb (t .count) 0
+unfoldable pub ts-empty : TimeshareQueue → Bool
+ts-empty t = eqb (t .count) 0
 
 -- the least value of the highest of the first k counts that is not 0
-unfoldable pub topCounts : List ℕ → ℕ → ℕ
-topCounts ps zero = 0
-topCounts ps (suc k) = cond (eqb (getD ps k 0) 0) (topCounts ps k) (k * width)
+unfoldable pub top-counts-def : List ℕ → ℕ → ℕ
+top-counts-def ps zero = 0
+top-counts-def ps (suc k) = cond (eqb (getD ps k 0) 0) (top-counts-def ps k) (k * width)
 
 -- the least value of the highest sixteen of which one waits, 0 if none does
-unfoldable pub tsHighest : TimeshareQueue → ℕ
-tsHighest t = cond (eqb (t .count) 0) 0 (topCounts (t .priorities) nr-buckets)
+unfoldable pub ts-highest : TimeshareQueue → ℕ
+ts-highest t = cond (eqb (t .count) 0) 0 (top-counts-def (t .priorities) nr-buckets)
 
 -- document 01's bucket before it is stepped back
-unfoldable pub tsIndex : TimeshareQueue → ℕ → ℕ
-tsIndex t v = (t .«insert_idx» + offset v) % nr-buckets
+unfoldable pub ts-index : TimeshareQueue → ℕ → ℕ
+ts-index t v = (t .«insert_idx» + offset v) % nr-buckets
 
 -- the bucket that a thread joins: "stepped back by one if it is the emptying bucket and the indexes differ"; a current thread joins the emptying bucket
-unfoldable pub tsBucket : TimeshareQueue → ℕ → Bool → ℕ
-tsBucket t v current =
+unfoldable pub ts-bucket : TimeshareQueue → ℕ → Bool → ℕ
+ts-bucket t v current =
     cond current (t .«take_idx»)
-    (cond (eqb (tsIndex t v) (t .«take_idx»)) (cond (eqb (t .«insert_idx») (t .«take_idx»)) (tsIndex t v) (step-back (tsIndex t v))) (tsIndex t v))
+    (cond (eqb (ts-index t v) (t .«take_idx»)) (cond (eqb (t .«insert_idx») (t .«take_idx»)) (ts-index t v) (step-back (ts-index t v))) (ts-index t v))
 
 -- which of the eight counts a value belongs to
 unfoldable pub slot : ℕ → ℕ
 slot v = v / width % nr-buckets
 
 -- thread x of value v comes in
-unfoldable pub tsInsert : TimeshareQueue → ℕ → ℕ → Bool → TimesharePut
-tsInsert t x v current =
-    let u : Pushed = pushBack (t .queues) (tsBucket t v current) x in
+unfoldable pub ts-insert : TimeshareQueue → ℕ → ℕ → Bool → TimesharePut
+ts-insert t x v current =
+    let u : Pushed = push-back (t .queues) (ts-bucket t v current) x in
     record {
       queue = record {
         count = sum (t .count) 1;
@@ -63,40 +63,40 @@ tsInsert t x v current =
     }
 
 -- "A take scans from the emptying index for the first bucket holding a thread"
-unfoldable pub tsFront : TimeshareQueue → Found
-tsFront t = cond (eqb (t .count) 0) Nothing (firstFrom (t .queues) (t .«take_idx»))
+unfoldable pub ts-front : TimeshareQueue → Found
+ts-front t = cond (eqb (t .count) 0) Nothing (first-from (t .queues) (t .«take_idx»))
 
 -- the take index once a thread has left bucket q: one further if the bucket is now empty and the indexes differ
-unfoldable pub tsNext : TimeshareQueue → ℕ → ℕ → ℕ → ℕ
-tsNext t q previous next = cond (eqb previous NONE) (cond (eqb next NONE) (cond (eqb q (t .«insert_idx»)) q ((q + 1) % nr-buckets)) q) q
+unfoldable pub ts-next : TimeshareQueue → ℕ → ℕ → ℕ → ℕ
+ts-next t q previous next = cond (eqb previous NONE) (cond (eqb next NONE) (cond (eqb q (t .«insert_idx»)) q ((q + 1) % nr-buckets)) q) q
 
 -- the Rust's saturating_sub(1)
-unfoldable pub lessOne : ℕ → ℕ
-lessOne x = x - 1
+unfoldable pub less-one-def : ℕ → ℕ
+less-one-def x = x - 1
 
 -- a thread of value v has left bucket q from behind `previous`; its link was `next`
-unfoldable pub tsTaken : TimeshareQueue → ℕ → ℕ → ℕ → ℕ → TimeshareQueue
-tsTaken t q previous next v = record {
+unfoldable pub ts-taken : TimeshareQueue → ℕ → ℕ → ℕ → ℕ → TimeshareQueue
+ts-taken t q previous next v = record {
   count = difference (t .count) 1;
-  priorities = set (t .priorities) (slot v) (lessOne (getD (t .priorities) (slot v) 0));
+  priorities = set (t .priorities) (slot v) (less-one-def (getD (t .priorities) (slot v) 0));
   «insert_idx» = t .«insert_idx»;
-  «take_idx» = tsNext t q previous next;
+  «take_idx» = ts-next t q previous next;
   queues = unlinked (t .queues) q previous next;
 }
 
 -- the filling index moves on
-unfoldable pub tsStep : TimeshareQueue → ℕ → TimeshareQueue
-tsStep t steps = record { count = t .count; priorities = t .priorities; «insert_idx» = (t .«insert_idx» + steps) % nr-buckets; «take_idx» = t .«take_idx»; queues = t .queues }
+unfoldable pub ts-step : TimeshareQueue → ℕ → TimeshareQueue
+ts-step t steps = record { count = t .count; priorities = t .priorities; «insert_idx» = (t .«insert_idx» + steps) % nr-buckets; «take_idx» = t .«take_idx»; queues = t .queues }
 
 -- "`advance_insert_index` does nothing on an empty queue"; without force, nor where the indexes differ
-unfoldable pub tsAdvance : TimeshareQueue → ℕ → Bool → TimeshareQueue
-tsAdvance t steps force =
-    cond (eqb (t .count) 0) t (cond (eqb (t .«insert_idx») (t .«take_idx»)) (tsStep t steps) (cond force (tsStep t steps) t))
+unfoldable pub ts-advance : TimeshareQueue → ℕ → Bool → TimeshareQueue
+ts-advance t steps force =
+    cond (eqb (t .count) 0) t (cond (eqb (t .«insert_idx») (t .«take_idx»)) (ts-step t steps) (cond force (ts-step t steps) t))
 
 -- ---- for the proofs of the code
 
-pub tops-step : (ps : List ℕ) (i : ℕ) → 1 ≤ i → topCounts ps i ≡ cond (eqb (getD ps (i - 1) 0) 0) (topCounts ps (i - 1)) ((i - 1) * width)
-unfolding topCounts
+pub tops-step : (ps : List ℕ) (i : ℕ) → 1 ≤ i → top-counts-def ps i ≡ cond (eqb (getD ps (i - 1) 0) 0) (top-counts-def ps (i - 1)) ((i - 1) * width)
+unfolding top-counts-def
 tops-step ps (suc i) h = let e : suc i - 1 ≡ i = omega arith in rw e
 tops-step ps zero h = absurd (omega arith)
 

@@ -1,6 +1,6 @@
 // Eight lists of threads, each as its first and last thread (the Rust's `queues`).
 ghost use mathlib.Core.Path.{_≡_};
-ghost use Rattle.queue.specs.Lists.{noLists, pushBack, unlinked, firstFrom, highestHeld};
+ghost use Rattle.queue.specs.Lists.{no-lists-def, push-back, unlinked, first-from, highest-held};
 use thread::NONE;
 
 pub struct Lists {
@@ -21,7 +21,7 @@ pub enum Found {
 
 impl Lists {
     pub fn new() -> Self
-        ensures { λ r. ⌜ r ≡ noLists ⌝ }
+        ensures { λ r. ⌜ r ≡ no-lists-def ⌝ }
     {
         let none = [18446744073709551615u64; 8];
         Lists {
@@ -31,7 +31,7 @@ impl Lists {
     }
 
     pub fn push_back(mut self, bucket: u64, thread: u64) -> Pushed
-        ensures { λ r. ⌜ r ≡ pushBack self bucket thread ⌝ }
+        ensures { λ r. ⌜ r ≡ push-back self bucket thread ⌝ }
     {
         let i = (bucket % 8) as usize;
         let head = self.heads[i];
@@ -68,7 +68,7 @@ impl Lists {
 
     // The first of the eight lists, from one onward round, that holds a thread.
     pub fn first_from(self, from: u64) -> Found
-        ensures { λ r. ⌜ r ≡ firstFrom self from ⌝ }
+        ensures { λ r. ⌜ r ≡ first-from self from ⌝ }
     {
         let start = from % 8;
         let mut i: u64 = 0;
@@ -90,7 +90,7 @@ impl Lists {
 
     // The least value of the highest list that holds a thread, 0 if none does.
     pub fn highest(self) -> u64
-        ensures { λ r. ⌜ r ≡ highestHeld self ⌝ }
+        ensures { λ r. ⌜ r ≡ highest-held self ⌝ }
     {
         let mut i: u64 = 8;
         loop {

@@ -1,7 +1,7 @@
 // The realtime and the idle part (rq.rs, `PriorityQueue`).
 ghost use mathlib.Core.Path.{_≡_};
 ghost use Rattle.rules.specs.Queue.{class-bucket};
-ghost use Rattle.queue.specs.PriorityQueue.{noPriority, pqEmpty, pqHighest, pqInsert, pqFront, pqTaken};
+ghost use Rattle.queue.specs.PriorityQueue.{no-priority, pq-empty, pq-highest, pq-insert, pq-front, pq-taken};
 use crate::lists::Found;
 use crate::lists::Lists;
 use crate::num::difference;
@@ -32,20 +32,20 @@ pub fn class_bucket(class: PriorityClass, value: u64) -> u64
 
 impl PriorityQueue {
     pub fn new() -> Self
-        ensures { λ r. ⌜ r ≡ noPriority ⌝ }
+        ensures { λ r. ⌜ r ≡ no-priority ⌝ }
     {
         let queues = Lists::new();
         PriorityQueue { count: 0, queues }
     }
 
     pub fn is_empty(self) -> bool
-        ensures { λ r. ⌜ r ≡ pqEmpty self ⌝ }
+        ensures { λ r. ⌜ r ≡ pq-empty self ⌝ }
     {
         self.count == 0
     }
 
     pub fn highest_priority(self) -> u64
-        ensures { λ r. ⌜ r ≡ pqHighest self ⌝ }
+        ensures { λ r. ⌜ r ≡ pq-highest self ⌝ }
     {
         if self.count == 0 {
             return 0;
@@ -55,7 +55,7 @@ impl PriorityQueue {
     }
 
     pub fn insert(mut self, thread: u64, class: PriorityClass, value: u64) -> PriorityPut
-        ensures { λ r. ⌜ r ≡ pqInsert self thread class value ⌝ }
+        ensures { λ r. ⌜ r ≡ pq-insert self thread class value ⌝ }
     {
         let q = class_bucket(class, value);
         let queues = self.queues;
@@ -72,7 +72,7 @@ impl PriorityQueue {
 
     // Where the next thread to leave stands.
     pub fn front(self) -> Found
-        ensures { λ r. ⌜ r ≡ pqFront self ⌝ }
+        ensures { λ r. ⌜ r ≡ pq-front self ⌝ }
     {
         if self.count == 0 {
             return Found::Nothing;
@@ -83,7 +83,7 @@ impl PriorityQueue {
 
     // A thread has left bucket q, from behind `previous`; its link was `next`.
     pub fn taken(mut self, q: u64, previous: u64, next: u64) -> Self
-        ensures { λ r. ⌜ r ≡ pqTaken self q previous next ⌝ }
+        ensures { λ r. ⌜ r ≡ pq-taken self q previous next ⌝ }
     {
         let queues = self.queues;
         let lists = queues.unlink(q, previous, next);

@@ -2,7 +2,7 @@
 // values wait.
 ghost use mathlib.Core.Path.{_≡_};
 ghost use Rattle.rules.specs.Queue.{offset};
-ghost use Rattle.queue.specs.Timeshare.{noTimeshare, tsEmpty, tsHighest, tsBucket, tsInsert, tsFront, tsNext, tsTaken, tsStep, tsAdvance, lessOne};
+ghost use Rattle.queue.specs.Timeshare.{no-timeshare, ts-empty, ts-highest, ts-bucket, ts-insert, ts-front, ts-next, ts-taken, ts-step, ts-advance, less-one-def};
 use crate::lists::Found;
 use crate::lists::Lists;
 use crate::num::difference;
@@ -33,7 +33,7 @@ pub fn offset(value: u64) -> u64
 
 // The Rust's saturating_sub(1).
 pub fn less_one(x: u64) -> u64
-    ensures { λ r. ⌜ r ≡ lessOne x ⌝ }
+    ensures { λ r. ⌜ r ≡ less-one-def x ⌝ }
 {
     if x == 0 {
         return 0;
@@ -43,7 +43,7 @@ pub fn less_one(x: u64) -> u64
 
 impl TimeshareQueue {
     pub fn new() -> Self
-        ensures { λ r. ⌜ r ≡ noTimeshare ⌝ }
+        ensures { λ r. ⌜ r ≡ no-timeshare ⌝ }
     {
         let queues = Lists::new();
         let none = [0u64; 8];
@@ -57,14 +57,14 @@ impl TimeshareQueue {
     }
 
     pub fn is_empty(self) -> bool
-        ensures { λ r. ⌜ r ≡ tsEmpty self ⌝ }
+        ensures { λ r. ⌜ r ≡ ts-empty self ⌝ }
     {
         self.count == 0
     }
 
     // The least value of the highest sixteen of which one waits, 0 if none does.
     pub fn highest_priority(self) -> u64
-        ensures { λ r. ⌜ r ≡ tsHighest self ⌝ }
+        ensures { λ r. ⌜ r ≡ ts-highest self ⌝ }
     {
         if self.count == 0 {
             return 0;
@@ -85,7 +85,7 @@ impl TimeshareQueue {
 
     // The bucket that a thread joins.
     pub fn bucket(self, value: u64, current: bool) -> u64
-        ensures { λ r. ⌜ r ≡ tsBucket self value current ⌝ }
+        ensures { λ r. ⌜ r ≡ ts-bucket self value current ⌝ }
     {
         let insert_idx = self.insert_idx;
         let take_idx = self.take_idx;
@@ -106,7 +106,7 @@ impl TimeshareQueue {
     }
 
     pub fn insert(mut self, thread: u64, value: u64, current: bool) -> TimesharePut
-        ensures { λ r. ⌜ r ≡ tsInsert self thread value current ⌝ }
+        ensures { λ r. ⌜ r ≡ ts-insert self thread value current ⌝ }
     {
         let q = self.bucket(value, current);
         let queues = self.queues;
@@ -126,7 +126,7 @@ impl TimeshareQueue {
 
     // Where the next thread to leave stands.
     pub fn front(self) -> Found
-        ensures { λ r. ⌜ r ≡ tsFront self ⌝ }
+        ensures { λ r. ⌜ r ≡ ts-front self ⌝ }
     {
         if self.count == 0 {
             return Found::Nothing;
@@ -137,7 +137,7 @@ impl TimeshareQueue {
 
     // The take index once a thread has left bucket q, from behind `previous`; its link was `next`.
     pub fn next_take_idx(self, q: u64, previous: u64, next: u64) -> u64
-        ensures { λ r. ⌜ r ≡ tsNext self q previous next ⌝ }
+        ensures { λ r. ⌜ r ≡ ts-next self q previous next ⌝ }
     {
         if previous != NONE {
             return q;
@@ -153,7 +153,7 @@ impl TimeshareQueue {
 
     // A thread has left bucket q, from behind `previous`; its link was `next`, its value when it was put in `value`.
     pub fn taken(mut self, q: u64, previous: u64, next: u64, value: u64) -> Self
-        ensures { λ r. ⌜ r ≡ tsTaken self q previous next value ⌝ }
+        ensures { λ r. ⌜ r ≡ ts-taken self q previous next value ⌝ }
     {
         let take_idx = self.next_take_idx(q, previous, next);
         let queues = self.queues;
@@ -168,14 +168,14 @@ impl TimeshareQueue {
     }
 
     pub fn stepped(mut self, steps: u64) -> Self
-        ensures { λ r. ⌜ r ≡ tsStep self steps ⌝ }
+        ensures { λ r. ⌜ r ≡ ts-step self steps ⌝ }
     {
         self.insert_idx = (self.insert_idx % 8 + steps % 8) % 8;
         self
     }
 
     pub fn advance_insert_index(self, steps: u64, force: bool) -> Self
-        ensures { λ r. ⌜ r ≡ tsAdvance self steps force ⌝ }
+        ensures { λ r. ⌜ r ≡ ts-advance self steps force ⌝ }
     {
         if self.count == 0 {
             return self;

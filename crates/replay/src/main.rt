@@ -1,23 +1,23 @@
 // Commands from standard input, document 01's output to standard output.
-use feed::block::is_ended;
-use feed::block::is_last;
-use feed::block::keep;
-use feed::fed::ENDED;
-use feed::fed::Fed;
-use feed::fed::begin;
-use feed::feed::feed;
-use feed::start::Started;
-use feed::start::start;
 use lines::has_room;
-use nodes::words::NodeWords;
 use processor::words::CpuWords;
 use questions::state::State;
+use stream::block::is_ended;
+use stream::block::is_last;
+use stream::block::keep;
+use stream::feed::feed;
+use stream::progress::ENDED;
+use stream::progress::Progress;
+use stream::progress::begin;
+use stream::start::Started;
+use stream::start::start;
 use thread::Thread;
 use thread::blank;
+use topology::words::NodeWords;
 
 // What was fed, and the bytes at the front of the next block.
 pub struct Serving {
-    pub fed: Fed,
+    pub fed: Progress,
     pub left: usize,
 }
 
@@ -89,7 +89,7 @@ fn not(shown: bool) -> bool {
     true
 }
 
-fn with_left(fed: Fed, left: usize) -> Serving {
+fn with_left(fed: Progress, left: usize) -> Serving {
     Serving { fed, left }
 }
 
@@ -144,8 +144,8 @@ fn begun(started: Started) -> Serving {
     }
 }
 
-fn nothing() -> Fed {
-    Fed {
+fn nothing() -> Progress {
+    Progress {
         at: 0,
         done: 0,
         number: 0,

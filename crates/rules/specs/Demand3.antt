@@ -15,15 +15,16 @@ use mathlib.Core.Option.{Option, none, some}
 use mathlib.Core.List.{List, [], _∷_, _++_, append-assoc}
 use Rattle.rules.specs.declared.Part.the-variants as part
 use native.Mathlib.Omega.{arith}
-use Rattle.rules.specs.Line.{has, ahead, both, Distinct}
+use Rattle.rules.specs.Line.{has, ahead, Distinct}
+use Rattle.rules.specs.Laws.Line.{both}
 use Rattle.rules.specs.Queue.{Queue, nr-buckets, order}
 use Rattle.rules.specs.Puts.{Put, PutOrTake, a-put, a-take}
 use Rattle.rules.specs.Ahead.{Wait, who-waits, threads, In, how-many, unpinned, ahead-of, gone, a-of, b-of, served, calm-while}
 use Rattle.rules.specs.State.{Limits, base-limits, start}
 use Rattle.rules.specs.Commands.{after-calls, history}
-use Rattle.rules.specs.Kept.{Kept}
-use Rattle.rules.specs.Reached.{kept-calls}
-use Rattle.rules.specs.InOrder.{by-ahead}
+use Rattle.rules.specs.Laws.Kept.{Kept}
+use Rattle.rules.specs.Laws.Reached.{kept-calls}
+use Rattle.rules.specs.Laws.InOrder.{by-ahead}
 
 -- What is demanded of a queue and of all its puts and takes, oldest first. The put looked at is p: pre came before it, mid after it, post later still; so
 -- every moment is looked at, also within a call.

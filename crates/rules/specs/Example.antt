@@ -4,7 +4,7 @@ use mathlib.Core.Path.{_≡_, refl}
 use mathlib.Core.List.{List, [], _∷_}
 use Rattle.rules.specs.State.{base-limits}
 use Rattle.rules.specs.Lines.{output}
-use Rattle.rules.specs.Computed.{computed}
+use Rattle.rules.specs.Laws.Computed.{computed}
 
 -- "Empty input gives `sched 1` and `end 0 0`."
 pub empty-input : output base-limits [] ≡ (115 ∷ 99 ∷ 104 ∷ 101 ∷ 100 ∷ 32 ∷ 49 ∷ 10 ∷ 101 ∷ 110 ∷ 100 ∷ 32 ∷ 48 ∷ 32 ∷ 48 ∷ 10 ∷ [])

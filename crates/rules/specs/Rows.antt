@@ -15,7 +15,7 @@ use Rattle.rules.specs.Draw.{next-state, draw}
 use Rattle.rules.specs.Times.{timeslice}
 use Rattle.rules.specs.Queue.{Queue, no-queue, Arrival, insert, Done, take, timeshare-bucket}
 use Rattle.rules.specs.Choice.{score, weigh, extremes, Pair, no-pair, pair, pair-of, choose-cpu-balance}
-use Rattle.rules.specs.Computed.{computed}
+use Rattle.rules.specs.Laws.Computed.{computed}
 
 -- a priority as its class and its value
 numbers : Priority → List ℕ

@@ -5,7 +5,7 @@ use mathlib.Core.Path.{_≡_, refl}
 use mathlib.Core.List.{List, [], _∷_}
 use Rattle.rules.specs.State.{base-limits}
 use Rattle.rules.specs.Lines.{output}
-use Rattle.rules.specs.Computed.{computed}
+use Rattle.rules.specs.Laws.Computed.{computed}
 
 pub one-run :
     output base-limits (1 ∷ 9 ∷ 1 ∷ 0 ∷ 1 ∷ 11 ∷ 1 ∷ 2 ∷ 1 ∷ 3 ∷ 1 ∷ 7 ∷ 1 ∷ 4 ∷ 1 ∷ 8 ∷ 3 ∷ 0 ∷ 2 ∷ 3 ∷ 0 ∷ 4 ∷ 3 ∷ 0 ∷ 8 ∷ 3 ∷ 0 ∷ 7 ∷ 3 ∷ 0 ∷ 9 ∷ 3 ∷ 0 ∷ 3 ∷ 3 ∷ 0 ∷ 0 ∷ 3 ∷ 0 ∷ 11 ∷ 4 ∷ 16 ∷ 196 ∷ 2 ∷ 3 ∷ 1 ∷ 255 ∷ 16 ∷ 38 ∷ 1 ∷ 2 ∷ 100 ∷ 255 ∷ 16 ∷ 253 ∷ 0 ∷ 2 ∷ 100 ∷ 255 ∷ 16

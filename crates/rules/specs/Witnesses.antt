@@ -10,7 +10,7 @@ use Rattle.rules.specs.Puts.{Put, PutOrTake, a-put, a-take}
 use Rattle.rules.specs.State.{Limits, base-limits, start, is-number}
 use Rattle.rules.specs.Commands.{history}
 use Rattle.rules.specs.Ahead.{gone, waiting, threads, how-many, unpinned, rank, first-bucket, onward, earlier-part, same-part, how-far, ahead-of, put-after, a-of, puts-ahead, b-of, counts, served, calm-in, calm-while}
-use Rattle.rules.specs.Computed.{computed}
+use Rattle.rules.specs.Laws.Computed.{computed}
 
 -- Of the first put of thread x that is followed by a take that hands it out: a, b, the number of that take, whether it is a stealing one, the put's part,
 -- and whether the arrivals were calm while it waited.

@@ -7,10 +7,10 @@ ghost use Rattle.rules.specs.Priority.{priority, from-raw, raw};
 ghost use Rattle.rules.specs.Queue.{is-class, part-of};
 ghost use Rattle.rules.specs.Times.{timeslice, deadline-distance};
 ghost use Rattle.queue.specs.Num.{sum, difference};
-ghost use Rattle.runqueue.specs.RunQueue.{noRunQueue, rqEmpty, raised, saidRealtime, saidTimeshare};
-ghost use Rattle.runqueue.specs.RunQueue.{counted, rqInsertRealtime, rqInsertTimeshare, rqInsertIdle};
-ghost use Rattle.runqueue.specs.RunQueue.{rqFrontRealtime, rqFrontTimeshare, rqFrontIdle, rqFront, frontThread};
-ghost use Rattle.runqueue.specs.RunQueue.{uncounted, rqTakenRealtime, rqRecalc, rqTakenTimeshare, rqTakenIdle, rqClock, rqHardtick};
+ghost use Rattle.runqueue.specs.RunQueue.{no-run-queue, rq-empty, raised, said-realtime-def, said-timeshare-def};
+ghost use Rattle.runqueue.specs.RunQueue.{counted, rq-insert-realtime, rq-insert-timeshare, rq-insert-idle};
+ghost use Rattle.runqueue.specs.RunQueue.{rq-front-realtime, rq-front-timeshare, rq-front-idle, rq-front, front-thread};
+ghost use Rattle.runqueue.specs.RunQueue.{uncounted, rq-taken-realtime, rq-recalc, rq-taken-timeshare, rq-taken-idle, rq-clock, rq-hardtick};
 use queue::lists::Found;
 use queue::num::difference;
 use queue::num::product;
@@ -97,7 +97,7 @@ pub fn says(said: u64, class: PriorityClass) -> bool
 
 // What is advertised once a thread has left the realtime part, of which `left` is left.
 pub fn said_realtime(said: u64, left: PriorityQueue) -> u64
-    ensures { λ r. ⌜ r ≡ saidRealtime said left ⌝ }
+    ensures { λ r. ⌜ r ≡ said-realtime-def said left ⌝ }
 {
     if says(said, PriorityClass::Realtime) {
         if left.is_empty() {
@@ -110,7 +110,7 @@ pub fn said_realtime(said: u64, left: PriorityQueue) -> u64
 
 // The same of the timeshare part.
 pub fn said_timeshare(said: u64, left: TimeshareQueue, idle: PriorityQueue) -> u64
-    ensures { λ r. ⌜ r ≡ saidTimeshare said left idle ⌝ }
+    ensures { λ r. ⌜ r ≡ said-timeshare-def said left idle ⌝ }
 {
     if says(said, PriorityClass::User) {
         if left.is_empty() {
@@ -178,7 +178,7 @@ impl Arrival {
 impl Front {
     // The thread that leaves, NONE if none does.
     pub fn thread(self) -> u64
-        ensures { λ r. ⌜ r ≡ frontThread self ⌝ }
+        ensures { λ r. ⌜ r ≡ front-thread self ⌝ }
     {
         match self {
             Front::At {
@@ -193,7 +193,7 @@ impl Front {
 
 impl RunQueue {
     pub fn new() -> Self
-        ensures { λ r. ⌜ r ≡ noRunQueue ⌝ }
+        ensures { λ r. ⌜ r ≡ no-run-queue ⌝ }
     {
         let realtime = PriorityQueue::new();
         let timeshare = TimeshareQueue::new();
@@ -211,7 +211,7 @@ impl RunQueue {
     }
 
     pub fn is_empty(self) -> bool
-        ensures { λ r. ⌜ r ≡ rqEmpty self ⌝ }
+        ensures { λ r. ⌜ r ≡ rq-empty self ⌝ }
     {
         let realtime = self.realtime;
         let timeshare = self.timeshare;
@@ -254,7 +254,7 @@ impl RunQueue {
     }
 
     pub fn insert_realtime(self, a: Arrival) -> Put
-        ensures { λ r. ⌜ r ≡ rqInsertRealtime self a ⌝ }
+        ensures { λ r. ⌜ r ≡ rq-insert-realtime self a ⌝ }
     {
         let p = a.priority;
         let class = p.class;
@@ -272,7 +272,7 @@ impl RunQueue {
     }
 
     pub fn insert_timeshare(self, a: Arrival) -> Put
-        ensures { λ r. ⌜ r ≡ rqInsertTimeshare self a ⌝ }
+        ensures { λ r. ⌜ r ≡ rq-insert-timeshare self a ⌝ }
     {
         let p = a.priority;
         let mut queue = self.counted(p, a.pinned);
@@ -290,7 +290,7 @@ impl RunQueue {
     }
 
     pub fn insert_idle(self, a: Arrival) -> Put
-        ensures { λ r. ⌜ r ≡ rqInsertIdle self a ⌝ }
+        ensures { λ r. ⌜ r ≡ rq-insert-idle self a ⌝ }
     {
         let p = a.priority;
         let class = p.class;
@@ -308,7 +308,7 @@ impl RunQueue {
     }
 
     pub fn front_idle(self) -> Front
-        ensures { λ r. ⌜ r ≡ rqFrontIdle self ⌝ }
+        ensures { λ r. ⌜ r ≡ rq-front-idle self ⌝ }
     {
         let part = self.idle;
         let found = part.front();
@@ -323,7 +323,7 @@ impl RunQueue {
     }
 
     pub fn front_timeshare(self) -> Front
-        ensures { λ r. ⌜ r ≡ rqFrontTimeshare self ⌝ }
+        ensures { λ r. ⌜ r ≡ rq-front-timeshare self ⌝ }
     {
         let part = self.timeshare;
         let found = part.front();
@@ -338,7 +338,7 @@ impl RunQueue {
     }
 
     pub fn front_realtime(self) -> Front
-        ensures { λ r. ⌜ r ≡ rqFrontRealtime self ⌝ }
+        ensures { λ r. ⌜ r ≡ rq-front-realtime self ⌝ }
     {
         let part = self.realtime;
         let found = part.front();
@@ -354,7 +354,7 @@ impl RunQueue {
 
     // Who leaves if a thread is asked of the queue: the first half of the Rust's `take`.
     pub fn front(self, stealing: bool) -> Front
-        ensures { λ r. ⌜ r ≡ rqFront self stealing ⌝ }
+        ensures { λ r. ⌜ r ≡ rq-front self stealing ⌝ }
     {
         if stealing {
             if self.movable == 0 {
@@ -375,7 +375,7 @@ impl RunQueue {
     }
 
     pub fn taken_realtime(self, bucket: u64, previous: u64, next: u64, pinned: bool) -> Self
-        ensures { λ r. ⌜ r ≡ rqTakenRealtime self bucket previous next pinned ⌝ }
+        ensures { λ r. ⌜ r ≡ rq-taken-realtime self bucket previous next pinned ⌝ }
     {
         let mut queue = self.uncounted(pinned);
         let part = self.realtime;
@@ -386,7 +386,7 @@ impl RunQueue {
     }
 
     pub fn recalc_priority_timeshare(mut self) -> Self
-        ensures { λ r. ⌜ r ≡ rqRecalc self ⌝ }
+        ensures { λ r. ⌜ r ≡ rq-recalc self ⌝ }
     {
         let timeshare = self.timeshare;
         let idle = self.idle;
@@ -402,7 +402,7 @@ impl RunQueue {
         value: u64,
         pinned: bool,
     ) -> Self
-        ensures { λ r. ⌜ r ≡ rqTakenTimeshare self bucket previous next value pinned ⌝ }
+        ensures { λ r. ⌜ r ≡ rq-taken-timeshare self bucket previous next value pinned ⌝ }
     {
         let mut queue = self.uncounted(pinned);
         let part = self.timeshare;
@@ -413,7 +413,7 @@ impl RunQueue {
     }
 
     pub fn taken_idle(self, bucket: u64, previous: u64, next: u64, pinned: bool) -> Self
-        ensures { λ r. ⌜ r ≡ rqTakenIdle self bucket previous next pinned ⌝ }
+        ensures { λ r. ⌜ r ≡ rq-taken-idle self bucket previous next pinned ⌝ }
     {
         let mut queue = self.uncounted(pinned);
         let part = self.idle;
@@ -442,7 +442,7 @@ impl RunQueue {
     }
 
     pub fn clock(mut self) -> Self
-        ensures { λ r. ⌜ r ≡ rqClock self ⌝ }
+        ensures { λ r. ⌜ r ≡ rq-clock self ⌝ }
     {
         let timeshare = self.timeshare;
         let advanced = timeshare.advance_insert_index(1, true);
@@ -451,7 +451,7 @@ impl RunQueue {
     }
 
     pub fn hardtick(mut self, now: u64) -> Hardtick
-        ensures { λ r. ⌜ r ≡ rqHardtick self now ⌝ }
+        ensures { λ r. ⌜ r ≡ rq-hardtick self now ⌝ }
     {
         let ticks = difference(now, self.last_tick);
         self.last_tick = now;

@@ -10,88 +10,88 @@ use Rattle.thread.specs.declared.time.OptionCpu.the-variants as cpu
 use Rattle.thread.specs.Thread.{NONE}
 use Rattle.thread.specs.Reads.{critical-in}
 use Rattle.thread.specs.Time.{moving-to-active}
-use Rattle.lent.specs.declared.rq.Taken.{Taken}
-use Rattle.lent.specs.Left.{Words, Memory, Left}
-use Rattle.lent.specs.Rq.{recordAt, takeDef}
-use Rattle.step.specs.Option.{isNone, cpuOf}
-use Rattle.step.specs.Choose.{selectFor, selectedFor, reinsertAt}
-use Rattle.step.specs.Preempt.{rqHasHigher}
-use Rattle.step.specs.Running.{runningAt, mustRebalance, ranBy, ranIdle}
-use Rattle.step.specs.Time.{resetTime}
-use Rattle.step.specs.declared.context.Context.{Context}
-use Rattle.step.specs.declared.context.SchedFlags.{SchedFlags}
-use Rattle.step.specs.declared.context.Scheduled.{Scheduled}
-use Rattle.sched_queues.specs.Queues.{isNobody, threadOf, scheduleThreadOnCpu, wakeDef, blockDef, trySteal}
+use Rattle.records.specs.declared.rq.Taken.{Taken}
+use Rattle.records.specs.Left.{Words, Memory, Left}
+use Rattle.records.specs.Rq.{record-at, take-def}
+use Rattle.sched_words.specs.Option.{is-none, cpu-of-def}
+use Rattle.sched_words.specs.Choose.{select-for, selected-for, reinsert-at-def}
+use Rattle.sched_words.specs.Preempt.{rq-has-higher}
+use Rattle.sched_words.specs.Running.{running-at, must-rebalance-def, ran-by-def, ran-idle-def}
+use Rattle.sched_words.specs.Time.{reset-time-def}
+use Rattle.sched_words.specs.declared.context.Context.{Context}
+use Rattle.sched_words.specs.declared.context.SchedFlags.{SchedFlags}
+use Rattle.sched_words.specs.declared.context.Scheduled.{Scheduled}
+use Rattle.sched_queues.specs.Queues.{is-nobody, thread-of, schedule-thread-on-cpu-def, wake-def, block-def, try-steal-def}
 
 -- thread x runs on CPU us
-unfoldable pub switchTo : ℕ → ℕ → Memory → Memory
-switchTo us x m = record {
-  threads = set (m .threads) x (moving-to-active (recordAt (m .threads) x) us);
-  cpus = ranBy (m .cpus) us x (moving-to-active (recordAt (m .threads) x) us);
+unfoldable pub switch-to-def : ℕ → ℕ → Memory → Memory
+switch-to-def us x m = record {
+  threads = set (m .threads) x (moving-to-active (record-at (m .threads) x) us);
+  cpus = ran-by-def (m .cpus) us x (moving-to-active (record-at (m .threads) x) us);
 }
 
 -- the own queue handed out thread y: one that takes itself back is not switched to
-unfoldable pub runTaken : ℕ → ℕ → ℕ → Memory → Memory
-runTaken us cur y m = cond (eqb y cur) m (switchTo us y m)
+unfoldable pub run-taken-def : ℕ → ℕ → ℕ → Memory → Memory
+run-taken-def us cur y m = cond (eqb y cur) m (switch-to-def us y m)
 
 -- the idle thread runs on, or is switched to
-unfoldable pub idleUnless : ℕ → ℕ → Words → Words
-idleUnless us cur cs = cond (eqb cur NONE) cs (ranIdle cs us)
+unfoldable pub idle-unless : ℕ → ℕ → Words → Words
+idle-unless us cur cs = cond (eqb cur NONE) cs (ran-idle-def cs us)
 
-unfoldable pub runStolen : ℕ → ℕ → Taken → Memory → Memory
-runStolen us cur stolen m =
-    cond (isNobody stolen) (record { threads = m .threads; cpus = idleUnless us cur (m .cpus) }) (switchTo us (threadOf stolen) m)
+unfoldable pub run-stolen-def : ℕ → ℕ → Taken → Memory → Memory
+run-stolen-def us cur stolen m =
+    cond (is-nobody stolen) (record { threads = m .threads; cpus = idle-unless us cur (m .cpus) }) (switch-to-def us (thread-of stolen) m)
 
 -- the next thread of the own queue, else one that is stolen
-unfoldable pub pickStolen : Context → ℕ → Left Taken Memory → Memory
-pickStolen k cur g = runStolen (k .us) cur (g .answer) (g .memory)
+unfoldable pub pick-stolen : Context → ℕ → Left Taken Memory → Memory
+pick-stolen k cur g = run-stolen-def (k .us) cur (g .answer) (g .memory)
 
-unfoldable pub pickTaken : Context → ℕ → Words → Left Taken Memory → Memory
-pickTaken k cur ns g =
-    cond (isNobody (g .answer)) (pickStolen k cur (trySteal k ns (g .memory))) (runTaken (k .us) cur (threadOf (g .answer)) (g .memory))
+unfoldable pub pick-taken : Context → ℕ → Words → Left Taken Memory → Memory
+pick-taken k cur ns g =
+    cond (is-nobody (g .answer)) (pick-stolen k cur (try-steal-def k ns (g .memory))) (run-taken-def (k .us) cur (thread-of (g .answer)) (g .memory))
 
-unfoldable pub pickNext : Context → ℕ → Words → Memory → Memory
-pickNext k cur ns m = pickTaken k cur ns (takeDef (k .us) false m)
+unfoldable pub pick-next-def : Context → ℕ → Words → Memory → Memory
+pick-next-def k cur ns m = pick-taken k cur ns (take-def (k .us) false m)
 
 -- preempted, or to be moved to another CPU, or something higher waits; for a thread that yields, also something equal
-unfoldable pub mustMove : List (List ℕ) → ℕ → Thread → SchedFlags → Bool
-mustMove cs us t f = f .preempt || (mustRebalance cs us || rqHasHigher cs us t (f .yields))
+unfoldable pub must-move-def : List (List ℕ) → ℕ → Thread → SchedFlags → Bool
+must-move-def cs us t f = f .preempt || (must-rebalance-def cs us || rq-has-higher cs us t (f .yields))
 
-unfoldable pub reinsertedDef : Context → OptionCpu → ℕ → ℕ → Memory → Left ℕ Memory
-reinsertedDef k chosen x wakeups m = cond (isNone chosen) (record { answer = wakeups; memory = m }) (scheduleThreadOnCpu k (cpuOf chosen) x wakeups m)
+unfoldable pub reinserted-def : Context → OptionCpu → ℕ → ℕ → Memory → Left ℕ Memory
+reinserted-def k chosen x wakeups m = cond (is-none chosen) (record { answer = wakeups; memory = m }) (schedule-thread-on-cpu-def k (cpu-of-def chosen) x wakeups m)
 
 -- the deadline of thread x is set anew on CPU us
-unfoldable pub resetThreadTime : Context → ℕ → Words → List Thread → List Thread
-resetThreadTime k x cs ts = set ts x (resetTime cs (k .us) (k .tick) (k .shortest) (recordAt ts x))
+unfoldable pub reset-thread-time-def : Context → ℕ → Words → List Thread → List Thread
+reset-thread-time-def k x cs ts = set ts x (reset-time-def cs (k .us) (k .tick) (k .shortest) (record-at ts x))
 
 -- the next is picked after what was done
-unfoldable pub thenNext : Context → ℕ → Words → Left ℕ Memory → Left ℕ Memory
-thenNext k cur ns w = record { answer = w .answer; memory = pickNext k cur ns (w .memory) }
+unfoldable pub then-next-def : Context → ℕ → Words → Left ℕ Memory → Left ℕ Memory
+then-next-def k cur ns w = record { answer = w .answer; memory = pick-next-def k cur ns (w .memory) }
 
 -- the thread running goes back into a queue, and the next is picked; or it runs on with its deadline set anew
-unfoldable pub reinsertDef : Context → ℕ → SchedFlags → ℕ → Words → Memory → Left ℕ Memory
-reinsertDef k cur f wakeups ns m =
-    cond (mustMove (m .cpus) (k .us) (recordAt (m .threads) cur) f)
-    (thenNext k cur ns
-    (reinsertedDef k (reinsertAt (m .cpus) ns (k .us) (k .limit) (recordAt (m .threads) cur) .chosen) cur wakeups
-    (record { threads = m .threads; cpus = reinsertAt (m .cpus) ns (k .us) (k .limit) (recordAt (m .threads) cur) .cpus })))
-    (cond (f .yields) (thenNext k cur ns (scheduleThreadOnCpu k (k .us) cur wakeups m))
-    (record { answer = wakeups; memory = record { threads = resetThreadTime k cur (m .cpus) (m .threads); cpus = m .cpus } }))
+unfoldable pub reinsert-def : Context → ℕ → SchedFlags → ℕ → Words → Memory → Left ℕ Memory
+reinsert-def k cur f wakeups ns m =
+    cond (must-move-def (m .cpus) (k .us) (record-at (m .threads) cur) f)
+    (then-next-def k cur ns
+    (reinserted-def k (reinsert-at-def (m .cpus) ns (k .us) (k .limit) (record-at (m .threads) cur) .chosen) cur wakeups
+    (record { threads = m .threads; cpus = reinsert-at-def (m .cpus) ns (k .us) (k .limit) (record-at (m .threads) cur) .cpus })))
+    (cond (f .yields) (then-next-def k cur ns (schedule-thread-on-cpu-def k (k .us) cur wakeups m))
+    (record { answer = wakeups; memory = record { threads = reset-thread-time-def k cur (m .cpus) (m .threads); cpus = m .cpus } }))
 
 -- "without reinsert the thread running is blocked, the idle thread never"
-unfoldable pub doSchedule : Context → SchedFlags → ℕ → Words → Memory → Left ℕ Memory
-doSchedule k f wakeups ns m =
-    cond (eqb (runningAt (m .cpus) (k .us)) NONE) (record { answer = wakeups; memory = pickNext k (runningAt (m .cpus) (k .us)) ns m })
-    (cond (f .reinsert) (reinsertDef k (runningAt (m .cpus) (k .us)) f wakeups ns m)
+unfoldable pub do-schedule-def : Context → SchedFlags → ℕ → Words → Memory → Left ℕ Memory
+do-schedule-def k f wakeups ns m =
+    cond (eqb (running-at (m .cpus) (k .us)) NONE) (record { answer = wakeups; memory = pick-next-def k (running-at (m .cpus) (k .us)) ns m })
+    (cond (f .reinsert) (reinsert-def k (running-at (m .cpus) (k .us)) f wakeups ns m)
     (record {
       answer = wakeups;
-      memory = pickNext k (runningAt (m .cpus) (k .us)) ns (record { threads = blockDef (runningAt (m .cpus) (k .us)) (m .threads); cpus = m .cpus });
+      memory = pick-next-def k (running-at (m .cpus) (k .us)) ns (record { threads = block-def (running-at (m .cpus) (k .us)) (m .threads); cpus = m .cpus });
     }))
 
 -- "with a critical thread running it changes nothing"
-unfoldable pub scheduleDef : Context → SchedFlags → ℕ → Words → Memory → Left ℕ Memory
-scheduleDef k f wakeups ns m =
-    cond (critical-in (recordAt (m .threads) (runningAt (m .cpus) (k .us)) .critical)) (record { answer = wakeups; memory = m }) (doSchedule k f wakeups ns m)
+unfoldable pub schedule-def : Context → SchedFlags → ℕ → Words → Memory → Left ℕ Memory
+schedule-def k f wakeups ns m =
+    cond (critical-in (record-at (m .threads) (running-at (m .cpus) (k .us)) .critical)) (record { answer = wakeups; memory = m }) (do-schedule-def k f wakeups ns m)
 
 abbrev pub scheduled : ℕ → ℕ → Scheduled
 scheduled c wakeups = record { cpu = c; wakeups = wakeups }
@@ -100,11 +100,11 @@ scheduled c wakeups = record { cpu = c; wakeups = wakeups }
 abbrev pub woken : ℕ → Left ℕ Memory → Left Scheduled Memory
 woken c w = record { answer = scheduled c (w .answer); memory = w .memory }
 
-unfoldable pub scheduledOn : Context → ℕ → OptionCpu → Memory → Left Scheduled Memory
-scheduledOn k x chosen m =
-    cond (isNone chosen) (record { answer = scheduled (k .us) 0; memory = m }) (woken (cpuOf chosen) (wakeDef k (cpuOf chosen) x 0 m))
+unfoldable pub scheduled-on-def : Context → ℕ → OptionCpu → Memory → Left Scheduled Memory
+scheduled-on-def k x chosen m =
+    cond (is-none chosen) (record { answer = scheduled (k .us) 0; memory = m }) (woken (cpu-of-def chosen) (wake-def k (cpu-of-def chosen) x 0 m))
 
-unfoldable pub scheduleThread : Context → ℕ → Words → Memory → Left Scheduled Memory
-scheduleThread k x ns m =
-    scheduledOn k x (selectFor (m .cpus) ns (k .us) (k .limit) (recordAt (m .threads) x) cpu.None)
-    (record { threads = m .threads; cpus = selectedFor (m .cpus) ns (k .us) (k .limit) (recordAt (m .threads) x) cpu.None })
+unfoldable pub schedule-thread-def : Context → ℕ → Words → Memory → Left Scheduled Memory
+schedule-thread-def k x ns m =
+    scheduled-on-def k x (select-for (m .cpus) ns (k .us) (k .limit) (record-at (m .threads) x) cpu.None)
+    (record { threads = m .threads; cpus = selected-for (m .cpus) ns (k .us) (k .limit) (record-at (m .threads) x) cpu.None })

@@ -1,14 +1,14 @@
 // The preemption mark obeyed.
 ghost use mathlib.Core.Path.{_≡_};
-ghost use Rattle.lent.specs.Left.{leaves-over};
-ghost use Rattle.sched.specs.Preempt.{preempting, scheduleMaybePreempt};
+ghost use Rattle.records.specs.Left.{leaves-over};
+ghost use Rattle.sched.specs.Preempt.{preempting, schedule-maybe-preempt-def};
 use crate::schedule::schedule;
-use nodes::words::NodeWords;
 use processor::words::CpuWords;
-use step::context::Context;
-use step::context::SchedFlags;
-use step::preempt::swap_preempt;
+use sched_words::context::Context;
+use sched_words::context::SchedFlags;
+use sched_words::preempt::swap_preempt;
 use thread::Thread;
+use topology::words::NodeWords;
 
 // The flags of a preemption.
 pub fn preempting() -> SchedFlags
@@ -29,7 +29,7 @@ pub fn schedule_maybe_preempt(
     k: Context,
     wakeups: u64,
 ) -> u64
-    ensures { λ r. ⌜ leaves-over (scheduleMaybePreempt k wakeups) r threads cpus nodes ⌝ }
+    ensures { λ r. ⌜ leaves-over (schedule-maybe-preempt-def k wakeups) r threads cpus nodes ⌝ }
 {
     let us = k.us;
     let marked = swap_preempt(cpus, us);

@@ -7,43 +7,44 @@ use mathlib.Core.Option.{none, some}
 use mathlib.Core.List.{List}
 use lib.Dec.{eqb}
 use borrow.Author.Tests.{eqb-true, eqb-false}
-use Rattle.rules.specs.Line.{both}
+use Rattle.rules.specs.Laws.Line.{both}
 use Rattle.rules.specs.Times.{is-some}
 use Rattle.rules.specs.Puts.{PutOrTake}
 use Rattle.rules.specs.State.{at, any-below, is-number, Limits, Topology, Cpu}
 use Rattle.rules.specs.Schedule as sched
 use Rattle.rules.specs.Schedule.{World, Got, with-cpu, with-preempt}
-use Rattle.rules.specs.Sound.{at-here, at-there, at-keeps, same-cpu-changed, sound-same, New, Sound}
-use Rattle.rules.specs.Steps.{nobody-but, Selected, select-cpu-selected, new-same}
-use Rattle.rules.specs.Reached.{any-not, number-is as is-number-of}
+use Rattle.rules.specs.Laws.Sound.{at-here, at-there, at-keeps, same-cpu-changed, sound-same, New, Sound}
+use Rattle.rules.specs.Laws.Steps.{nobody-but, Selected, select-cpu-selected, new-same}
+use Rattle.rules.specs.Laws.Reached.{any-not, number-is as is-number-of}
 use Rattle.thread.specs.declared.Thread.{Thread}
 use Rattle.thread.specs.declared.time.OptionCpu.{OptionCpu}
 use Rattle.thread.specs.declared.time.OptionCpu.the-variants as cpu
 use Rattle.thread.specs.Reads.{named}
 use Rattle.thread.specs.Thread.{NONE}
-use Rattle.lent.specs.Left.{mem}
-use Rattle.lent.specs.Rq.{recordAt}
-use Rattle.memory.specs.Shows.{Small, Shows, most-tick}
-use Rattle.tree.specs.Tree.{Tree, number-is}
-use Rattle.tree.specs.Lists.{any-at}
+use Rattle.records.specs.Left.{mem}
+use Rattle.records.specs.Rq.{record-at}
+use Rattle.represents.specs.World.{Small, World-rep, most-tick}
+use Rattle.represents.specs.Topology.{Topology-rep}
+use Rattle.represents.specs.Laws.Topology.{number-is}
+use Rattle.represents.specs.Laws.NumberLists.{any-at}
 use Rattle.choice.specs.Reads.{as-cpu}
-use Rattle.step.specs.Option.{isNone, cpuOf}
-use Rattle.step.specs.Choose.{selectFor, selectedFor}
-use Rattle.step.specs.Preempt.{swapped}
-use Rattle.step.specs.declared.context.Context.{Context}
-use Rattle.sched_queues.specs.Queues.{wakeDef}
-use Rattle.sched.specs.Schedule.{scheduleDef, scheduledOn, scheduleThread}
-use Rattle.sched_ticks.specs.Ticks.{scheduleHardtick, scheduleResched}
-use Rattle.sched.specs.Preempt.{scheduleMaybePreempt, preempting}
-use Rattle.sched_laws.specs.Steps.{swapped-mark, shows-swapped, unswapped}
+use Rattle.sched_words.specs.Option.{is-none, cpu-of-def}
+use Rattle.sched_words.specs.Choose.{select-for, selected-for}
+use Rattle.sched_words.specs.Preempt.{swapped}
+use Rattle.sched_words.specs.declared.context.Context.{Context}
+use Rattle.sched_queues.specs.Queues.{wake-def}
+use Rattle.sched.specs.Schedule.{schedule-def, scheduled-on-def, schedule-thread-def}
+use Rattle.sched_ticks.specs.Ticks.{schedule-hardtick-def, schedule-resched-def}
+use Rattle.sched.specs.Preempt.{schedule-maybe-preempt-def, preempting}
+use Rattle.sched_laws.specs.Words.{swapped-mark, shows-swapped, unswapped}
 use Rattle.sched_laws.specs.Ticks.{shows-resched}
-use Rattle.sched_laws.specs.Crowd.{visited-placed}
-use Rattle.sched_laws.specs.Ticked.{context, shows-schedule-hardtick}
-use Rattle.sched_laws.specs.Moves.{shows-scheduled, counts-scheduled}
-use Rattle.sched_laws.specs.Picks.{Settled, no-one, Ends}
-use Rattle.sched_laws.specs.Schedules.{select-finds, select-shown, shows-selected}
-use Rattle.sched_laws.specs.Scheduled.{flags-in, Leaves, shows-schedule}
-use Rattle.sched_laws.specs.Spared.{select-wakeups, put-running, resched-running, hardtick-running}
+use Rattle.sched_laws.specs.Visited.{visited-placed}
+use Rattle.sched_laws.specs.Hardtick.{context, shows-schedule-hardtick}
+use Rattle.sched_laws.specs.Queues.{shows-scheduled, counts-scheduled}
+use Rattle.sched_laws.specs.Switch.{Settled, no-one, Ends}
+use Rattle.sched_laws.specs.DoSchedule.{select-finds, select-shown, shows-selected}
+use Rattle.sched_laws.specs.Schedule.{flags-in, Leaves, shows-schedule}
+use Rattle.sched_laws.specs.Frames.{select-wakeups, put-running, resched-running, hardtick-running}
 
 -- ---- the active threads are those that run
 
@@ -52,7 +53,7 @@ settled-same w v e s = record { runs = λ c x b r. s .runs c x b (sym (e c) ∙ 
 
 -- another table that says the same
 pub shows-active : {limits : Limits} {topology : Topology} {known active : ℕ → Bool} {ts : List Thread} {cs : List (List ℕ)} {w : World} (active′ : ℕ → Bool) → ((x : ℕ) → active′ x ≡ active x)
-    → Shows limits topology known active ts cs w → Shows limits topology known active′ ts cs w
+    → World-rep limits topology known active ts cs w → World-rep limits topology known active′ ts cs w
 shows-active active′ e s = record {
   queues = s .queues;
   none-past = s .none-past;
@@ -88,29 +89,29 @@ settled-runs limits w near = record {
 
 -- WHAT A COMMAND LEFT, with those active that run
 pub ends-runs : {limits : Limits} {topology : Topology} {known : ℕ → Bool} {ts : List Thread} {cs : List (List ℕ)} {v : World} → ((c x : ℕ) → v .cpus c .running ≡ some x → c < limits .cpus)
-    → Ends limits topology known ts cs v → Shows limits topology known (runs-somewhere limits v) ts cs v
+    → Ends limits topology known ts cs v → World-rep limits topology known (runs-somewhere limits v) ts cs v
 ends-runs {limits} {v = v} near e = shows-active (runs-somewhere limits v) (settled-is limits (e .active) v near (e .settled)) (e .shows)
 
 module _ (limits : Limits) (topology : Topology) (tick us : ℕ) (known : ℕ → Bool) (numbered : (x : ℕ) → known x ≡ true → x < limits .threads) (small : Small limits)
-    (early : tick ≤ most-tick) (us-in : us < limits .cpus) (H : ℕ → List PutOrTake) (ns : List (List ℕ)) (tree : Tree limits ns topology) (node : ℕ) (put-on : topology .placed us ≡ some node) where
+    (early : tick ≤ most-tick) (us-in : us < limits .cpus) (H : ℕ → List PutOrTake) (ns : List (List ℕ)) (tree : Topology-rep limits ns topology) (node : ℕ) (put-on : topology .placed us ≡ some node) where
   abbrev k : Context
   k = context limits tick us
 
-  module _ {active : ℕ → Bool} {ts : List Thread} {cs : List (List ℕ)} {w : World} (s : Shows limits topology known active ts cs w) (safe : Sound limits known H nobody-but w) (st : Settled no-one active w)
+  module _ {active : ℕ → Bool} {ts : List Thread} {cs : List (List ℕ)} {w : World} (s : World-rep limits topology known active ts cs w) (safe : Sound limits known H nobody-but w) (st : Settled no-one active w)
       (wakeups : ℕ) (count : wakeups ≡ w .wakeups) (few : w .wakeups < NONE) where
     -- 17: `schedule_maybe_preempt`
     abbrev cleared : World
     cleared = with-cpu w us (with-preempt (w .cpus us) false)
 
-    obeyed : w .cpus us .preempt ≡ true → Leaves limits topology known (scheduleDef k preempting wakeups ns (mem ts (swapped cs us .cpus))) (sched.schedule limits topology tick us cleared (record { yield = false; preempt = true; again = true }))
+    obeyed : w .cpus us .preempt ≡ true → Leaves limits topology known (schedule-def k preempting wakeups ns (mem ts (swapped cs us .cpus))) (sched.schedule limits topology tick us cleared (record { yield = false; preempt = true; again = true }))
     unfolding flags-in with-cpu with-preempt
     obeyed e =
         shows-schedule limits topology tick us known numbered small early us-in H ns tree node put-on (shows-swapped limits topology tick us known numbered small early s us-in e)
         (sound-same (same-cpu-changed limits w us (with-preempt (w .cpus us) false) refl refl) safe) (settled-same w cleared (at-keeps (λ (p : Cpu). p .running) (w .cpus) us (with-preempt (w .cpus us) false) refl) st)
         wakeups count few preempting
 
-    pub shows-maybe-preempt : Leaves limits topology known (scheduleMaybePreempt k wakeups ns (mem ts cs)) (sched.schedule-maybe-preempt limits topology tick us w)
-    unfolding scheduleMaybePreempt sched.schedule-maybe-preempt context with-preempt
+    pub shows-maybe-preempt : Leaves limits topology known (schedule-maybe-preempt-def k wakeups ns (mem ts cs)) (sched.schedule-maybe-preempt limits topology tick us w)
+    unfolding schedule-maybe-preempt-def sched.schedule-maybe-preempt context with-preempt
     shows-maybe-preempt =
         both (w .cpus us .preempt)
         (λ e. rw (swapped-mark limits topology tick us known numbered small early s us-in ∙ e, e) (obeyed e))
@@ -121,8 +122,8 @@ module _ (limits : Limits) (topology : Topology) (tick us : ℕ) (known : ℕ �
     runs-known : (x : ℕ) → w .cpus us .running ≡ some x → known x ≡ true
     runs-known x e = safe .runs us x e .1
 
-    pub ends-resched : Ends limits topology known ts (scheduleResched us ts cs) (sched.schedule-resched limits topology tick us w)
-    unfolding scheduleResched sched.schedule-resched
+    pub ends-resched : Ends limits topology known ts (schedule-resched-def us ts cs) (sched.schedule-resched limits topology tick us w)
+    unfolding schedule-resched-def sched.schedule-resched
     ends-resched = record {
       active = active;
       shows = unfold sched.schedule-resched in shows-resched limits topology tick us known numbered small early us-in s runs-known;
@@ -130,7 +131,7 @@ module _ (limits : Limits) (topology : Topology) (tick us : ℕ) (known : ℕ �
     }
 
     -- 14: `schedule_hardtick`
-    pub ends-hardtick : w .cpus us .last-tick ≤ tick → Ends limits topology known (scheduleHardtick k (mem ts cs) .threads) (scheduleHardtick k (mem ts cs) .cpus) (sched.schedule-hardtick limits topology tick us w)
+    pub ends-hardtick : w .cpus us .last-tick ≤ tick → Ends limits topology known (schedule-hardtick-def k (mem ts cs) .threads) (schedule-hardtick-def k (mem ts cs) .cpus) (sched.schedule-hardtick limits topology tick us w)
     ends-hardtick late = record {
       active = active;
       shows = shows-schedule-hardtick limits topology tick us known numbered small early us-in s runs-known late;
@@ -142,14 +143,14 @@ module _ (limits : Limits) (topology : Topology) (tick us : ℕ) (known : ℕ �
       abbrev selected : Got
       selected = sched.select-cpu limits topology tick us w x none
 
-      chosen-is : selectFor cs ns us (limits .cpus) (recordAt ts x) cpu.None ≡ as-cpu (selected .got)
+      chosen-is : select-for cs ns us (limits .cpus) (record-at ts x) cpu.None ≡ as-cpu (selected .got)
       unfolding named
       chosen-is = select-shown limits topology tick us known numbered small early us-in H ns tree node put-on s safe x (numbered x is-known) cpu.None
 
       abbrev selection : Selected limits topology tick us known numbered H us-in w selected
       selection = select-cpu-selected limits topology tick us known numbered H us-in w x none (safe .mild x)
 
-      shows-selection : Shows limits topology known active ts (selectedFor cs ns us (limits .cpus) (recordAt ts x) cpu.None) (selected .world)
+      shows-selection : World-rep limits topology known active ts (selected-for cs ns us (limits .cpus) (record-at ts x) cpu.None) (selected .world)
       unfolding named
       shows-selection = shows-selected limits topology tick us known numbered small early us-in H ns tree node put-on s safe x (numbered x is-known) cpu.None
 
@@ -168,9 +169,9 @@ module _ (limits : Limits) (topology : Topology) (tick us : ℕ) (known : ℕ �
       }
 
       pub wakes : (c : ℕ) → selected .got ≡ some c → c < limits .cpus → 0 ≡ w .wakeups
-          → (let d = wakeDef k c x 0 (mem ts (selectedFor cs ns us (limits .cpus) (recordAt ts x) cpu.None)) in
+          → (let d = wake-def k c x 0 (mem ts (selected-for cs ns us (limits .cpus) (record-at ts x) cpu.None)) in
           Leaves limits topology known d (sched.schedule-thread-on-cpu limits topology tick us (selected .world) c x))
-      unfolding wakeDef
+      unfolding wake-def
       wakes c g near zero-now =
           let n : New limits known nobody-but (selected .world) c x = new-same limits topology tick us known numbered H us-in (selection .same) (new c near) in
           let e : selected .world .wakeups ≡ w .wakeups = select-wakeups limits topology tick us w x none in
@@ -185,7 +186,7 @@ module _ (limits : Limits) (topology : Topology) (tick us : ℕ) (known : ℕ �
 
       -- what the definition answers and leaves, once the CPU is known
       pub scheduled-thread : (c : ℕ) → selected .got ≡ some c
-          → (let d = wakeDef k c x 0 (mem ts (selectedFor cs ns us (limits .cpus) (recordAt ts x) cpu.None)) in
-          scheduleThread k x ns (mem ts cs) ≡ record { answer = record { cpu = c; wakeups = d .answer }; memory = d .memory })
-      unfolding scheduleThread scheduledOn context isNone cpuOf as-cpu
-      scheduled-thread c g = ap (λ (o : OptionCpu). scheduledOn k x o (mem ts (selectedFor cs ns us (limits .cpus) (recordAt ts x) cpu.None))) (chosen-is ∙ ap as-cpu g)
+          → (let d = wake-def k c x 0 (mem ts (selected-for cs ns us (limits .cpus) (record-at ts x) cpu.None)) in
+          schedule-thread-def k x ns (mem ts cs) ≡ record { answer = record { cpu = c; wakeups = d .answer }; memory = d .memory })
+      unfolding schedule-thread-def scheduled-on-def context is-none cpu-of-def as-cpu
+      scheduled-thread c g = ap (λ (o : OptionCpu). scheduled-on-def k x o (mem ts (selected-for cs ns us (limits .cpus) (record-at ts x) cpu.None))) (chosen-is ∙ ap as-cpu g)

@@ -7,15 +7,15 @@ use mathlib.Core.List.{List, [], _∷_, _++_}
 use lib.Dec.{eqb}
 use borrow.Author.Tests.{eqb-true, eqb-false, not-true}
 use native.Mathlib.Omega.{arith}
-use Rattle.rules.specs.Line.{both}
+use Rattle.rules.specs.Laws.Line.{both}
 use Rattle.rules.specs.Times.{is-some}
 use Rattle.rules.specs.State.{Limits, all-below, State, start}
 use Rattle.rules.specs.Schedule.{World}
 use Rattle.rules.specs.Requests.{Request, declare-cpu, add-node, place-cpu, seal, declare-thread, set-tick, schedule-thread, schedule, hardtick, stattick, resched, maybe-preempt, donate, remove-donation, set-critical, Reading, unknown, cut-short, asks, read}
 use Rattle.rules.specs.Questions.{Question, open-yet, all-placed, placed-if-declared, declared, concerning, first-no, room, refusal}
-use Rattle.rules.specs.Reached.{yes}
+use Rattle.rules.specs.Laws.Reached.{yes}
 use Rattle.rules.specs.Commands.{refuses, changed, ran, ran-on, schedules, scheduled-on, obeys, answered, step, after-calls}
-use Rattle.rules.specs.Effect.{and-right}
+use Rattle.rules.specs.Laws.Effect.{and-right}
 
 -- what is asked of a sealed topology
 pub record Sealed (s : State) : Type 0 where

@@ -1,11 +1,11 @@
 // Donation, and the mark that a thread is critical.
-ghost use Rattle.lent.specs.Left.{becomes-one, leaves-one};
-ghost use Rattle.sched_queues.specs.Donate.{donatePriority, removeDonated, setCritical};
-use lent::records::get;
-use lent::records::set;
+ghost use Rattle.records.specs.Left.{becomes-one, leaves-one};
+ghost use Rattle.sched_queues.specs.Donate.{donate-priority-def, remove-donated, set-critical-def};
 use processor::words::CpuWords;
+use records::record::get;
+use records::record::set;
 use rules::Priority;
-use step::donate::signal_donation;
+use sched_words::donate::signal_donation;
 use thread::Thread;
 
 pub fn donate_priority(
@@ -16,7 +16,7 @@ pub fn donate_priority(
     pri: Priority,
     wakeups: u64,
 ) -> u64
-    ensures { λ r. ⌜ leaves-one (donatePriority us x pri wakeups (now (cpus .entry))) r threads ⌝ }
+    ensures { λ r. ⌜ leaves-one (donate-priority-def us x pri wakeups (now (cpus .entry))) r threads ⌝ }
 {
     let t = get(threads, x);
     let d = t.donate_priority(pri);
@@ -26,7 +26,7 @@ pub fn donate_priority(
 }
 
 pub fn remove_donated_priority(threads: &mut [Thread], x: u64)
-    ensures { λ _. ⌜ becomes-one (removeDonated x) threads ⌝ }
+    ensures { λ _. ⌜ becomes-one (remove-donated x) threads ⌝ }
 {
     let t = get(threads, x);
     let u = t.remove_donated_priority();
@@ -34,7 +34,7 @@ pub fn remove_donated_priority(threads: &mut [Thread], x: u64)
 }
 
 pub fn set_critical(threads: &mut [Thread], x: u64, mark: u64)
-    ensures { λ _. ⌜ becomes-one (setCritical x mark) threads ⌝ }
+    ensures { λ _. ⌜ becomes-one (set-critical-def x mark) threads ⌝ }
 {
     let t = get(threads, x);
     let u = t.set_critical(mark);

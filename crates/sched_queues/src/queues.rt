@@ -2,28 +2,28 @@
 ghost use mathlib.Core.Path.{_≡_};
 ghost use lib.Dec.{eqb};
 ghost use Rattle.thread.specs.Thread.{NONE};
-ghost use Rattle.lent.specs.Left.{becomes-one, leaves, leaves-over};
-ghost use Rattle.lent.specs.declared.rq.Taken.the-variants as taken;
-ghost use Rattle.sched_queues.specs.Queues.{isNobody, threadOf, scheduleThreadOnCpu, wakeDef, blockDef, takeFrom, trySteal};
-use lent::records::get;
-use lent::records::set;
-use lent::rq::Taken;
-use lent::rq::insert;
-use lent::rq::take;
-use nodes::words::NodeWords;
+ghost use Rattle.records.specs.Left.{becomes-one, leaves, leaves-over};
+ghost use Rattle.records.specs.declared.rq.Taken.the-variants as taken;
+ghost use Rattle.sched_queues.specs.Queues.{is-nobody, thread-of, schedule-thread-on-cpu-def, wake-def, block-def, take-from, try-steal-def};
 use processor::words::CpuWords;
-use step::choose::steal_from;
-use step::context::Context;
-use step::option::cpu_of;
-use step::option::is_none;
-use step::signal::signal;
-use step::time::moved_to;
-use step::time::should_signal;
+use records::record::get;
+use records::record::set;
+use records::rq::Taken;
+use records::rq::insert;
+use records::rq::take;
+use sched_words::choose::steal_from;
+use sched_words::context::Context;
+use sched_words::option::cpu_of;
+use sched_words::option::is_none;
+use sched_words::signal::signal;
+use sched_words::time::moved_to;
+use sched_words::time::should_signal;
 use thread::NONE;
 use thread::Thread;
+use topology::words::NodeWords;
 
 pub fn is_nobody(t: Taken) -> bool
-    ensures { λ r. ⌜ r ≡ isNobody t ⌝ }
+    ensures { λ r. ⌜ r ≡ is-nobody t ⌝ }
 {
     match t {
         Taken::Thread(_) => false,
@@ -33,7 +33,7 @@ pub fn is_nobody(t: Taken) -> bool
 
 // The thread that was handed out.
 pub fn thread_of(t: Taken) -> u64
-    ensures { λ r. ⌜ r ≡ threadOf t ⌝ }
+    ensures { λ r. ⌜ r ≡ thread-of t ⌝ }
 {
     match t {
         Taken::Thread(x) => x,
@@ -63,7 +63,7 @@ pub fn schedule_thread_on_cpu(
     x: u64,
     wakeups: u64,
 ) -> u64
-    ensures { λ r. ⌜ leaves (scheduleThreadOnCpu k c x wakeups) r threads cpus ⌝ }
+    ensures { λ r. ⌜ leaves (schedule-thread-on-cpu-def k c x wakeups) r threads cpus ⌝ }
 {
     let us = k.us;
     let tick = k.tick;
@@ -85,14 +85,14 @@ pub fn wake(
     x: u64,
     wakeups: u64,
 ) -> u64
-    ensures { λ r. ⌜ leaves (wakeDef k c x wakeups) r threads cpus ⌝ }
+    ensures { λ r. ⌜ leaves (wake-def k c x wakeups) r threads cpus ⌝ }
 {
     schedule_thread_on_cpu(threads, cpus, k, c, x, wakeups)
 }
 
 // The thread running is blocked.
 pub fn block(threads: &mut [Thread], x: u64)
-    ensures { λ _. ⌜ becomes-one (blockDef x) threads ⌝ }
+    ensures { λ _. ⌜ becomes-one (block-def x) threads ⌝ }
 {
     let t = get(threads, x);
     let u = t.blocked();
@@ -106,7 +106,7 @@ pub fn take_a_thread_from_cpu(
     c: u64,
     d: u64,
 ) -> Taken
-    ensures { λ r. ⌜ leaves (takeFrom c d) r threads cpus ⌝ }
+    ensures { λ r. ⌜ leaves (take-from c d) r threads cpus ⌝ }
 {
     let stealing = d != c;
     let taken = take(threads, cpus, c, stealing);
@@ -126,7 +126,7 @@ pub fn try_steal(
     nodes: &[NodeWords],
     k: Context,
 ) -> Taken
-    ensures { λ r. ⌜ leaves-over (trySteal k) r threads cpus nodes ⌝ }
+    ensures { λ r. ⌜ leaves-over (try-steal-def k) r threads cpus nodes ⌝ }
 {
     let us = k.us;
     let limit = k.limit;

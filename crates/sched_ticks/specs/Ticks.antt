@@ -8,31 +8,31 @@ use Rattle.thread.specs.declared.Thread.{Thread}
 use Rattle.thread.specs.declared.time.Paid.{Paid}
 use Rattle.thread.specs.Thread.{NONE}
 use Rattle.thread.specs.Time.{pay-ticks}
-use Rattle.lent.specs.Left.{Words, Memory, Left}
-use Rattle.lent.specs.Rq.{recordAt, hardtickDef}
-use Rattle.step.specs.Preempt.{needsReschedule, allowedAt, idlePaid, expires, rescheds}
-use Rattle.step.specs.Running.{runningAt}
-use Rattle.step.specs.declared.context.Context.{Context}
+use Rattle.records.specs.Left.{Words, Memory, Left}
+use Rattle.records.specs.Rq.{record-at, hardtick-def}
+use Rattle.sched_words.specs.Preempt.{needs-reschedule-def, allowed-at, idle-paid, expires, rescheds}
+use Rattle.sched_words.specs.Running.{running-at}
+use Rattle.sched_words.specs.declared.context.Context.{Context}
 
 -- the thread running, cur, pays for the ticks that passed; resched: it has to give way anyhow
-unfoldable pub paidBy : Context → ℕ → Left ℕ Words → Memory → Memory
-paidBy k cur h m =
+unfoldable pub paid-by-def : Context → ℕ → Left ℕ Words → Memory → Memory
+paid-by-def k cur h m =
     cond (eqb cur NONE)
     (record {
       threads = m .threads;
       cpus =
-          expires (idlePaid (h .memory) (k .us) (k .shortest) (h .answer) .cpus) (k .us) (needsReschedule (m .cpus) (k .us) (recordAt (m .threads) cur) true)
-          (idlePaid (h .memory) (k .us) (k .shortest) (h .answer) .mark);
+          expires (idle-paid (h .memory) (k .us) (k .shortest) (h .answer) .cpus) (k .us) (needs-reschedule-def (m .cpus) (k .us) (record-at (m .threads) cur) true)
+          (idle-paid (h .memory) (k .us) (k .shortest) (h .answer) .mark);
     })
     (record {
-      threads = set (m .threads) cur (pay-ticks (recordAt (m .threads) cur) (h .answer) (allowedAt (h .memory) (k .us) (k .shortest) (recordAt (m .threads) cur)) .thread);
+      threads = set (m .threads) cur (pay-ticks (record-at (m .threads) cur) (h .answer) (allowed-at (h .memory) (k .us) (k .shortest) (record-at (m .threads) cur)) .thread);
       cpus =
-          expires (h .memory) (k .us) (needsReschedule (m .cpus) (k .us) (recordAt (m .threads) cur) true)
-          (pay-ticks (recordAt (m .threads) cur) (h .answer) (allowedAt (h .memory) (k .us) (k .shortest) (recordAt (m .threads) cur)) .expired);
+          expires (h .memory) (k .us) (needs-reschedule-def (m .cpus) (k .us) (record-at (m .threads) cur) true)
+          (pay-ticks (record-at (m .threads) cur) (h .answer) (allowed-at (h .memory) (k .us) (k .shortest) (record-at (m .threads) cur)) .expired);
     })
 
-unfoldable pub scheduleHardtick : Context → Memory → Memory
-scheduleHardtick k m = paidBy k (runningAt (m .cpus) (k .us)) (hardtickDef (k .us) (k .tick) (m .cpus)) m
+unfoldable pub schedule-hardtick-def : Context → Memory → Memory
+schedule-hardtick-def k m = paid-by-def k (running-at (m .cpus) (k .us)) (hardtick-def (k .us) (k .tick) (m .cpus)) m
 
-unfoldable pub scheduleResched : ℕ → List Thread → Words → Words
-scheduleResched us ts cs = rescheds cs us (recordAt ts (runningAt cs us))
+unfoldable pub schedule-resched-def : ℕ → List Thread → Words → Words
+schedule-resched-def us ts cs = rescheds cs us (record-at ts (running-at cs us))

@@ -1,20 +1,20 @@
 // `balance` and the stat tick.
 ghost use mathlib.Core.Path.{_≡_};
 ghost use mathlib.Core.Bool.{not};
-ghost use Rattle.lent.specs.Left.{leaves, leaves-over};
-ghost use Rattle.sched_ticks.specs.Balance.{moveOne, balanceDef, maybeRebalance, scheduleStattick};
-use lent::rq::clock;
-use nodes::words::NodeWords;
+ghost use Rattle.records.specs.Left.{leaves, leaves-over};
+ghost use Rattle.sched_ticks.specs.Balance.{move-one-def, balance-def, maybe-rebalance-def, schedule-stattick-def};
 use processor::words::CpuWords;
+use records::rq::clock;
 use sched_queues::queues::is_nobody;
 use sched_queues::queues::schedule_thread_on_cpu;
 use sched_queues::queues::take_a_thread_from_cpu;
 use sched_queues::queues::thread_of;
-use step::balance::Balancing;
-use step::balance::find_move;
-use step::context::Context;
-use step::rebalance::rebalance_due;
+use sched_words::balance::Balancing;
+use sched_words::balance::find_move;
+use sched_words::context::Context;
+use sched_words::rebalance::rebalance_due;
 use thread::Thread;
+use topology::words::NodeWords;
 
 fn stays(b: Balancing) -> bool
     ensures { λ r. ⌜ r ≡ not (b .moves) ⌝ }
@@ -33,7 +33,7 @@ pub fn move_one(
     b: Balancing,
     wakeups: u64,
 ) -> u64
-    ensures { λ r. ⌜ leaves (moveOne k b wakeups) r threads cpus ⌝ }
+    ensures { λ r. ⌜ leaves (move-one-def k b wakeups) r threads cpus ⌝ }
 {
     if stays(b) {
         return wakeups;
@@ -56,7 +56,7 @@ pub fn balance(
     k: Context,
     wakeups: u64,
 ) -> u64
-    ensures { λ r. ⌜ leaves-over (balanceDef k wakeups) r threads cpus nodes ⌝ }
+    ensures { λ r. ⌜ leaves-over (balance-def k wakeups) r threads cpus nodes ⌝ }
 {
     let us = k.us;
     let limit = k.limit;
@@ -75,7 +75,7 @@ pub fn schedule_maybe_rebalance(
     dt: u64,
     wakeups: u64,
 ) -> u64
-    ensures { λ r. ⌜ leaves-over (maybeRebalance k dt wakeups) r threads cpus nodes ⌝ }
+    ensures { λ r. ⌜ leaves-over (maybe-rebalance-def k dt wakeups) r threads cpus nodes ⌝ }
 {
     let us = k.us;
     let due = rebalance_due(cpus, us, dt);
@@ -93,7 +93,7 @@ pub fn schedule_stattick(
     dt: u64,
     wakeups: u64,
 ) -> u64
-    ensures { λ r. ⌜ leaves-over (scheduleStattick k dt wakeups) r threads cpus nodes ⌝ }
+    ensures { λ r. ⌜ leaves-over (schedule-stattick-def k dt wakeups) r threads cpus nodes ⌝ }
 {
     let us = k.us;
     let w = schedule_maybe_rebalance(threads, cpus, nodes, k, dt, wakeups);

@@ -13,14 +13,14 @@ use Prim.Native.Nat.{ℕ}
 use mathlib.Core.List.{List}
 use lib.ListN.{length}
 use Rattle.questions.specs.declared.state.State.{State}
-use Rattle.lent.specs.Left.{Left}
+use Rattle.records.specs.Left.{Left}
 use Rattle.command.specs.Lent.{Lent}
-use Rattle.command.specs.Command.{commandDef}
-use Rattle.feed.specs.Start.{startDef}
+use Rattle.command.specs.Command.{command-def}
+use Rattle.stream.specs.Start.{start-def}
 use Rattle.outcome.specs.declared.answer.Answered.{Answered}
 use Rattle.outcome.specs.Call.{refusal-back, refusal-again}
-use Rattle.feed.specs.declared.start.Started.{Started}
-use Rattle.feed.specs.declared.start.Started.the-variants as started
+use Rattle.stream.specs.declared.start.Started.{Started}
+use Rattle.stream.specs.declared.start.Started.the-variants as started
 use Rattle.scheduler.specs.declared.numbers.Column.{Column}
 use Rattle.scheduler.specs.declared.numbers.Runs.{Runs}
 use Rattle.scheduler.specs.declared.numbers.Row.{Row}
@@ -98,8 +98,8 @@ answer-again a =
 
 -- ---- what the two calls leave
 
-abbrev pub startRow : Lent → Left Begun Lent
-startRow w = record { answer = begun-of (startDef w .answer); memory = startDef w .memory }
+abbrev pub start-row : Lent → Left Begun Lent
+start-row w = record { answer = begun-of (start-def w .answer); memory = start-def w .memory }
 
-abbrev pub commandRow : State → List ℕ → Lent → Left Step Lent
-commandRow s bytes w = record { answer = step-of (commandDef (length bytes) 0 s bytes w .answer); memory = commandDef (length bytes) 0 s bytes w .memory }
+abbrev pub command-row : State → List ℕ → Lent → Left Step Lent
+command-row s bytes w = record { answer = step-of (command-def (length bytes) 0 s bytes w .answer); memory = command-def (length bytes) 0 s bytes w .memory }

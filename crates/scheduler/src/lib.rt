@@ -5,9 +5,9 @@ ghost use mathlib.Core.Path.{_≡_};
 ghost use Rattle.rules.specs.Lines.{line};
 ghost use Rattle.lines.specs.Lines.{answer-of, rendered, buffer-with};
 ghost use Rattle.command.specs.Lent.{leaves-all};
-ghost use Rattle.feed.specs.Fed.{begin};
-ghost use Rattle.feed.specs.Feed.{feeds, feedDef};
-ghost use Rattle.scheduler.specs.Numbers.{answer-in, written-of, startRow, commandRow};
+ghost use Rattle.stream.specs.Progress.{begin};
+ghost use Rattle.stream.specs.Feed.{feeds, feed-def};
+ghost use Rattle.scheduler.specs.Numbers.{answer-in, written-of, start-row, command-row};
 use crate::numbers::Begun;
 use crate::numbers::Row;
 use crate::numbers::Step;
@@ -17,15 +17,15 @@ use crate::numbers::begun_of;
 use crate::numbers::step_of;
 use crate::numbers::written_of;
 use command::obey::command;
-use feed::fed::Fed;
-use feed::fed::begin;
-use feed::feed::feed;
-use feed::start::start;
 use lines::render;
-use nodes::words::NodeWords;
 use processor::words::CpuWords;
 use questions::state::State;
+use stream::feed::feed;
+use stream::progress::Progress;
+use stream::progress::begin;
+use stream::start::start;
 use thread::Thread;
+use topology::words::NodeWords;
 
 // The library's start. Where a slice is too short nothing is changed.
 #[no_mangle]
@@ -34,7 +34,7 @@ pub extern "C" fn scheduler_start(
     cpus: &mut [CpuWords],
     nodes: &mut [NodeWords],
 ) -> Begun
-    ensures { λ r. ⌜ leaves-all startRow r threads cpus nodes ⌝ }
+    ensures { λ r. ⌜ leaves-all start-row r threads cpus nodes ⌝ }
 {
     let started = start(threads, cpus, nodes);
     begun_of(started)
@@ -49,7 +49,7 @@ pub extern "C" fn scheduler_command(
     bytes: &[u8],
     state: State,
 ) -> Step
-    ensures { λ r. ⌜ leaves-all (commandRow state (now (bytes .entry))) r threads cpus nodes ⌝ }
+    ensures { λ r. ⌜ leaves-all (command-row state (now (bytes .entry))) r threads cpus nodes ⌝ }
 {
     let answered = command(threads, cpus, nodes, bytes, state);
     step_of(answered)
@@ -66,7 +66,7 @@ pub extern "C" fn scheduler_render(buffer: &mut [u8], number: u64, row: Row) -> 
 
 // A run that begins.
 #[no_mangle]
-pub extern "C" fn scheduler_begin(state: State) -> Fed
+pub extern "C" fn scheduler_begin(state: State) -> Progress
     ensures { λ r. ⌜ r ≡ begin state ⌝ }
 {
     begin(state)
@@ -82,9 +82,9 @@ pub extern "C" fn scheduler_feed(
     output: &mut [u8],
     n: usize,
     last: bool,
-    fed: Fed,
-) -> Fed
-    ensures { λ r. ⌜ feeds (feedDef (now (input .entry)) n last) fed r threads cpus nodes output ⌝ }
+    fed: Progress,
+) -> Progress
+    ensures { λ r. ⌜ feeds (feed-def (now (input .entry)) n last) fed r threads cpus nodes output ⌝ }
 {
     feed(threads, cpus, nodes, input, output, n, last, fed)
 }

@@ -2,7 +2,6 @@
 ghost use mathlib.Core.Path.{_≡_};
 ghost use Rattle.outcome.specs.Call.{refusal-back};
 ghost use Rattle.scheduler.specs.Numbers.{column-of, shown-in, runs-of, running-in, row-of, answer-in, step-of, no-state, begun-of, written-of};
-use feed::start::Started;
 use lines::Answer;
 use lines::Refusal;
 use lines::Rendered;
@@ -11,6 +10,7 @@ use lines::Shown;
 use lines::refusal_number;
 use outcome::answer::Answered;
 use questions::state::State;
+use stream::start::Started;
 
 // A number of a line, or `-` where it is not shown.
 #[repr(C)]

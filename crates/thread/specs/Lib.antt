@@ -1,6 +1,6 @@
-pub mod Thread
 pub mod Flags
-pub mod Reads
-pub mod Priority
-pub mod Time
 pub mod Place
+pub mod Priority
+pub mod Reads
+pub mod Thread
+pub mod Time

@@ -6,7 +6,7 @@ use mathlib.Core.Option.{Option, none, some}
 use native.Mathlib.Omega.{arith}
 use lib.Dec.{eqb, ltb}
 use borrow.Author.Tests.{lt-ltb, ltb-true, ne-eqb}
-use Rattle.rules.specs.Line.{both}
+use Rattle.rules.specs.Laws.Line.{both}
 use Rattle.rules.specs.declared.PriorityClass.{PriorityClass}
 use Rattle.rules.specs.declared.PriorityClass.the-variants as class
 use Rattle.rules.specs.declared.Priority.{Priority}

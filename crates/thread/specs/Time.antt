@@ -20,7 +20,7 @@ use Rattle.thread.specs.declared.time.Preferred.the-variants as preferre
 use Rattle.thread.specs.declared.time.OptionCpu.{OptionCpu}
 use Rattle.thread.specs.declared.time.OptionCpu.the-variants as cpu
 use Rattle.thread.specs.Thread.{with-last, with-pinned, with-queue, with-deadline, with-timeslice}
-use Rattle.rules.specs.Line.{both}
+use Rattle.rules.specs.Laws.Line.{both}
 use Rattle.thread.specs.Reads.{named, cpu-in, donated-in, reads}
 
 -- the field for a CPU number; a number past the largest of an i32 is none

@@ -1,2 +1,5 @@
 pub mod Bits
 pub mod CpuSet
+pub mod Node
+pub mod Walk
+pub mod Words

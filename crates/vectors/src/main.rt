@@ -1,17 +1,17 @@
 // The stored streams, each fed to the library and compared with what the Rust printed for it, byte by byte. Standard input holds them one after the other:
 // the length of the stream and of the lines, four bytes each, then the stream and the lines.
 use check::same;
-use feed::fed::ENDED;
-use feed::fed::Fed;
-use feed::fed::begin;
-use feed::feed::feed;
-use feed::start::Started;
-use feed::start::start;
-use nodes::words::NodeWords;
 use processor::words::CpuWords;
 use questions::state::State;
+use stream::feed::feed;
+use stream::progress::ENDED;
+use stream::progress::Progress;
+use stream::progress::begin;
+use stream::start::Started;
+use stream::start::start;
 use thread::Thread;
 use thread::blank;
+use topology::words::NodeWords;
 
 pub struct Sizes {
     pub stream: usize,
@@ -133,15 +133,15 @@ fn tallied(t: Tally, read: bool, header: bool, equals: bool) -> Tally {
     }
 }
 
-fn begun(started: Started) -> Fed {
+fn begun(started: Started) -> Progress {
     match started {
         Started::Ready(state) => begin(state),
         Started::NoRoom => nothing(),
     }
 }
 
-fn nothing() -> Fed {
-    Fed {
+fn nothing() -> Progress {
+    Progress {
         at: 0,
         done: 0,
         number: 0,

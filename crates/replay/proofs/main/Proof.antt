@@ -30,19 +30,19 @@ use denote.Triple.Spec.{tripleOf}
 use denote.Triple.Table.{cited}
 use denote.Triple.Clauses.{Clauses}
 use denote.Triple.Walked.{Stays, walkOf, ends-at}
-use Rattle.lent.proofs.Walk.{Datum, number, truth, nil, struct, Dens, AreD, listed, spell, lent-as, slice-of, kept, bare, full, arrayed, freed, told, proved}
-use Rattle.lent.proofs.Lent.{mutable, choice, arr, call-slices, call-left, call-slices-none, big-lit, all-freed, rep-is, array-typed-of, says-none, begins0, leaves0}
+use Rattle.records.proofs.Walk.{Datum, number, truth, nil, struct, Dens, AreD, listed, spell, lent-as, slice-of, kept, bare, full, arrayed, freed, told, proved}
+use Rattle.records.proofs.Lent.{mutable, choice, arr, call-slices, call-left, call-slices-none, big-lit, all-freed, rep-is, array-typed-of, says-none, begins0, leaves0}
 use Rattle.command.specs.Lent.{Lent}
-use Rattle.feed.specs.Start.{startDef}
-use Rattle.lent.specs.Left.{Left}
+use Rattle.records.specs.Left.{Left}
+use Rattle.stream.specs.Start.{start-def}
 use Rattle.thread.specs.Thread.{blank}
 use denote.Struct.Laws as LL
 use Rattle.replay.specs.declared.Serving.{Serving}
 use Rattle.replay.proofs.Serving as Serving·
 use Rattle.replay.proofs.Serving.Laws as Serving·laws
-use Rattle.feed.specs.declared.start.Started.{Started}
-use Rattle.feed.proofs.start.Started as Started·
-use Rattle.feed.proofs.start.Started.Laws as Started·laws
+use Rattle.stream.specs.declared.start.Started.{Started}
+use Rattle.stream.proofs.start.Started as Started·
+use Rattle.stream.proofs.start.Started.Laws as Started·laws
 use Rattle.thread.specs.declared.Thread.{Thread}
 use Rattle.thread.proofs.Thread as Thread·
 use Rattle.thread.proofs.Thread.Laws as Thread·laws
@@ -55,9 +55,9 @@ use Rattle.replay.proofs.no_cpu.Met as fn-replay-no-cpu-thm
 use Rattle.replay.proofs.no_node as fn-replay-no-node
 use Rattle.replay.proofs.no_node.Symbol as fn-replay-no-node-def
 use Rattle.replay.proofs.no_node.Met as fn-replay-no-node-thm
-use Rattle.feed.proofs.start.start as fn-feed-start-start
-use Rattle.feed.proofs.start.start.Symbol as fn-feed-start-start-def
-use Rattle.feed.proofs.start.start.Met as fn-feed-start-start-thm
+use Rattle.stream.proofs.start.start as fn-stream-start-start
+use Rattle.stream.proofs.start.start.Symbol as fn-stream-start-start-def
+use Rattle.stream.proofs.start.start.Met as fn-stream-start-start-thm
 use Rattle.replay.proofs.begun as fn-replay-begun
 use Rattle.replay.proofs.begun.Symbol as fn-replay-begun-def
 use Rattle.replay.proofs.begun.Met as fn-replay-begun-thm
@@ -190,8 +190,8 @@ module _ {M : Type 1} (𝓤 : URA M) (H : Heap 𝓤) (𝓜 : Model 𝓤 H) (𝓖
         join ! $
         move ! (3 ∷ 0 ∷ []) $
         join ! $
-        call-left Started° ([]) tt (emp 𝓤) ((mutable Thread·.the-row (replicate {A = Thread} 1024 blank) l₄ 0 n₁ (sym (length-replicate {A = Thread} 1024 blank)) room₁) ∷ (mutable (Array u64 96) (replicate {A = (List ℕ)} 64 r₇) l₅ 0 n₂ (sym (length-replicate {A = (List ℕ)} 64 r₇)) room₂) ∷ (mutable (Array u64 32) (replicate {A = (List ℕ)} 128 r₁₁) l₆ 0 n₃ (sym (length-replicate {A = (List ℕ)} 128 r₁₁)) room₃) ∷ []) ! fm (λ r ws. (r ≡ ((startDef (record { threads = replicate {A = Thread} 1024 blank; cpus = replicate {A = (List ℕ)} 64 r₇; nodes = replicate {A = (List ℕ)} 128 r₁₁ })) .answer)) × ((ws .0 ≡ ((startDef (record { threads = replicate {A = Thread} 1024 blank; cpus = replicate {A = (List ℕ)} 64 r₇; nodes = replicate {A = (List ℕ)} 128 r₁₁ })) .memory .threads)) × ((ws .1 .0 ≡ ((startDef (record { threads = replicate {A = Thread} 1024 blank; cpus = replicate {A = (List ℕ)} 64 r₇; nodes = replicate {A = (List ℕ)} 128 r₁₁ })) .memory .cpus)) × (ws .1 .1 .0 ≡ ((startDef (record { threads = replicate {A = Thread} 1024 blank; cpus = replicate {A = (List ℕ)} 64 r₇; nodes = replicate {A = (List ℕ)} 128 r₁₁ })) .memory .nodes))))) (λ r ws. _≡_ {A = Left Started Lent} (record { answer = r; memory = record { threads = ws .0; cpus = ws .1 .0; nodes = ws .1 .1 .0 } }) (startDef (record { threads = replicate {A = Thread} 1024 blank; cpus = replicate {A = (List ℕ)} 64 r₇; nodes = replicate {A = (List ℕ)} 128 r₁₁ }))) (λ r ws e. (ap (λ (z : Left Started Lent). z .answer) e, (ap (λ (z : Left Started Lent). z .memory .threads) e, (ap (λ (z : Left Started Lent). z .memory .cpus) e, ap (λ (z : Left Started Lent). z .memory .nodes) e)))) tt (id⊢ 𝓤 (emp 𝓤))
-        (λ νs. cited 𝓤 H (tripleOf 𝓤 H A fn-feed-start-start.signature (fn-feed-start-start.spec 𝓤 H A (𝓜 .mem) (𝓡 .run))) 𝓜 𝓡 code.env fn-feed-start-start-def.name fn-feed-start-start-def.routine code.calls-feed·start·start (fn-feed-start-start-thm.met 𝓤 H 𝓜 𝓖 𝓡) (((νs .0 .0 ∷ [], (νs .1 .0 .0 ∷ [], (νs .1 .1 .0 .0 ∷ [], tt))), (fullShare, (fullShare, (fullShare, tt))), tt, (lent-as l₄ 0 (νs .0 .1) (replicate {A = Thread} 1024 blank), (lent-as l₅ 0 (νs .1 .0 .1) (replicate {A = (List ℕ)} 64 r₇), (lent-as l₆ 0 (νs .1 .1 .0 .1) (replicate {A = (List ℕ)} 128 r₁₁), tt))), (slice-of l₄ 0 (replicate {A = Thread} 1024 blank) ∷ [], (slice-of l₅ 0 (replicate {A = (List ℕ)} 64 r₇) ∷ [], (slice-of l₆ 0 (replicate {A = (List ℕ)} 128 r₁₁) ∷ [], spell ([]) tt)))), tt))
+        call-left Started° ([]) tt (emp 𝓤) ((mutable Thread·.the-row (replicate {A = Thread} 1024 blank) l₄ 0 n₁ (sym (length-replicate {A = Thread} 1024 blank)) room₁) ∷ (mutable (Array u64 96) (replicate {A = (List ℕ)} 64 r₇) l₅ 0 n₂ (sym (length-replicate {A = (List ℕ)} 64 r₇)) room₂) ∷ (mutable (Array u64 32) (replicate {A = (List ℕ)} 128 r₁₁) l₆ 0 n₃ (sym (length-replicate {A = (List ℕ)} 128 r₁₁)) room₃) ∷ []) ! fm (λ r ws. (r ≡ ((start-def (record { threads = replicate {A = Thread} 1024 blank; cpus = replicate {A = (List ℕ)} 64 r₇; nodes = replicate {A = (List ℕ)} 128 r₁₁ })) .answer)) × ((ws .0 ≡ ((start-def (record { threads = replicate {A = Thread} 1024 blank; cpus = replicate {A = (List ℕ)} 64 r₇; nodes = replicate {A = (List ℕ)} 128 r₁₁ })) .memory .threads)) × ((ws .1 .0 ≡ ((start-def (record { threads = replicate {A = Thread} 1024 blank; cpus = replicate {A = (List ℕ)} 64 r₇; nodes = replicate {A = (List ℕ)} 128 r₁₁ })) .memory .cpus)) × (ws .1 .1 .0 ≡ ((start-def (record { threads = replicate {A = Thread} 1024 blank; cpus = replicate {A = (List ℕ)} 64 r₇; nodes = replicate {A = (List ℕ)} 128 r₁₁ })) .memory .nodes))))) (λ r ws. _≡_ {A = Left Started Lent} (record { answer = r; memory = record { threads = ws .0; cpus = ws .1 .0; nodes = ws .1 .1 .0 } }) (start-def (record { threads = replicate {A = Thread} 1024 blank; cpus = replicate {A = (List ℕ)} 64 r₇; nodes = replicate {A = (List ℕ)} 128 r₁₁ }))) (λ r ws e. (ap (λ (z : Left Started Lent). z .answer) e, (ap (λ (z : Left Started Lent). z .memory .threads) e, (ap (λ (z : Left Started Lent). z .memory .cpus) e, ap (λ (z : Left Started Lent). z .memory .nodes) e)))) tt (id⊢ 𝓤 (emp 𝓤))
+        (λ νs. cited 𝓤 H (tripleOf 𝓤 H A fn-stream-start-start.signature (fn-stream-start-start.spec 𝓤 H A (𝓜 .mem) (𝓡 .run))) 𝓜 𝓡 code.env fn-stream-start-start-def.name fn-stream-start-start-def.routine code.calls-stream·start·start (fn-stream-start-start-thm.met 𝓤 H 𝓜 𝓖 𝓡) (((νs .0 .0 ∷ [], (νs .1 .0 .0 ∷ [], (νs .1 .1 .0 .0 ∷ [], tt))), (fullShare, (fullShare, (fullShare, tt))), tt, (lent-as l₄ 0 (νs .0 .1) (replicate {A = Thread} 1024 blank), (lent-as l₅ 0 (νs .1 .0 .1) (replicate {A = (List ℕ)} 64 r₇), (lent-as l₆ 0 (νs .1 .1 .0 .1) (replicate {A = (List ℕ)} 128 r₁₁), tt))), (slice-of l₄ 0 (replicate {A = Thread} 1024 blank) ∷ [], (slice-of l₅ 0 (replicate {A = (List ℕ)} 64 r₇) ∷ [], (slice-of l₆ 0 (replicate {A = (List ℕ)} 128 r₁₁) ∷ [], spell ([]) tt)))), tt))
         (λ k. and-then ! (load ! (from ! (stop !)) (look ! 33 refl)) (and-then ! (load ! (from ! (stop !)) (look ! 29 refl)) (and-then ! (load ! (from ! (stop !)) (look ! 25 refl)) (no-more !)))) (λ r₁₅ ws₁₆ is₁₇ ls₁₈ e₁₉.
         split ! $
         move ! (1 ∷ []) $
@@ -204,10 +204,10 @@ module _ {M : Type 1} (𝓤 : URA M) (H : Heap 𝓤) (𝓜 : Model 𝓤 H) (𝓖
         rewrite ! 1 (λ (us : List (List ℕ)). ‵ (row (Array u64 96) fullShare us l₅ 0)) (e₁₉ .1 .1 .0) refl $
         rewrite ! 0 (λ (us : List (List ℕ)). ‵ (row (Array u64 32) fullShare us l₆ 0)) (e₁₉ .1 .1 .1) refl $
         told ! Started° (e₁₉ .0) is₁₇ (λ is₂₀.
-        land ! (from ! (stop !)) (init ! 41 refl (Started° .typed 𝓤 H A W ((startDef (record { threads = replicate {A = Thread} 1024 blank; cpus = replicate {A = (List ℕ)} 64 r₇; nodes = replicate {A = (List ℕ)} 128 r₁₁ })) .answer) (is₂₀) .0)) $
+        land ! (from ! (stop !)) (init ! 41 refl (Started° .typed 𝓤 H A W ((start-def (record { threads = replicate {A = Thread} 1024 blank; cpus = replicate {A = (List ℕ)} 64 r₇; nodes = replicate {A = (List ℕ)} 128 r₁₁ })) .answer) (is₂₀) .0)) $
         nothing ! $
-        call-slices-none Serving° (Started° ∷ []) (((startDef (record { threads = replicate {A = Thread} 1024 blank; cpus = replicate {A = (List ℕ)} 64 r₇; nodes = replicate {A = (List ℕ)} 128 r₁₁ })) .answer, tt)) (emp 𝓤) ([]) ! fm ((is₂₀, tt)) (id⊢ 𝓤 (emp 𝓤))
-        (λ νs. cited 𝓤 H (tripleOf 𝓤 H A fn-replay-begun.signature (fn-replay-begun.spec 𝓤 H A (𝓜 .mem) (𝓡 .run))) 𝓜 𝓡 code.env fn-replay-begun-def.name fn-replay-begun-def.routine code.calls-replay·begun (fn-replay-begun-thm.met 𝓤 H 𝓜 𝓖 𝓡) ((tt, tt, tt, ((startDef (record { threads = replicate {A = Thread} 1024 blank; cpus = replicate {A = (List ℕ)} 64 r₇; nodes = replicate {A = (List ℕ)} 128 r₁₁ })) .answer, tt), spell (Started° ∷ []) (((startDef (record { threads = replicate {A = Thread} 1024 blank; cpus = replicate {A = (List ℕ)} 64 r₇; nodes = replicate {A = (List ℕ)} 128 r₁₁ })) .answer, tt))), tt))
+        call-slices-none Serving° (Started° ∷ []) (((start-def (record { threads = replicate {A = Thread} 1024 blank; cpus = replicate {A = (List ℕ)} 64 r₇; nodes = replicate {A = (List ℕ)} 128 r₁₁ })) .answer, tt)) (emp 𝓤) ([]) ! fm ((is₂₀, tt)) (id⊢ 𝓤 (emp 𝓤))
+        (λ νs. cited 𝓤 H (tripleOf 𝓤 H A fn-replay-begun.signature (fn-replay-begun.spec 𝓤 H A (𝓜 .mem) (𝓡 .run))) 𝓜 𝓡 code.env fn-replay-begun-def.name fn-replay-begun-def.routine code.calls-replay·begun (fn-replay-begun-thm.met 𝓤 H 𝓜 𝓖 𝓡) ((tt, tt, tt, ((start-def (record { threads = replicate {A = Thread} 1024 blank; cpus = replicate {A = (List ℕ)} 64 r₇; nodes = replicate {A = (List ℕ)} 128 r₁₁ })) .answer, tt), spell (Started° ∷ []) (((start-def (record { threads = replicate {A = Thread} 1024 blank; cpus = replicate {A = (List ℕ)} 64 r₇; nodes = replicate {A = (List ℕ)} 128 r₁₁ })) .answer, tt))), tt))
         (λ k. and-then ! (load ! (from ! (stop !)) (look ! 42 refl)) (no-more !)) (λ r₂₁ ws₂₂ is₂₃ ls₂₄.
         drop ! $
         land ! (from ! (stop !)) (init ! 39 refl (Serving° .typed 𝓤 H A W (r₂₁) (is₂₃) .0)) $
@@ -232,8 +232,8 @@ module _ {M : Type 1} (𝓤 : URA M) (H : Heap 𝓤) (𝓜 : Model 𝓤 H) (𝓖
         join ! $
         move ! (1 ∷ 0 ∷ []) $
         join ! $
-        call-slices-none truth (Serving° ∷ []) ((r₂₁, tt)) (emp 𝓤) ((mutable Thread·.the-row ((startDef (record { threads = replicate {A = Thread} 1024 blank; cpus = replicate {A = (List ℕ)} 64 r₇; nodes = replicate {A = (List ℕ)} 128 r₁₁ })) .memory .threads) l₄ 0 n₁ ((sym (length-replicate {A = Thread} 1024 blank) ∙ sym (subst (λ (us : List Thread). length us ≡ length (replicate {A = Thread} 1024 blank)) (e₁₉ .1 .0) (ls₁₈ .0)))) room₁) ∷ (mutable (Array u64 96) ((startDef (record { threads = replicate {A = Thread} 1024 blank; cpus = replicate {A = (List ℕ)} 64 r₇; nodes = replicate {A = (List ℕ)} 128 r₁₁ })) .memory .cpus) l₅ 0 n₂ ((sym (length-replicate {A = (List ℕ)} 64 r₇) ∙ sym (subst (λ (us : List (List ℕ)). length us ≡ length (replicate {A = (List ℕ)} 64 r₇)) (e₁₉ .1 .1 .0) (ls₁₈ .1 .0)))) room₂) ∷ (mutable (Array u64 32) ((startDef (record { threads = replicate {A = Thread} 1024 blank; cpus = replicate {A = (List ℕ)} 64 r₇; nodes = replicate {A = (List ℕ)} 128 r₁₁ })) .memory .nodes) l₆ 0 n₃ ((sym (length-replicate {A = (List ℕ)} 128 r₁₁) ∙ sym (subst (λ (us : List (List ℕ)). length us ≡ length (replicate {A = (List ℕ)} 128 r₁₁)) (e₁₉ .1 .1 .1) (ls₁₈ .1 .1 .0)))) room₃) ∷ (mutable u8 (replicate {A = ℕ} 4096 0) l₇ 0 n₄ (sym (length-replicate {A = ℕ} 4096 0)) room₄) ∷ (mutable u8 (replicate {A = ℕ} 32768 0) l₈ 0 n₅ (sym (length-replicate {A = ℕ} 32768 0)) room₅) ∷ []) ! fm ((is₂₃, tt)) (id⊢ 𝓤 (emp 𝓤))
-        (λ νs. cited 𝓤 H (tripleOf 𝓤 H A fn-replay-serve.signature (fn-replay-serve.spec 𝓤 H A (𝓜 .mem) (𝓡 .run))) 𝓜 𝓡 code.env fn-replay-serve-def.name fn-replay-serve-def.routine code.calls-replay·serve (fn-replay-serve-thm.met 𝓤 H 𝓜 𝓖 𝓡) (((νs .0 .0 ∷ [], (νs .1 .0 .0 ∷ [], (νs .1 .1 .0 .0 ∷ [], (νs .1 .1 .1 .0 .0 ∷ [], (νs .1 .1 .1 .1 .0 .0 ∷ [], tt))))), (fullShare, (fullShare, (fullShare, (fullShare, (fullShare, tt))))), tt, (lent-as l₄ 0 (νs .0 .1) ((startDef (record { threads = replicate {A = Thread} 1024 blank; cpus = replicate {A = (List ℕ)} 64 r₇; nodes = replicate {A = (List ℕ)} 128 r₁₁ })) .memory .threads), (lent-as l₅ 0 (νs .1 .0 .1) ((startDef (record { threads = replicate {A = Thread} 1024 blank; cpus = replicate {A = (List ℕ)} 64 r₇; nodes = replicate {A = (List ℕ)} 128 r₁₁ })) .memory .cpus), (lent-as l₆ 0 (νs .1 .1 .0 .1) ((startDef (record { threads = replicate {A = Thread} 1024 blank; cpus = replicate {A = (List ℕ)} 64 r₇; nodes = replicate {A = (List ℕ)} 128 r₁₁ })) .memory .nodes), (lent-as l₇ 0 (νs .1 .1 .1 .0 .1) (replicate {A = ℕ} 4096 0), (lent-as l₈ 0 (νs .1 .1 .1 .1 .0 .1) (replicate {A = ℕ} 32768 0), (r₂₁, tt)))))), (slice-of l₄ 0 ((startDef (record { threads = replicate {A = Thread} 1024 blank; cpus = replicate {A = (List ℕ)} 64 r₇; nodes = replicate {A = (List ℕ)} 128 r₁₁ })) .memory .threads) ∷ [], (slice-of l₅ 0 ((startDef (record { threads = replicate {A = Thread} 1024 blank; cpus = replicate {A = (List ℕ)} 64 r₇; nodes = replicate {A = (List ℕ)} 128 r₁₁ })) .memory .cpus) ∷ [], (slice-of l₆ 0 ((startDef (record { threads = replicate {A = Thread} 1024 blank; cpus = replicate {A = (List ℕ)} 64 r₇; nodes = replicate {A = (List ℕ)} 128 r₁₁ })) .memory .nodes) ∷ [], (slice-of l₇ 0 (replicate {A = ℕ} 4096 0) ∷ [], (slice-of l₈ 0 (replicate {A = ℕ} 32768 0) ∷ [], spell (Serving° ∷ []) ((r₂₁, tt)))))))), tt))
+        call-slices-none truth (Serving° ∷ []) ((r₂₁, tt)) (emp 𝓤) ((mutable Thread·.the-row ((start-def (record { threads = replicate {A = Thread} 1024 blank; cpus = replicate {A = (List ℕ)} 64 r₇; nodes = replicate {A = (List ℕ)} 128 r₁₁ })) .memory .threads) l₄ 0 n₁ ((sym (length-replicate {A = Thread} 1024 blank) ∙ sym (subst (λ (us : List Thread). length us ≡ length (replicate {A = Thread} 1024 blank)) (e₁₉ .1 .0) (ls₁₈ .0)))) room₁) ∷ (mutable (Array u64 96) ((start-def (record { threads = replicate {A = Thread} 1024 blank; cpus = replicate {A = (List ℕ)} 64 r₇; nodes = replicate {A = (List ℕ)} 128 r₁₁ })) .memory .cpus) l₅ 0 n₂ ((sym (length-replicate {A = (List ℕ)} 64 r₇) ∙ sym (subst (λ (us : List (List ℕ)). length us ≡ length (replicate {A = (List ℕ)} 64 r₇)) (e₁₉ .1 .1 .0) (ls₁₈ .1 .0)))) room₂) ∷ (mutable (Array u64 32) ((start-def (record { threads = replicate {A = Thread} 1024 blank; cpus = replicate {A = (List ℕ)} 64 r₇; nodes = replicate {A = (List ℕ)} 128 r₁₁ })) .memory .nodes) l₆ 0 n₃ ((sym (length-replicate {A = (List ℕ)} 128 r₁₁) ∙ sym (subst (λ (us : List (List ℕ)). length us ≡ length (replicate {A = (List ℕ)} 128 r₁₁)) (e₁₉ .1 .1 .1) (ls₁₈ .1 .1 .0)))) room₃) ∷ (mutable u8 (replicate {A = ℕ} 4096 0) l₇ 0 n₄ (sym (length-replicate {A = ℕ} 4096 0)) room₄) ∷ (mutable u8 (replicate {A = ℕ} 32768 0) l₈ 0 n₅ (sym (length-replicate {A = ℕ} 32768 0)) room₅) ∷ []) ! fm ((is₂₃, tt)) (id⊢ 𝓤 (emp 𝓤))
+        (λ νs. cited 𝓤 H (tripleOf 𝓤 H A fn-replay-serve.signature (fn-replay-serve.spec 𝓤 H A (𝓜 .mem) (𝓡 .run))) 𝓜 𝓡 code.env fn-replay-serve-def.name fn-replay-serve-def.routine code.calls-replay·serve (fn-replay-serve-thm.met 𝓤 H 𝓜 𝓖 𝓡) (((νs .0 .0 ∷ [], (νs .1 .0 .0 ∷ [], (νs .1 .1 .0 .0 ∷ [], (νs .1 .1 .1 .0 .0 ∷ [], (νs .1 .1 .1 .1 .0 .0 ∷ [], tt))))), (fullShare, (fullShare, (fullShare, (fullShare, (fullShare, tt))))), tt, (lent-as l₄ 0 (νs .0 .1) ((start-def (record { threads = replicate {A = Thread} 1024 blank; cpus = replicate {A = (List ℕ)} 64 r₇; nodes = replicate {A = (List ℕ)} 128 r₁₁ })) .memory .threads), (lent-as l₅ 0 (νs .1 .0 .1) ((start-def (record { threads = replicate {A = Thread} 1024 blank; cpus = replicate {A = (List ℕ)} 64 r₇; nodes = replicate {A = (List ℕ)} 128 r₁₁ })) .memory .cpus), (lent-as l₆ 0 (νs .1 .1 .0 .1) ((start-def (record { threads = replicate {A = Thread} 1024 blank; cpus = replicate {A = (List ℕ)} 64 r₇; nodes = replicate {A = (List ℕ)} 128 r₁₁ })) .memory .nodes), (lent-as l₇ 0 (νs .1 .1 .1 .0 .1) (replicate {A = ℕ} 4096 0), (lent-as l₈ 0 (νs .1 .1 .1 .1 .0 .1) (replicate {A = ℕ} 32768 0), (r₂₁, tt)))))), (slice-of l₄ 0 ((start-def (record { threads = replicate {A = Thread} 1024 blank; cpus = replicate {A = (List ℕ)} 64 r₇; nodes = replicate {A = (List ℕ)} 128 r₁₁ })) .memory .threads) ∷ [], (slice-of l₅ 0 ((start-def (record { threads = replicate {A = Thread} 1024 blank; cpus = replicate {A = (List ℕ)} 64 r₇; nodes = replicate {A = (List ℕ)} 128 r₁₁ })) .memory .cpus) ∷ [], (slice-of l₆ 0 ((start-def (record { threads = replicate {A = Thread} 1024 blank; cpus = replicate {A = (List ℕ)} 64 r₇; nodes = replicate {A = (List ℕ)} 128 r₁₁ })) .memory .nodes) ∷ [], (slice-of l₇ 0 (replicate {A = ℕ} 4096 0) ∷ [], (slice-of l₈ 0 (replicate {A = ℕ} 32768 0) ∷ [], spell (Serving° ∷ []) ((r₂₁, tt)))))))), tt))
         (λ k. and-then ! (load ! (from ! (stop !)) (look ! 17 refl)) (and-then ! (load ! (from ! (stop !)) (look ! 13 refl)) (and-then ! (load ! (from ! (stop !)) (look ! 9 refl)) (and-then ! (load ! (from ! (stop !)) (look ! 5 refl)) (and-then ! (load ! (from ! (stop !)) (look ! 1 refl)) (and-then ! (load ! (from ! (stop !)) (look ! 35 refl)) (no-more !))))))) (λ r₂₅ ws₂₆ is₂₇ ls₂₈.
         split ! $
         move ! (1 ∷ []) $

@@ -38,18 +38,18 @@ use denote.Triple.Table.{cited}
 use denote.Triple.Clauses.{Clauses}
 use denote.Triple.Walked.{Stays, stay-none, stay-slice, walkOf, goes-none, goes-slice, ends-at}
 use denote.Exit.{yes as kept-yes}
-use Rattle.lent.proofs.Walk.{Datum, number, truth, struct, Dens, AreD, listed, spell, lent-as, slice-of, kept, opened, closed, guards, whiles, env-of, standing, bare, full, told, proved}
-use Rattle.lent.proofs.Lent.{mutable, shared, call-slices, call-left, call-slices-none, all-freed, says-none, begins5, leaves5}
-use Rattle.feed.specs.Block.{keptCount, keptBytes}
-use Rattle.feed.specs.Fed.{ENDED}
-use Rattle.feed.specs.Feed.{feedDef, World}
+use Rattle.records.proofs.Walk.{Datum, number, truth, struct, Dens, AreD, listed, spell, lent-as, slice-of, kept, opened, closed, guards, whiles, env-of, standing, bare, full, told, proved}
+use Rattle.records.proofs.Lent.{mutable, shared, call-slices, call-left, call-slices-none, all-freed, says-none, begins5, leaves5}
+use Rattle.stream.specs.Block.{kept-count, kept-bytes}
+use Rattle.stream.specs.Feed.{feed-def, World}
+use Rattle.stream.specs.Progress.{ENDED}
 use denote.Struct.Laws as LL
-use Rattle.feed.specs.declared.fed.Fed.{Fed}
-use Rattle.feed.proofs.fed.Fed as Fed·
-use Rattle.feed.proofs.fed.Fed.Laws as Fed·laws
 use Rattle.replay.specs.declared.Filled.{Filled}
 use Rattle.replay.proofs.Filled as Filled·
 use Rattle.replay.proofs.Filled.Laws as Filled·laws
+use Rattle.stream.specs.declared.progress.Progress.{Progress}
+use Rattle.stream.proofs.progress.Progress as Progress·
+use Rattle.stream.proofs.progress.Progress.Laws as Progress·laws
 use Rattle.replay.specs.declared.Serving.{Serving}
 use Rattle.replay.proofs.Serving as Serving·
 use Rattle.replay.proofs.Serving.Laws as Serving·laws
@@ -65,9 +65,9 @@ use Rattle.replay.proofs.fill.Met as fn-replay-fill-thm
 use Rattle.replay.proofs.input_failed as fn-replay-input-failed
 use Rattle.replay.proofs.input_failed.Symbol as fn-replay-input-failed-def
 use Rattle.replay.proofs.input_failed.Met as fn-replay-input-failed-thm
-use Rattle.feed.proofs.feed.feed as fn-feed-feed-feed
-use Rattle.feed.proofs.feed.feed.Symbol as fn-feed-feed-feed-def
-use Rattle.feed.proofs.feed.feed.Met as fn-feed-feed-feed-thm
+use Rattle.stream.proofs.feed.feed as fn-stream-feed-feed
+use Rattle.stream.proofs.feed.feed.Symbol as fn-stream-feed-feed-def
+use Rattle.stream.proofs.feed.feed.Met as fn-stream-feed-feed-thm
 use Rattle.replay.proofs.show as fn-replay-show
 use Rattle.replay.proofs.show.Symbol as fn-replay-show-def
 use Rattle.replay.proofs.show.Met as fn-replay-show-thm
@@ -77,12 +77,12 @@ use Rattle.replay.proofs.not.Met as fn-replay-not-thm
 use Rattle.replay.proofs.output_failed as fn-replay-output-failed
 use Rattle.replay.proofs.output_failed.Symbol as fn-replay-output-failed-def
 use Rattle.replay.proofs.output_failed.Met as fn-replay-output-failed-thm
-use Rattle.feed.proofs.block.is_ended as fn-feed-block-is-ended
-use Rattle.feed.proofs.block.is_ended.Symbol as fn-feed-block-is-ended-def
-use Rattle.feed.proofs.block.is_ended.Met as fn-feed-block-is-ended-thm
-use Rattle.feed.proofs.block.keep as fn-feed-block-keep
-use Rattle.feed.proofs.block.keep.Symbol as fn-feed-block-keep-def
-use Rattle.feed.proofs.block.keep.Met as fn-feed-block-keep-thm
+use Rattle.stream.proofs.block.is_ended as fn-stream-block-is-ended
+use Rattle.stream.proofs.block.is_ended.Symbol as fn-stream-block-is-ended-def
+use Rattle.stream.proofs.block.is_ended.Met as fn-stream-block-is-ended-thm
+use Rattle.stream.proofs.block.keep as fn-stream-block-keep
+use Rattle.stream.proofs.block.keep.Symbol as fn-stream-block-keep-def
+use Rattle.stream.proofs.block.keep.Met as fn-stream-block-keep-thm
 use Rattle.replay.proofs.with_left as fn-replay-with-left
 use Rattle.replay.proofs.with_left.Symbol as fn-replay-with-left-def
 use Rattle.replay.proofs.with_left.Met as fn-replay-with-left-thm
@@ -92,11 +92,11 @@ use Rattle.replay.proofs.serve.Statement as stated
 use Rattle.replay.proofs.serve.Code as code
 use Rattle.replay.proofs.serve.Code.Mir as mir
 
-abbrev Fed° : Datum
-Fed° = struct Fed·.the-type Fed·laws.the-laws Fed·laws.the-plain
-
 abbrev Filled° : Datum
 Filled° = struct Filled·.the-type Filled·laws.the-laws Filled·laws.the-plain
+
+abbrev Progress° : Datum
+Progress° = struct Progress·.the-type Progress·laws.the-laws Progress·laws.the-plain
 
 abbrev Serving° : Datum
 Serving° = struct Serving·.the-type Serving·laws.the-laws Serving·laws.the-plain
@@ -195,7 +195,7 @@ module _ {M : Type 1} (𝓤 : URA M) (H : Heap 𝓤) (𝓜 : Model 𝓤 H) (𝓖
           whiles ! (load ! (from ! (stop !)) (look ! 54 refl))
           (λ h₁.
           assigns ! (of-opd ! (load ! (from ! (fld ! refl (stop !))) (look-in ! 78 (sub ! 1 refl (whole !))))) (from ! (stop !)) (init ! 74 refl ((number w64) .typed 𝓤 H A W ((z .1 .1 .1 .1 .1 .0) .left) (LL.owed Serving·.the-type Serving·laws.the-laws (z .1 .1 .1 .1 .1 .0) _ (w .1 .1 .1 .1 .1 .0) .1 .0) .0)) $
-          assigns ! (of-opd ! (load ! (from ! (fld ! refl (stop !))) (look-in ! 78 (sub ! 0 refl (whole !))))) (from ! (stop !)) (init ! 72 refl (Fed° .typed 𝓤 H A W ((z .1 .1 .1 .1 .1 .0) .fed) (LL.owed Serving·.the-type Serving·laws.the-laws (z .1 .1 .1 .1 .1 .0) _ (w .1 .1 .1 .1 .1 .0) .0) .0)) $
+          assigns ! (of-opd ! (load ! (from ! (fld ! refl (stop !))) (look-in ! 78 (sub ! 0 refl (whole !))))) (from ! (stop !)) (init ! 72 refl (Progress° .typed 𝓤 H A W ((z .1 .1 .1 .1 .1 .0) .fed) (LL.owed Serving·.the-type Serving·laws.the-laws (z .1 .1 .1 .1 .1 .0) _ (w .1 .1 .1 .1 .1 .0) .0) .0)) $
           assigns ! (addr ! (from ! (fld ! refl (hop ! (look-in ! 84 (sub ! 0 refl (whole !))) (stop !))))) (from ! (stop !)) (init ! 52 refl (tt, tt)) $
           assigns ! (agg ! (and-then ! (load ! (from ! (stop !)) (look ! 52 refl)) (and-then ! (load ! (from ! (fld ! refl (stop !))) (look-in ! 84 (sub ! 1 refl (whole !)))) (no-more !)))) (from ! (stop !)) (init ! 50 refl (tt, (tt, (record { fits = room‴ .0 }, tt)))) $
           assigns ! (addr ! (from ! (fld ! refl (hop ! (look-in ! 82 (sub ! 0 refl (whole !))) (stop !))))) (from ! (stop !)) (init ! 48 refl (tt, tt)) $
@@ -205,7 +205,7 @@ module _ {M : Type 1} (𝓤 : URA M) (H : Heap 𝓤) (𝓜 : Model 𝓤 H) (𝓖
           join ! $
           move ! (7 ∷ 0 ∷ []) $
           join ! $
-          call-slices-none Filled° (number w64 ∷ number w64 ∷ []) (((z .1 .1 .1 .1 .1 .0) .left, (((z .1 .1 .1 .1 .1 .0) .fed) .done, tt))) (emp 𝓤) ((mutable u8 (z .1 .1 .1 .0) b‴ o‴ n‴ (w .1 .1 .1 .0) room‴) ∷ (shared u8 (z .1 .1 .1 .1 .0) b⁗ o⁗ n⁗ (w .1 .1 .1 .1 .0) room⁗) ∷ []) ! fm ((LL.owed Serving·.the-type Serving·laws.the-laws (z .1 .1 .1 .1 .1 .0) _ (w .1 .1 .1 .1 .1 .0) .1 .0, (LL.owed Fed·.the-type Fed·laws.the-laws ((z .1 .1 .1 .1 .1 .0) .fed) _ (LL.owed Serving·.the-type Serving·laws.the-laws (z .1 .1 .1 .1 .1 .0) _ (w .1 .1 .1 .1 .1 .0) .0) .1 .0, tt))) (id⊢ 𝓤 (emp 𝓤))
+          call-slices-none Filled° (number w64 ∷ number w64 ∷ []) (((z .1 .1 .1 .1 .1 .0) .left, (((z .1 .1 .1 .1 .1 .0) .fed) .done, tt))) (emp 𝓤) ((mutable u8 (z .1 .1 .1 .0) b‴ o‴ n‴ (w .1 .1 .1 .0) room‴) ∷ (shared u8 (z .1 .1 .1 .1 .0) b⁗ o⁗ n⁗ (w .1 .1 .1 .1 .0) room⁗) ∷ []) ! fm ((LL.owed Serving·.the-type Serving·laws.the-laws (z .1 .1 .1 .1 .1 .0) _ (w .1 .1 .1 .1 .1 .0) .1 .0, (LL.owed Progress·.the-type Progress·laws.the-laws ((z .1 .1 .1 .1 .1 .0) .fed) _ (LL.owed Serving·.the-type Serving·laws.the-laws (z .1 .1 .1 .1 .1 .0) _ (w .1 .1 .1 .1 .1 .0) .0) .1 .0, tt))) (id⊢ 𝓤 (emp 𝓤))
           (λ νs. cited 𝓤 H (tripleOf 𝓤 H A fn-replay-fill.signature (fn-replay-fill.spec 𝓤 H A (𝓜 .mem) (𝓡 .run))) 𝓜 𝓡 code.env fn-replay-fill-def.name fn-replay-fill-def.routine code.calls-replay·fill (fn-replay-fill-thm.met 𝓤 H 𝓜 𝓖 𝓡) (((νs .0 .0 ∷ [], (νs .1 .0 .0 ∷ [], tt)), (fullShare, (fullShare, tt)), tt, (lent-as b‴ o‴ (νs .0 .1) (z .1 .1 .1 .0), (lent-as b⁗ o⁗ (νs .1 .0 .1) (z .1 .1 .1 .1 .0), ((z .1 .1 .1 .1 .1 .0) .left, (((z .1 .1 .1 .1 .1 .0) .fed) .done, tt)))), (slice-of b‴ o‴ (z .1 .1 .1 .0) ∷ [], (slice-of b⁗ o⁗ (z .1 .1 .1 .1 .0) ∷ [], spell (number w64 ∷ number w64 ∷ []) (((z .1 .1 .1 .1 .1 .0) .left, (((z .1 .1 .1 .1 .1 .0) .fed) .done, tt)))))), tt))
           (λ k. and-then ! (load ! (from ! (stop !)) (look ! 49 refl)) (and-then ! (load ! (from ! (stop !)) (look ! 45 refl)) (and-then ! (load ! (from ! (stop !)) (look ! 73 refl)) (and-then ! (load ! (from ! (fld ! refl (stop !))) (look-in ! 71 (sub ! 1 refl (whole !)))) (no-more !))))) (λ r₅ ws₆ is₇ ls₈.
           split ! $
@@ -264,8 +264,8 @@ module _ {M : Type 1} (𝓤 : URA M) (H : Heap 𝓤) (𝓜 : Model 𝓤 H) (𝓖
           join ! $
           move ! (1 ∷ 0 ∷ []) $
           join ! $
-          call-left Fed° (number w64 ∷ truth ∷ Fed° ∷ []) (((r₅) .bytes, ((r₅) .last, ((z .1 .1 .1 .1 .1 .0) .fed, tt)))) (emp 𝓤) ((mutable Thread·.the-row (z .0) b o n (w .0) room) ∷ (mutable (Array u64 96) (z .1 .0) b′ o′ n′ (w .1 .0) room′) ∷ (mutable (Array u64 32) (z .1 .1 .0) b″ o″ n″ (w .1 .1 .0) room″) ∷ (shared u8 (ws₆ .0) b‴ o‴ n‴ ((w .1 .1 .1 .0 ∙ sym (ls₈ .0))) room‴) ∷ (mutable u8 (z .1 .1 .1 .1 .0) b⁗ o⁗ n⁗ (w .1 .1 .1 .1 .0) room⁗) ∷ []) ! fm (λ r ws. (r ≡ ((feedDef (ws₆ .0) ((r₅) .bytes) ((r₅) .last) (record { threads = z .0; cpus = z .1 .0; nodes = z .1 .1 .0; output = z .1 .1 .1 .1 .0; fed = ((z .1 .1 .1 .1 .1 .0) .fed) })) .fed)) × ((ws .0 ≡ ((feedDef (ws₆ .0) ((r₅) .bytes) ((r₅) .last) (record { threads = z .0; cpus = z .1 .0; nodes = z .1 .1 .0; output = z .1 .1 .1 .1 .0; fed = ((z .1 .1 .1 .1 .1 .0) .fed) })) .threads)) × ((ws .1 .0 ≡ ((feedDef (ws₆ .0) ((r₅) .bytes) ((r₅) .last) (record { threads = z .0; cpus = z .1 .0; nodes = z .1 .1 .0; output = z .1 .1 .1 .1 .0; fed = ((z .1 .1 .1 .1 .1 .0) .fed) })) .cpus)) × ((ws .1 .1 .0 ≡ ((feedDef (ws₆ .0) ((r₅) .bytes) ((r₅) .last) (record { threads = z .0; cpus = z .1 .0; nodes = z .1 .1 .0; output = z .1 .1 .1 .1 .0; fed = ((z .1 .1 .1 .1 .1 .0) .fed) })) .nodes)) × (ws .1 .1 .1 .1 .0 ≡ ((feedDef (ws₆ .0) ((r₅) .bytes) ((r₅) .last) (record { threads = z .0; cpus = z .1 .0; nodes = z .1 .1 .0; output = z .1 .1 .1 .1 .0; fed = ((z .1 .1 .1 .1 .1 .0) .fed) })) .output)))))) (λ r ws. _≡_ {A = World} (record { threads = ws .0; cpus = ws .1 .0; nodes = ws .1 .1 .0; output = ws .1 .1 .1 .1 .0; fed = r }) (feedDef (ws₆ .0) ((r₅) .bytes) ((r₅) .last) (record { threads = z .0; cpus = z .1 .0; nodes = z .1 .1 .0; output = z .1 .1 .1 .1 .0; fed = ((z .1 .1 .1 .1 .1 .0) .fed) }))) (λ r ws e. (ap (λ (z : World). z .fed) e, (ap (λ (z : World). z .threads) e, (ap (λ (z : World). z .cpus) e, (ap (λ (z : World). z .nodes) e, ap (λ (z : World). z .output) e))))) ((LL.owed Filled·.the-type Filled·laws.the-laws (r₅) _ (is₇) .0, (LL.owed Filled·.the-type Filled·laws.the-laws (r₅) _ (is₇) .1 .0, (LL.owed Serving·.the-type Serving·laws.the-laws (z .1 .1 .1 .1 .1 .0) _ (w .1 .1 .1 .1 .1 .0) .0, tt)))) (id⊢ 𝓤 (emp 𝓤))
-          (λ νs. cited 𝓤 H (tripleOf 𝓤 H A fn-feed-feed-feed.signature (fn-feed-feed-feed.spec 𝓤 H A (𝓜 .mem) (𝓡 .run))) 𝓜 𝓡 code.env fn-feed-feed-feed-def.name fn-feed-feed-feed-def.routine code.calls-feed·feed·feed (fn-feed-feed-feed-thm.met 𝓤 H 𝓜 𝓖 𝓡) (((νs .0 .0 ∷ [], (νs .1 .0 .0 ∷ [], (νs .1 .1 .0 .0 ∷ [], (νs .1 .1 .1 .0 .0 ∷ [], (νs .1 .1 .1 .1 .0 .0 ∷ [], tt))))), (fullShare, (fullShare, (fullShare, (fullShare, (fullShare, tt))))), tt, (lent-as b o (νs .0 .1) (z .0), (lent-as b′ o′ (νs .1 .0 .1) (z .1 .0), (lent-as b″ o″ (νs .1 .1 .0 .1) (z .1 .1 .0), (lent-as b‴ o‴ (νs .1 .1 .1 .0 .1) (ws₆ .0), (lent-as b⁗ o⁗ (νs .1 .1 .1 .1 .0 .1) (z .1 .1 .1 .1 .0), ((r₅) .bytes, ((r₅) .last, ((z .1 .1 .1 .1 .1 .0) .fed, tt)))))))), (slice-of b o (z .0) ∷ [], (slice-of b′ o′ (z .1 .0) ∷ [], (slice-of b″ o″ (z .1 .1 .0) ∷ [], (slice-of b‴ o‴ (ws₆ .0) ∷ [], (slice-of b⁗ o⁗ (z .1 .1 .1 .1 .0) ∷ [], spell (number w64 ∷ truth ∷ Fed° ∷ []) (((r₅) .bytes, ((r₅) .last, ((z .1 .1 .1 .1 .1 .0) .fed, tt)))))))))), tt))
+          call-left Progress° (number w64 ∷ truth ∷ Progress° ∷ []) (((r₅) .bytes, ((r₅) .last, ((z .1 .1 .1 .1 .1 .0) .fed, tt)))) (emp 𝓤) ((mutable Thread·.the-row (z .0) b o n (w .0) room) ∷ (mutable (Array u64 96) (z .1 .0) b′ o′ n′ (w .1 .0) room′) ∷ (mutable (Array u64 32) (z .1 .1 .0) b″ o″ n″ (w .1 .1 .0) room″) ∷ (shared u8 (ws₆ .0) b‴ o‴ n‴ ((w .1 .1 .1 .0 ∙ sym (ls₈ .0))) room‴) ∷ (mutable u8 (z .1 .1 .1 .1 .0) b⁗ o⁗ n⁗ (w .1 .1 .1 .1 .0) room⁗) ∷ []) ! fm (λ r ws. (r ≡ ((feed-def (ws₆ .0) ((r₅) .bytes) ((r₅) .last) (record { threads = z .0; cpus = z .1 .0; nodes = z .1 .1 .0; output = z .1 .1 .1 .1 .0; fed = ((z .1 .1 .1 .1 .1 .0) .fed) })) .fed)) × ((ws .0 ≡ ((feed-def (ws₆ .0) ((r₅) .bytes) ((r₅) .last) (record { threads = z .0; cpus = z .1 .0; nodes = z .1 .1 .0; output = z .1 .1 .1 .1 .0; fed = ((z .1 .1 .1 .1 .1 .0) .fed) })) .threads)) × ((ws .1 .0 ≡ ((feed-def (ws₆ .0) ((r₅) .bytes) ((r₅) .last) (record { threads = z .0; cpus = z .1 .0; nodes = z .1 .1 .0; output = z .1 .1 .1 .1 .0; fed = ((z .1 .1 .1 .1 .1 .0) .fed) })) .cpus)) × ((ws .1 .1 .0 ≡ ((feed-def (ws₆ .0) ((r₅) .bytes) ((r₅) .last) (record { threads = z .0; cpus = z .1 .0; nodes = z .1 .1 .0; output = z .1 .1 .1 .1 .0; fed = ((z .1 .1 .1 .1 .1 .0) .fed) })) .nodes)) × (ws .1 .1 .1 .1 .0 ≡ ((feed-def (ws₆ .0) ((r₅) .bytes) ((r₅) .last) (record { threads = z .0; cpus = z .1 .0; nodes = z .1 .1 .0; output = z .1 .1 .1 .1 .0; fed = ((z .1 .1 .1 .1 .1 .0) .fed) })) .output)))))) (λ r ws. _≡_ {A = World} (record { threads = ws .0; cpus = ws .1 .0; nodes = ws .1 .1 .0; output = ws .1 .1 .1 .1 .0; fed = r }) (feed-def (ws₆ .0) ((r₅) .bytes) ((r₅) .last) (record { threads = z .0; cpus = z .1 .0; nodes = z .1 .1 .0; output = z .1 .1 .1 .1 .0; fed = ((z .1 .1 .1 .1 .1 .0) .fed) }))) (λ r ws e. (ap (λ (z : World). z .fed) e, (ap (λ (z : World). z .threads) e, (ap (λ (z : World). z .cpus) e, (ap (λ (z : World). z .nodes) e, ap (λ (z : World). z .output) e))))) ((LL.owed Filled·.the-type Filled·laws.the-laws (r₅) _ (is₇) .0, (LL.owed Filled·.the-type Filled·laws.the-laws (r₅) _ (is₇) .1 .0, (LL.owed Serving·.the-type Serving·laws.the-laws (z .1 .1 .1 .1 .1 .0) _ (w .1 .1 .1 .1 .1 .0) .0, tt)))) (id⊢ 𝓤 (emp 𝓤))
+          (λ νs. cited 𝓤 H (tripleOf 𝓤 H A fn-stream-feed-feed.signature (fn-stream-feed-feed.spec 𝓤 H A (𝓜 .mem) (𝓡 .run))) 𝓜 𝓡 code.env fn-stream-feed-feed-def.name fn-stream-feed-feed-def.routine code.calls-stream·feed·feed (fn-stream-feed-feed-thm.met 𝓤 H 𝓜 𝓖 𝓡) (((νs .0 .0 ∷ [], (νs .1 .0 .0 ∷ [], (νs .1 .1 .0 .0 ∷ [], (νs .1 .1 .1 .0 .0 ∷ [], (νs .1 .1 .1 .1 .0 .0 ∷ [], tt))))), (fullShare, (fullShare, (fullShare, (fullShare, (fullShare, tt))))), tt, (lent-as b o (νs .0 .1) (z .0), (lent-as b′ o′ (νs .1 .0 .1) (z .1 .0), (lent-as b″ o″ (νs .1 .1 .0 .1) (z .1 .1 .0), (lent-as b‴ o‴ (νs .1 .1 .1 .0 .1) (ws₆ .0), (lent-as b⁗ o⁗ (νs .1 .1 .1 .1 .0 .1) (z .1 .1 .1 .1 .0), ((r₅) .bytes, ((r₅) .last, ((z .1 .1 .1 .1 .1 .0) .fed, tt)))))))), (slice-of b o (z .0) ∷ [], (slice-of b′ o′ (z .1 .0) ∷ [], (slice-of b″ o″ (z .1 .1 .0) ∷ [], (slice-of b‴ o‴ (ws₆ .0) ∷ [], (slice-of b⁗ o⁗ (z .1 .1 .1 .1 .0) ∷ [], spell (number w64 ∷ truth ∷ Progress° ∷ []) (((r₅) .bytes, ((r₅) .last, ((z .1 .1 .1 .1 .1 .0) .fed, tt)))))))))), tt))
           (λ k. and-then ! (load ! (from ! (stop !)) (look ! 36 refl)) (and-then ! (load ! (from ! (stop !)) (look ! 32 refl)) (and-then ! (load ! (from ! (stop !)) (look ! 28 refl)) (and-then ! (load ! (from ! (stop !)) (look ! 24 refl)) (and-then ! (load ! (from ! (stop !)) (look ! 20 refl)) (and-then ! (load ! (from ! (stop !)) (look ! 62 refl)) (and-then ! (load ! (from ! (stop !)) (look ! 60 refl)) (and-then ! (load ! (from ! (stop !)) (look ! 68 refl)) (no-more !))))))))) (λ r₁₃ ws₁₄ is₁₅ ls₁₆ e₁₇.
           split ! $
           move ! (1 ∷ []) $
@@ -282,15 +282,15 @@ module _ {M : Type 1} (𝓤 : URA M) (H : Heap 𝓤) (𝓜 : Model 𝓤 H) (𝓖
           rewrite ! 3 (λ (us : List (List ℕ)). ‵ (row (Array u64 96) fullShare us b′ o′)) (e₁₇ .1 .1 .0) refl $
           rewrite ! 2 (λ (us : List (List ℕ)). ‵ (row (Array u64 32) fullShare us b″ o″)) (e₁₇ .1 .1 .1 .0) refl $
           rewrite ! 0 (λ (us : List ℕ). ‵ (row u8 fullShare us b⁗ o⁗)) (e₁₇ .1 .1 .1 .1) refl $
-          told ! Fed° (e₁₇ .0) is₁₅ (λ is₁₈.
-          land ! (from ! (stop !)) (init ! 62 refl (Fed° .typed 𝓤 H A W ((feedDef (ws₆ .0) ((r₅) .bytes) ((r₅) .last) (record { threads = z .0; cpus = z .1 .0; nodes = z .1 .1 .0; output = z .1 .1 .1 .1 .0; fed = ((z .1 .1 .1 .1 .1 .0) .fed) })) .fed) (is₁₈) .0)) $
+          told ! Progress° (e₁₇ .0) is₁₅ (λ is₁₈.
+          land ! (from ! (stop !)) (init ! 62 refl (Progress° .typed 𝓤 H A W ((feed-def (ws₆ .0) ((r₅) .bytes) ((r₅) .last) (record { threads = z .0; cpus = z .1 .0; nodes = z .1 .1 .0; output = z .1 .1 .1 .1 .0; fed = ((z .1 .1 .1 .1 .1 .0) .fed) })) .fed) (is₁₈) .0)) $
           assigns ! (addr ! (from ! (fld ! refl (hop ! (look-in ! 82 (sub ! 0 refl (whole !))) (stop !))))) (from ! (stop !)) (init ! 22 refl (tt, tt)) $
           assigns ! (agg ! (and-then ! (load ! (from ! (stop !)) (look ! 22 refl)) (and-then ! (load ! (from ! (fld ! refl (stop !))) (look-in ! 82 (sub ! 1 refl (whole !)))) (no-more !)))) (from ! (stop !)) (init ! 20 refl (tt, (tt, (record { fits = room⁗ .0 }, tt)))) $
           nothing ! $
           move ! (1 ∷ 0 ∷ []) $
           join ! $
-          call-slices-none truth (number w64 ∷ []) ((((feedDef (ws₆ .0) ((r₅) .bytes) ((r₅) .last) (record { threads = z .0; cpus = z .1 .0; nodes = z .1 .1 .0; output = z .1 .1 .1 .1 .0; fed = ((z .1 .1 .1 .1 .1 .0) .fed) })) .fed) .done, tt)) (emp 𝓤) ((shared u8 ((feedDef (ws₆ .0) ((r₅) .bytes) ((r₅) .last) (record { threads = z .0; cpus = z .1 .0; nodes = z .1 .1 .0; output = z .1 .1 .1 .1 .0; fed = ((z .1 .1 .1 .1 .1 .0) .fed) })) .output) b⁗ o⁗ n⁗ ((w .1 .1 .1 .1 .0 ∙ sym (subst (λ (us : List ℕ). length us ≡ length (z .1 .1 .1 .1 .0)) (e₁₇ .1 .1 .1 .1) (ls₁₆ .1 .1 .1 .1 .0)))) room⁗) ∷ []) ! fm ((LL.owed Fed·.the-type Fed·laws.the-laws ((feedDef (ws₆ .0) ((r₅) .bytes) ((r₅) .last) (record { threads = z .0; cpus = z .1 .0; nodes = z .1 .1 .0; output = z .1 .1 .1 .1 .0; fed = ((z .1 .1 .1 .1 .1 .0) .fed) })) .fed) _ (is₁₈) .1 .0, tt)) (id⊢ 𝓤 (emp 𝓤))
-          (λ νs. cited 𝓤 H (tripleOf 𝓤 H A fn-replay-show.signature (fn-replay-show.spec 𝓤 H A (𝓜 .mem) (𝓡 .run))) 𝓜 𝓡 code.env fn-replay-show-def.name fn-replay-show-def.routine code.calls-replay·show (fn-replay-show-thm.met 𝓤 H 𝓜 𝓖 𝓡) (((νs .0 .0 ∷ [], tt), (fullShare, tt), tt, (lent-as b⁗ o⁗ (νs .0 .1) ((feedDef (ws₆ .0) ((r₅) .bytes) ((r₅) .last) (record { threads = z .0; cpus = z .1 .0; nodes = z .1 .1 .0; output = z .1 .1 .1 .1 .0; fed = ((z .1 .1 .1 .1 .1 .0) .fed) })) .output), (((feedDef (ws₆ .0) ((r₅) .bytes) ((r₅) .last) (record { threads = z .0; cpus = z .1 .0; nodes = z .1 .1 .0; output = z .1 .1 .1 .1 .0; fed = ((z .1 .1 .1 .1 .1 .0) .fed) })) .fed) .done, tt)), (slice-of b⁗ o⁗ ((feedDef (ws₆ .0) ((r₅) .bytes) ((r₅) .last) (record { threads = z .0; cpus = z .1 .0; nodes = z .1 .1 .0; output = z .1 .1 .1 .1 .0; fed = ((z .1 .1 .1 .1 .1 .0) .fed) })) .output) ∷ [], spell (number w64 ∷ []) ((((feedDef (ws₆ .0) ((r₅) .bytes) ((r₅) .last) (record { threads = z .0; cpus = z .1 .0; nodes = z .1 .1 .0; output = z .1 .1 .1 .1 .0; fed = ((z .1 .1 .1 .1 .1 .0) .fed) })) .fed) .done, tt)))), tt))
+          call-slices-none truth (number w64 ∷ []) ((((feed-def (ws₆ .0) ((r₅) .bytes) ((r₅) .last) (record { threads = z .0; cpus = z .1 .0; nodes = z .1 .1 .0; output = z .1 .1 .1 .1 .0; fed = ((z .1 .1 .1 .1 .1 .0) .fed) })) .fed) .done, tt)) (emp 𝓤) ((shared u8 ((feed-def (ws₆ .0) ((r₅) .bytes) ((r₅) .last) (record { threads = z .0; cpus = z .1 .0; nodes = z .1 .1 .0; output = z .1 .1 .1 .1 .0; fed = ((z .1 .1 .1 .1 .1 .0) .fed) })) .output) b⁗ o⁗ n⁗ ((w .1 .1 .1 .1 .0 ∙ sym (subst (λ (us : List ℕ). length us ≡ length (z .1 .1 .1 .1 .0)) (e₁₇ .1 .1 .1 .1) (ls₁₆ .1 .1 .1 .1 .0)))) room⁗) ∷ []) ! fm ((LL.owed Progress·.the-type Progress·laws.the-laws ((feed-def (ws₆ .0) ((r₅) .bytes) ((r₅) .last) (record { threads = z .0; cpus = z .1 .0; nodes = z .1 .1 .0; output = z .1 .1 .1 .1 .0; fed = ((z .1 .1 .1 .1 .1 .0) .fed) })) .fed) _ (is₁₈) .1 .0, tt)) (id⊢ 𝓤 (emp 𝓤))
+          (λ νs. cited 𝓤 H (tripleOf 𝓤 H A fn-replay-show.signature (fn-replay-show.spec 𝓤 H A (𝓜 .mem) (𝓡 .run))) 𝓜 𝓡 code.env fn-replay-show-def.name fn-replay-show-def.routine code.calls-replay·show (fn-replay-show-thm.met 𝓤 H 𝓜 𝓖 𝓡) (((νs .0 .0 ∷ [], tt), (fullShare, tt), tt, (lent-as b⁗ o⁗ (νs .0 .1) ((feed-def (ws₆ .0) ((r₅) .bytes) ((r₅) .last) (record { threads = z .0; cpus = z .1 .0; nodes = z .1 .1 .0; output = z .1 .1 .1 .1 .0; fed = ((z .1 .1 .1 .1 .1 .0) .fed) })) .output), (((feed-def (ws₆ .0) ((r₅) .bytes) ((r₅) .last) (record { threads = z .0; cpus = z .1 .0; nodes = z .1 .1 .0; output = z .1 .1 .1 .1 .0; fed = ((z .1 .1 .1 .1 .1 .0) .fed) })) .fed) .done, tt)), (slice-of b⁗ o⁗ ((feed-def (ws₆ .0) ((r₅) .bytes) ((r₅) .last) (record { threads = z .0; cpus = z .1 .0; nodes = z .1 .1 .0; output = z .1 .1 .1 .1 .0; fed = ((z .1 .1 .1 .1 .1 .0) .fed) })) .output) ∷ [], spell (number w64 ∷ []) ((((feed-def (ws₆ .0) ((r₅) .bytes) ((r₅) .last) (record { threads = z .0; cpus = z .1 .0; nodes = z .1 .1 .0; output = z .1 .1 .1 .1 .0; fed = ((z .1 .1 .1 .1 .1 .0) .fed) })) .fed) .done, tt)))), tt))
           (λ k. and-then ! (load ! (from ! (stop !)) (look ! 20 refl)) (and-then ! (load ! (from ! (fld ! refl (stop !))) (look-in ! 62 (sub ! 1 refl (whole !)))) (no-more !))) (λ r₁₉ ws₂₀ is₂₁ ls₂₂.
           split ! $
           move ! (1 ∷ []) $
@@ -312,24 +312,24 @@ module _ {M : Type 1} (𝓤 : URA M) (H : Heap 𝓤) (𝓜 : Model 𝓤 H) (𝓖
           land ! (from ! (stop !)) (init ! 16 refl (tt, tt)) $
           assigns ! (of-opd ! (false-lit !)) (from ! (stop !)) (init ! 92 refl (tt, tt)) $
           move ! (0 ∷ 9 ∷ []) $
-          closed ! tt u8 ys⁗ ((feedDef (ws₆ .0) ((r₅) .bytes) ((r₅) .last) (record { threads = z .0; cpus = z .1 .0; nodes = z .1 .1 .0; output = z .1 .1 .1 .1 .0; fed = ((z .1 .1 .1 .1 .1 .0) .fed) })) .output) b⁗ o⁗ room⁗ (sym ((w .1 .1 .1 .1 .0 ∙ sym (subst (λ (us : List ℕ). length us ≡ length (z .1 .1 .1 .1 .0)) (e₁₇ .1 .1 .1 .1) (ls₁₆ .1 .1 .1 .1 .0))))) $
+          closed ! tt u8 ys⁗ ((feed-def (ws₆ .0) ((r₅) .bytes) ((r₅) .last) (record { threads = z .0; cpus = z .1 .0; nodes = z .1 .1 .0; output = z .1 .1 .1 .1 .0; fed = ((z .1 .1 .1 .1 .1 .0) .fed) })) .output) b⁗ o⁗ room⁗ (sym ((w .1 .1 .1 .1 .0 ∙ sym (subst (λ (us : List ℕ). length us ≡ length (z .1 .1 .1 .1 .0)) (e₁₇ .1 .1 .1 .1) (ls₁₆ .1 .1 .1 .1 .0))))) $
           move ! (2 ∷ 9 ∷ []) $
           closed ! tt u8 ys‴ (ws₆ .0) b‴ o‴ room‴ (sym ((w .1 .1 .1 .0 ∙ sym (ls₈ .0)))) $
           move ! (4 ∷ 9 ∷ []) $
-          closed ! tt (Array u64 32) ys″ ((feedDef (ws₆ .0) ((r₅) .bytes) ((r₅) .last) (record { threads = z .0; cpus = z .1 .0; nodes = z .1 .1 .0; output = z .1 .1 .1 .1 .0; fed = ((z .1 .1 .1 .1 .1 .0) .fed) })) .nodes) b″ o″ room″ (sym ((w .1 .1 .0 ∙ sym (subst (λ (us : List (List ℕ)). length us ≡ length (z .1 .1 .0)) (e₁₇ .1 .1 .1 .0) (ls₁₆ .1 .1 .0))))) $
+          closed ! tt (Array u64 32) ys″ ((feed-def (ws₆ .0) ((r₅) .bytes) ((r₅) .last) (record { threads = z .0; cpus = z .1 .0; nodes = z .1 .1 .0; output = z .1 .1 .1 .1 .0; fed = ((z .1 .1 .1 .1 .1 .0) .fed) })) .nodes) b″ o″ room″ (sym ((w .1 .1 .0 ∙ sym (subst (λ (us : List (List ℕ)). length us ≡ length (z .1 .1 .0)) (e₁₇ .1 .1 .1 .0) (ls₁₆ .1 .1 .0))))) $
           move ! (6 ∷ 9 ∷ []) $
-          closed ! tt (Array u64 96) ys′ ((feedDef (ws₆ .0) ((r₅) .bytes) ((r₅) .last) (record { threads = z .0; cpus = z .1 .0; nodes = z .1 .1 .0; output = z .1 .1 .1 .1 .0; fed = ((z .1 .1 .1 .1 .1 .0) .fed) })) .cpus) b′ o′ room′ (sym ((w .1 .0 ∙ sym (subst (λ (us : List (List ℕ)). length us ≡ length (z .1 .0)) (e₁₇ .1 .1 .0) (ls₁₆ .1 .0))))) $
+          closed ! tt (Array u64 96) ys′ ((feed-def (ws₆ .0) ((r₅) .bytes) ((r₅) .last) (record { threads = z .0; cpus = z .1 .0; nodes = z .1 .1 .0; output = z .1 .1 .1 .1 .0; fed = ((z .1 .1 .1 .1 .1 .0) .fed) })) .cpus) b′ o′ room′ (sym ((w .1 .0 ∙ sym (subst (λ (us : List (List ℕ)). length us ≡ length (z .1 .0)) (e₁₇ .1 .1 .0) (ls₁₆ .1 .0))))) $
           move ! (8 ∷ 9 ∷ []) $
-          closed ! tt Thread·.the-row ys ((feedDef (ws₆ .0) ((r₅) .bytes) ((r₅) .last) (record { threads = z .0; cpus = z .1 .0; nodes = z .1 .1 .0; output = z .1 .1 .1 .1 .0; fed = ((z .1 .1 .1 .1 .1 .0) .fed) })) .threads) b o room (sym ((w .0 ∙ sym (subst (λ (us : List Thread). length us ≡ length (z .0)) (e₁₇ .1 .0) (ls₁₆ .0))))) $
+          closed ! tt Thread·.the-row ys ((feed-def (ws₆ .0) ((r₅) .bytes) ((r₅) .last) (record { threads = z .0; cpus = z .1 .0; nodes = z .1 .1 .0; output = z .1 .1 .1 .1 .0; fed = ((z .1 .1 .1 .1 .1 .0) .fed) })) .threads) b o room (sym ((w .0 ∙ sym (subst (λ (us : List Thread). length us ≡ length (z .0)) (e₁₇ .1 .0) (ls₁₆ .0))))) $
           returns-within ! Post refl (look ! 92 refl) $
           move ! (92 ∷ 93 ∷ 90 ∷ 91 ∷ 88 ∷ 89 ∷ 86 ∷ 87 ∷ 84 ∷ 85 ∷ 82 ∷ 83 ∷ 80 ∷ 81 ∷ 78 ∷ 79 ∷ 76 ∷ 77 ∷ 74 ∷ 75 ∷ 72 ∷ 73 ∷ 70 ∷ 71 ∷ 68 ∷ 69 ∷ 66 ∷ 67 ∷ 64 ∷ 65 ∷ 62 ∷ 63 ∷ 60 ∷ 61 ∷ 58 ∷ 59 ∷ 56 ∷ 57 ∷ 54 ∷ 55 ∷ 52 ∷ 53 ∷ 50 ∷ 51 ∷ 48 ∷ 49 ∷ 46 ∷ 47 ∷ 44 ∷ 45 ∷ 42 ∷ 43 ∷ 40 ∷ 41 ∷ 38 ∷ 39 ∷ 36 ∷ 37 ∷ 34 ∷ 35 ∷ 32 ∷ 33 ∷ 30 ∷ 31 ∷ 28 ∷ 29 ∷ 26 ∷ 27 ∷ 24 ∷ 25 ∷ 22 ∷ 23 ∷ 20 ∷ 21 ∷ 18 ∷ 19 ∷ 16 ∷ 17 ∷ 14 ∷ 15 ∷ 12 ∷ 13 ∷ 10 ∷ 11 ∷ []) $
           all-freed ! mir.locals (l₀ ∷ l₁ ∷ l₂ ∷ l₃ ∷ l₄ ∷ l₅ ∷ l₆ ∷ l₇ ∷ l₈ ∷ l₉ ∷ l₁₀ ∷ l₁₁ ∷ l₁₂ ∷ l₁₃ ∷ l₁₄ ∷ l₁₅ ∷ l₁₆ ∷ l₁₇ ∷ l₁₈ ∷ l₁₉ ∷ l₂₀ ∷ l₂₁ ∷ l₂₂ ∷ l₂₃ ∷ l₂₄ ∷ l₂₅ ∷ l₂₆ ∷ l₂₇ ∷ l₂₈ ∷ l₂₉ ∷ l₃₀ ∷ l₃₁ ∷ l₃₂ ∷ l₃₃ ∷ l₃₄ ∷ l₃₅ ∷ l₃₆ ∷ l₃₇ ∷ l₃₈ ∷ l₃₉ ∷ l₄₀ ∷ l₄₁ ∷ []) (full _ ∷ full _ ∷ full _ ∷ full _ ∷ full _ ∷ full _ ∷ full _ ∷ full _ ∷ full _ ∷ full _ ∷ full _ ∷ full _ ∷ full _ ∷ full _ ∷ full _ ∷ full _ ∷ full _ ∷ bare ∷ bare ∷ full _ ∷ full _ ∷ full _ ∷ full _ ∷ full _ ∷ bare ∷ full _ ∷ full _ ∷ full _ ∷ full _ ∷ full _ ∷ full _ ∷ full _ ∷ full _ ∷ full _ ∷ full _ ∷ full _ ∷ full _ ∷ full _ ∷ full _ ∷ bare ∷ bare ∷ bare ∷ []) tt $
-          suffices ! _ (ends-at 𝓤 H A serve.ended stayed c W y _ (false) ((feedDef (ws₆ .0) ((r₅) .bytes) ((r₅) .last) (record { threads = z .0; cpus = z .1 .0; nodes = z .1 .1 .0; output = z .1 .1 .1 .1 .0; fed = ((z .1 .1 .1 .1 .1 .0) .fed) })) .threads, ((feedDef (ws₆ .0) ((r₅) .bytes) ((r₅) .last) (record { threads = z .0; cpus = z .1 .0; nodes = z .1 .1 .0; output = z .1 .1 .1 .1 .0; fed = ((z .1 .1 .1 .1 .1 .0) .fed) })) .cpus, ((feedDef (ws₆ .0) ((r₅) .bytes) ((r₅) .last) (record { threads = z .0; cpus = z .1 .0; nodes = z .1 .1 .0; output = z .1 .1 .1 .1 .0; fed = ((z .1 .1 .1 .1 .1 .0) .fed) })) .nodes, (ws₆ .0, ((feedDef (ws₆ .0) ((r₅) .bytes) ((r₅) .last) (record { threads = z .0; cpus = z .1 .0; nodes = z .1 .1 .0; output = z .1 .1 .1 .1 .0; fed = ((z .1 .1 .1 .1 .1 .0) .fed) })) .output, (tt, tt)))))) (sym ((w .0 ∙ sym (subst (λ (us : List Thread). length us ≡ length (z .0)) (e₁₇ .1 .0) (ls₁₆ .0)))), (sym ((w .1 .0 ∙ sym (subst (λ (us : List (List ℕ)). length us ≡ length (z .1 .0)) (e₁₇ .1 .1 .0) (ls₁₆ .1 .0)))), (sym ((w .1 .1 .0 ∙ sym (subst (λ (us : List (List ℕ)). length us ≡ length (z .1 .1 .0)) (e₁₇ .1 .1 .1 .0) (ls₁₆ .1 .1 .0)))), (sym ((w .1 .1 .1 .0 ∙ sym (ls₈ .0))), (sym ((w .1 .1 .1 .1 .0 ∙ sym (subst (λ (us : List ℕ). length us ≡ length (z .1 .1 .1 .1 .0)) (e₁₇ .1 .1 .1 .1) (ls₁₆ .1 .1 .1 .1 .0)))), (tt, tt))))))) $ says-none ! $
+          suffices ! _ (ends-at 𝓤 H A serve.ended stayed c W y _ (false) ((feed-def (ws₆ .0) ((r₅) .bytes) ((r₅) .last) (record { threads = z .0; cpus = z .1 .0; nodes = z .1 .1 .0; output = z .1 .1 .1 .1 .0; fed = ((z .1 .1 .1 .1 .1 .0) .fed) })) .threads, ((feed-def (ws₆ .0) ((r₅) .bytes) ((r₅) .last) (record { threads = z .0; cpus = z .1 .0; nodes = z .1 .1 .0; output = z .1 .1 .1 .1 .0; fed = ((z .1 .1 .1 .1 .1 .0) .fed) })) .cpus, ((feed-def (ws₆ .0) ((r₅) .bytes) ((r₅) .last) (record { threads = z .0; cpus = z .1 .0; nodes = z .1 .1 .0; output = z .1 .1 .1 .1 .0; fed = ((z .1 .1 .1 .1 .1 .0) .fed) })) .nodes, (ws₆ .0, ((feed-def (ws₆ .0) ((r₅) .bytes) ((r₅) .last) (record { threads = z .0; cpus = z .1 .0; nodes = z .1 .1 .0; output = z .1 .1 .1 .1 .0; fed = ((z .1 .1 .1 .1 .1 .0) .fed) })) .output, (tt, tt)))))) (sym ((w .0 ∙ sym (subst (λ (us : List Thread). length us ≡ length (z .0)) (e₁₇ .1 .0) (ls₁₆ .0)))), (sym ((w .1 .0 ∙ sym (subst (λ (us : List (List ℕ)). length us ≡ length (z .1 .0)) (e₁₇ .1 .1 .0) (ls₁₆ .1 .0)))), (sym ((w .1 .1 .0 ∙ sym (subst (λ (us : List (List ℕ)). length us ≡ length (z .1 .1 .0)) (e₁₇ .1 .1 .1 .0) (ls₁₆ .1 .1 .0)))), (sym ((w .1 .1 .1 .0 ∙ sym (ls₈ .0))), (sym ((w .1 .1 .1 .1 .0 ∙ sym (subst (λ (us : List ℕ). length us ≡ length (z .1 .1 .1 .1 .0)) (e₁₇ .1 .1 .1 .1) (ls₁₆ .1 .1 .1 .1 .0)))), (tt, tt))))))) $ says-none ! $
           leaves5 ! truth Ds a (false) are (refl)))
           (λ h₃.
           nothing ! $
-          call-slices truth (Fed° ∷ []) (((feedDef (ws₆ .0) ((r₅) .bytes) ((r₅) .last) (record { threads = z .0; cpus = z .1 .0; nodes = z .1 .1 .0; output = z .1 .1 .1 .1 .0; fed = ((z .1 .1 .1 .1 .1 .0) .fed) })) .fed, tt)) (emp 𝓤) ([]) ! fm (λ r ws. r ≡ (eqb (((feedDef (ws₆ .0) ((r₅) .bytes) ((r₅) .last) (record { threads = z .0; cpus = z .1 .0; nodes = z .1 .1 .0; output = z .1 .1 .1 .1 .0; fed = ((z .1 .1 .1 .1 .1 .0) .fed) })) .fed) .phase) ENDED)) ((is₁₈, tt)) (id⊢ 𝓤 (emp 𝓤))
-          (λ νs. cited 𝓤 H (tripleOf 𝓤 H A fn-feed-block-is-ended.signature (fn-feed-block-is-ended.spec 𝓤 H A (𝓜 .mem) (𝓡 .run))) 𝓜 𝓡 code.env fn-feed-block-is-ended-def.name fn-feed-block-is-ended-def.routine code.calls-feed·block·is-ended (fn-feed-block-is-ended-thm.met 𝓤 H 𝓜 𝓖 𝓡) ((tt, tt, tt, ((feedDef (ws₆ .0) ((r₅) .bytes) ((r₅) .last) (record { threads = z .0; cpus = z .1 .0; nodes = z .1 .1 .0; output = z .1 .1 .1 .1 .0; fed = ((z .1 .1 .1 .1 .1 .0) .fed) })) .fed, tt), spell (Fed° ∷ []) (((feedDef (ws₆ .0) ((r₅) .bytes) ((r₅) .last) (record { threads = z .0; cpus = z .1 .0; nodes = z .1 .1 .0; output = z .1 .1 .1 .1 .0; fed = ((z .1 .1 .1 .1 .1 .0) .fed) })) .fed, tt))), tt))
+          call-slices truth (Progress° ∷ []) (((feed-def (ws₆ .0) ((r₅) .bytes) ((r₅) .last) (record { threads = z .0; cpus = z .1 .0; nodes = z .1 .1 .0; output = z .1 .1 .1 .1 .0; fed = ((z .1 .1 .1 .1 .1 .0) .fed) })) .fed, tt)) (emp 𝓤) ([]) ! fm (λ r ws. r ≡ (eqb (((feed-def (ws₆ .0) ((r₅) .bytes) ((r₅) .last) (record { threads = z .0; cpus = z .1 .0; nodes = z .1 .1 .0; output = z .1 .1 .1 .1 .0; fed = ((z .1 .1 .1 .1 .1 .0) .fed) })) .fed) .phase) ENDED)) ((is₁₈, tt)) (id⊢ 𝓤 (emp 𝓤))
+          (λ νs. cited 𝓤 H (tripleOf 𝓤 H A fn-stream-block-is-ended.signature (fn-stream-block-is-ended.spec 𝓤 H A (𝓜 .mem) (𝓡 .run))) 𝓜 𝓡 code.env fn-stream-block-is-ended-def.name fn-stream-block-is-ended-def.routine code.calls-stream·block·is-ended (fn-stream-block-is-ended-thm.met 𝓤 H 𝓜 𝓖 𝓡) ((tt, tt, tt, ((feed-def (ws₆ .0) ((r₅) .bytes) ((r₅) .last) (record { threads = z .0; cpus = z .1 .0; nodes = z .1 .1 .0; output = z .1 .1 .1 .1 .0; fed = ((z .1 .1 .1 .1 .1 .0) .fed) })) .fed, tt), spell (Progress° ∷ []) (((feed-def (ws₆ .0) ((r₅) .bytes) ((r₅) .last) (record { threads = z .0; cpus = z .1 .0; nodes = z .1 .1 .0; output = z .1 .1 .1 .1 .0; fed = ((z .1 .1 .1 .1 .1 .0) .fed) })) .fed, tt))), tt))
           (λ k. and-then ! (load ! (from ! (stop !)) (look ! 63 refl)) (no-more !)) (λ r₃₁ ws₃₂ is₃₃ ls₃₄ e₃₅.
           drop ! $
           told ! truth (e₃₅) is₃₃ (λ is₃₆.
@@ -338,19 +338,19 @@ module _ {M : Type 1} (𝓤 : URA M) (H : Heap 𝓤) (𝓜 : Model 𝓤 H) (𝓖
           (λ h₄.
           assigns ! (of-opd ! (true-lit !)) (from ! (stop !)) (init ! 92 refl (tt, tt)) $
           move ! (0 ∷ 9 ∷ []) $
-          closed ! tt u8 ys⁗ ((feedDef (ws₆ .0) ((r₅) .bytes) ((r₅) .last) (record { threads = z .0; cpus = z .1 .0; nodes = z .1 .1 .0; output = z .1 .1 .1 .1 .0; fed = ((z .1 .1 .1 .1 .1 .0) .fed) })) .output) b⁗ o⁗ room⁗ (sym ((w .1 .1 .1 .1 .0 ∙ sym (subst (λ (us : List ℕ). length us ≡ length (z .1 .1 .1 .1 .0)) (e₁₇ .1 .1 .1 .1) (ls₁₆ .1 .1 .1 .1 .0))))) $
+          closed ! tt u8 ys⁗ ((feed-def (ws₆ .0) ((r₅) .bytes) ((r₅) .last) (record { threads = z .0; cpus = z .1 .0; nodes = z .1 .1 .0; output = z .1 .1 .1 .1 .0; fed = ((z .1 .1 .1 .1 .1 .0) .fed) })) .output) b⁗ o⁗ room⁗ (sym ((w .1 .1 .1 .1 .0 ∙ sym (subst (λ (us : List ℕ). length us ≡ length (z .1 .1 .1 .1 .0)) (e₁₇ .1 .1 .1 .1) (ls₁₆ .1 .1 .1 .1 .0))))) $
           move ! (2 ∷ 9 ∷ []) $
           closed ! tt u8 ys‴ (ws₆ .0) b‴ o‴ room‴ (sym ((w .1 .1 .1 .0 ∙ sym (ls₈ .0)))) $
           move ! (4 ∷ 9 ∷ []) $
-          closed ! tt (Array u64 32) ys″ ((feedDef (ws₆ .0) ((r₅) .bytes) ((r₅) .last) (record { threads = z .0; cpus = z .1 .0; nodes = z .1 .1 .0; output = z .1 .1 .1 .1 .0; fed = ((z .1 .1 .1 .1 .1 .0) .fed) })) .nodes) b″ o″ room″ (sym ((w .1 .1 .0 ∙ sym (subst (λ (us : List (List ℕ)). length us ≡ length (z .1 .1 .0)) (e₁₇ .1 .1 .1 .0) (ls₁₆ .1 .1 .0))))) $
+          closed ! tt (Array u64 32) ys″ ((feed-def (ws₆ .0) ((r₅) .bytes) ((r₅) .last) (record { threads = z .0; cpus = z .1 .0; nodes = z .1 .1 .0; output = z .1 .1 .1 .1 .0; fed = ((z .1 .1 .1 .1 .1 .0) .fed) })) .nodes) b″ o″ room″ (sym ((w .1 .1 .0 ∙ sym (subst (λ (us : List (List ℕ)). length us ≡ length (z .1 .1 .0)) (e₁₇ .1 .1 .1 .0) (ls₁₆ .1 .1 .0))))) $
           move ! (6 ∷ 9 ∷ []) $
-          closed ! tt (Array u64 96) ys′ ((feedDef (ws₆ .0) ((r₅) .bytes) ((r₅) .last) (record { threads = z .0; cpus = z .1 .0; nodes = z .1 .1 .0; output = z .1 .1 .1 .1 .0; fed = ((z .1 .1 .1 .1 .1 .0) .fed) })) .cpus) b′ o′ room′ (sym ((w .1 .0 ∙ sym (subst (λ (us : List (List ℕ)). length us ≡ length (z .1 .0)) (e₁₇ .1 .1 .0) (ls₁₆ .1 .0))))) $
+          closed ! tt (Array u64 96) ys′ ((feed-def (ws₆ .0) ((r₅) .bytes) ((r₅) .last) (record { threads = z .0; cpus = z .1 .0; nodes = z .1 .1 .0; output = z .1 .1 .1 .1 .0; fed = ((z .1 .1 .1 .1 .1 .0) .fed) })) .cpus) b′ o′ room′ (sym ((w .1 .0 ∙ sym (subst (λ (us : List (List ℕ)). length us ≡ length (z .1 .0)) (e₁₇ .1 .1 .0) (ls₁₆ .1 .0))))) $
           move ! (8 ∷ 9 ∷ []) $
-          closed ! tt Thread·.the-row ys ((feedDef (ws₆ .0) ((r₅) .bytes) ((r₅) .last) (record { threads = z .0; cpus = z .1 .0; nodes = z .1 .1 .0; output = z .1 .1 .1 .1 .0; fed = ((z .1 .1 .1 .1 .1 .0) .fed) })) .threads) b o room (sym ((w .0 ∙ sym (subst (λ (us : List Thread). length us ≡ length (z .0)) (e₁₇ .1 .0) (ls₁₆ .0))))) $
+          closed ! tt Thread·.the-row ys ((feed-def (ws₆ .0) ((r₅) .bytes) ((r₅) .last) (record { threads = z .0; cpus = z .1 .0; nodes = z .1 .1 .0; output = z .1 .1 .1 .1 .0; fed = ((z .1 .1 .1 .1 .1 .0) .fed) })) .threads) b o room (sym ((w .0 ∙ sym (subst (λ (us : List Thread). length us ≡ length (z .0)) (e₁₇ .1 .0) (ls₁₆ .0))))) $
           returns-within ! Post refl (look ! 92 refl) $
           move ! (92 ∷ 93 ∷ 90 ∷ 91 ∷ 88 ∷ 89 ∷ 86 ∷ 87 ∷ 84 ∷ 85 ∷ 82 ∷ 83 ∷ 80 ∷ 81 ∷ 78 ∷ 79 ∷ 76 ∷ 77 ∷ 74 ∷ 75 ∷ 72 ∷ 73 ∷ 70 ∷ 71 ∷ 68 ∷ 69 ∷ 66 ∷ 67 ∷ 64 ∷ 65 ∷ 62 ∷ 63 ∷ 60 ∷ 61 ∷ 58 ∷ 59 ∷ 56 ∷ 57 ∷ 54 ∷ 55 ∷ 52 ∷ 53 ∷ 50 ∷ 51 ∷ 48 ∷ 49 ∷ 46 ∷ 47 ∷ 44 ∷ 45 ∷ 42 ∷ 43 ∷ 40 ∷ 41 ∷ 38 ∷ 39 ∷ 36 ∷ 37 ∷ 34 ∷ 35 ∷ 32 ∷ 33 ∷ 30 ∷ 31 ∷ 28 ∷ 29 ∷ 26 ∷ 27 ∷ 24 ∷ 25 ∷ 22 ∷ 23 ∷ 20 ∷ 21 ∷ 18 ∷ 19 ∷ 16 ∷ 17 ∷ 14 ∷ 15 ∷ 12 ∷ 13 ∷ 10 ∷ 11 ∷ []) $
           all-freed ! mir.locals (l₀ ∷ l₁ ∷ l₂ ∷ l₃ ∷ l₄ ∷ l₅ ∷ l₆ ∷ l₇ ∷ l₈ ∷ l₉ ∷ l₁₀ ∷ l₁₁ ∷ l₁₂ ∷ l₁₃ ∷ l₁₄ ∷ l₁₅ ∷ l₁₆ ∷ l₁₇ ∷ l₁₈ ∷ l₁₉ ∷ l₂₀ ∷ l₂₁ ∷ l₂₂ ∷ l₂₃ ∷ l₂₄ ∷ l₂₅ ∷ l₂₆ ∷ l₂₇ ∷ l₂₈ ∷ l₂₉ ∷ l₃₀ ∷ l₃₁ ∷ l₃₂ ∷ l₃₃ ∷ l₃₄ ∷ l₃₅ ∷ l₃₆ ∷ l₃₇ ∷ l₃₈ ∷ l₃₉ ∷ l₄₀ ∷ l₄₁ ∷ []) (full _ ∷ full _ ∷ full _ ∷ full _ ∷ full _ ∷ full _ ∷ full _ ∷ full _ ∷ full _ ∷ full _ ∷ full _ ∷ full _ ∷ full _ ∷ full _ ∷ full _ ∷ full _ ∷ full _ ∷ bare ∷ bare ∷ full _ ∷ full _ ∷ full _ ∷ full _ ∷ full _ ∷ bare ∷ full _ ∷ full _ ∷ full _ ∷ full _ ∷ full _ ∷ full _ ∷ full _ ∷ full _ ∷ full _ ∷ full _ ∷ full _ ∷ full _ ∷ full _ ∷ bare ∷ full _ ∷ bare ∷ bare ∷ []) tt $
-          suffices ! _ (ends-at 𝓤 H A serve.ended stayed c W y _ (true) ((feedDef (ws₆ .0) ((r₅) .bytes) ((r₅) .last) (record { threads = z .0; cpus = z .1 .0; nodes = z .1 .1 .0; output = z .1 .1 .1 .1 .0; fed = ((z .1 .1 .1 .1 .1 .0) .fed) })) .threads, ((feedDef (ws₆ .0) ((r₅) .bytes) ((r₅) .last) (record { threads = z .0; cpus = z .1 .0; nodes = z .1 .1 .0; output = z .1 .1 .1 .1 .0; fed = ((z .1 .1 .1 .1 .1 .0) .fed) })) .cpus, ((feedDef (ws₆ .0) ((r₅) .bytes) ((r₅) .last) (record { threads = z .0; cpus = z .1 .0; nodes = z .1 .1 .0; output = z .1 .1 .1 .1 .0; fed = ((z .1 .1 .1 .1 .1 .0) .fed) })) .nodes, (ws₆ .0, ((feedDef (ws₆ .0) ((r₅) .bytes) ((r₅) .last) (record { threads = z .0; cpus = z .1 .0; nodes = z .1 .1 .0; output = z .1 .1 .1 .1 .0; fed = ((z .1 .1 .1 .1 .1 .0) .fed) })) .output, (tt, tt)))))) (sym ((w .0 ∙ sym (subst (λ (us : List Thread). length us ≡ length (z .0)) (e₁₇ .1 .0) (ls₁₆ .0)))), (sym ((w .1 .0 ∙ sym (subst (λ (us : List (List ℕ)). length us ≡ length (z .1 .0)) (e₁₇ .1 .1 .0) (ls₁₆ .1 .0)))), (sym ((w .1 .1 .0 ∙ sym (subst (λ (us : List (List ℕ)). length us ≡ length (z .1 .1 .0)) (e₁₇ .1 .1 .1 .0) (ls₁₆ .1 .1 .0)))), (sym ((w .1 .1 .1 .0 ∙ sym (ls₈ .0))), (sym ((w .1 .1 .1 .1 .0 ∙ sym (subst (λ (us : List ℕ). length us ≡ length (z .1 .1 .1 .1 .0)) (e₁₇ .1 .1 .1 .1) (ls₁₆ .1 .1 .1 .1 .0)))), (tt, tt))))))) $ says-none ! $
+          suffices ! _ (ends-at 𝓤 H A serve.ended stayed c W y _ (true) ((feed-def (ws₆ .0) ((r₅) .bytes) ((r₅) .last) (record { threads = z .0; cpus = z .1 .0; nodes = z .1 .1 .0; output = z .1 .1 .1 .1 .0; fed = ((z .1 .1 .1 .1 .1 .0) .fed) })) .threads, ((feed-def (ws₆ .0) ((r₅) .bytes) ((r₅) .last) (record { threads = z .0; cpus = z .1 .0; nodes = z .1 .1 .0; output = z .1 .1 .1 .1 .0; fed = ((z .1 .1 .1 .1 .1 .0) .fed) })) .cpus, ((feed-def (ws₆ .0) ((r₅) .bytes) ((r₅) .last) (record { threads = z .0; cpus = z .1 .0; nodes = z .1 .1 .0; output = z .1 .1 .1 .1 .0; fed = ((z .1 .1 .1 .1 .1 .0) .fed) })) .nodes, (ws₆ .0, ((feed-def (ws₆ .0) ((r₅) .bytes) ((r₅) .last) (record { threads = z .0; cpus = z .1 .0; nodes = z .1 .1 .0; output = z .1 .1 .1 .1 .0; fed = ((z .1 .1 .1 .1 .1 .0) .fed) })) .output, (tt, tt)))))) (sym ((w .0 ∙ sym (subst (λ (us : List Thread). length us ≡ length (z .0)) (e₁₇ .1 .0) (ls₁₆ .0)))), (sym ((w .1 .0 ∙ sym (subst (λ (us : List (List ℕ)). length us ≡ length (z .1 .0)) (e₁₇ .1 .1 .0) (ls₁₆ .1 .0)))), (sym ((w .1 .1 .0 ∙ sym (subst (λ (us : List (List ℕ)). length us ≡ length (z .1 .1 .0)) (e₁₇ .1 .1 .1 .0) (ls₁₆ .1 .1 .0)))), (sym ((w .1 .1 .1 .0 ∙ sym (ls₈ .0))), (sym ((w .1 .1 .1 .1 .0 ∙ sym (subst (λ (us : List ℕ). length us ≡ length (z .1 .1 .1 .1 .0)) (e₁₇ .1 .1 .1 .1) (ls₁₆ .1 .1 .1 .1 .0)))), (tt, tt))))))) $ says-none ! $
           leaves5 ! truth Ds a (true) are (refl))
           (λ h₄.
           assigns ! (addr ! (from ! (fld ! refl (hop ! (look-in ! 84 (sub ! 0 refl (whole !))) (stop !))))) (from ! (stop !)) (init ! 12 refl (tt, tt)) $
@@ -358,18 +358,18 @@ module _ {M : Type 1} (𝓤 : URA M) (H : Heap 𝓤) (𝓜 : Model 𝓤 H) (𝓖
           nothing ! $
           move ! (2 ∷ 0 ∷ []) $
           join ! $
-          call-slices (number w64) (number w64 ∷ number w64 ∷ []) ((((feedDef (ws₆ .0) ((r₅) .bytes) ((r₅) .last) (record { threads = z .0; cpus = z .1 .0; nodes = z .1 .1 .0; output = z .1 .1 .1 .1 .0; fed = ((z .1 .1 .1 .1 .1 .0) .fed) })) .fed) .at, ((r₅) .bytes, tt))) (emp 𝓤) ((mutable u8 (ws₆ .0) b‴ o‴ n‴ ((w .1 .1 .1 .0 ∙ sym (ls₈ .0))) room‴) ∷ []) ! fm (λ r ws. (r ≡ (keptCount (ws₆ .0) (((feedDef (ws₆ .0) ((r₅) .bytes) ((r₅) .last) (record { threads = z .0; cpus = z .1 .0; nodes = z .1 .1 .0; output = z .1 .1 .1 .1 .0; fed = ((z .1 .1 .1 .1 .1 .0) .fed) })) .fed) .at) ((r₅) .bytes))) × (ws .0 ≡ (keptBytes (ws₆ .0) (((feedDef (ws₆ .0) ((r₅) .bytes) ((r₅) .last) (record { threads = z .0; cpus = z .1 .0; nodes = z .1 .1 .0; output = z .1 .1 .1 .1 .0; fed = ((z .1 .1 .1 .1 .1 .0) .fed) })) .fed) .at) ((r₅) .bytes)))) ((LL.owed Fed·.the-type Fed·laws.the-laws ((feedDef (ws₆ .0) ((r₅) .bytes) ((r₅) .last) (record { threads = z .0; cpus = z .1 .0; nodes = z .1 .1 .0; output = z .1 .1 .1 .1 .0; fed = ((z .1 .1 .1 .1 .1 .0) .fed) })) .fed) _ (is₁₈) .0, (LL.owed Filled·.the-type Filled·laws.the-laws (r₅) _ (is₇) .0, tt))) (id⊢ 𝓤 (emp 𝓤))
-          (λ νs. cited 𝓤 H (tripleOf 𝓤 H A fn-feed-block-keep.signature (fn-feed-block-keep.spec 𝓤 H A (𝓜 .mem) (𝓡 .run))) 𝓜 𝓡 code.env fn-feed-block-keep-def.name fn-feed-block-keep-def.routine code.calls-feed·block·keep (fn-feed-block-keep-thm.met 𝓤 H 𝓜 𝓖 𝓡) (((νs .0 .0 ∷ [], tt), (fullShare, tt), tt, (lent-as b‴ o‴ (νs .0 .1) (ws₆ .0), (((feedDef (ws₆ .0) ((r₅) .bytes) ((r₅) .last) (record { threads = z .0; cpus = z .1 .0; nodes = z .1 .1 .0; output = z .1 .1 .1 .1 .0; fed = ((z .1 .1 .1 .1 .1 .0) .fed) })) .fed) .at, ((r₅) .bytes, tt))), (slice-of b‴ o‴ (ws₆ .0) ∷ [], spell (number w64 ∷ number w64 ∷ []) ((((feedDef (ws₆ .0) ((r₅) .bytes) ((r₅) .last) (record { threads = z .0; cpus = z .1 .0; nodes = z .1 .1 .0; output = z .1 .1 .1 .1 .0; fed = ((z .1 .1 .1 .1 .1 .0) .fed) })) .fed) .at, ((r₅) .bytes, tt))))), tt))
+          call-slices (number w64) (number w64 ∷ number w64 ∷ []) ((((feed-def (ws₆ .0) ((r₅) .bytes) ((r₅) .last) (record { threads = z .0; cpus = z .1 .0; nodes = z .1 .1 .0; output = z .1 .1 .1 .1 .0; fed = ((z .1 .1 .1 .1 .1 .0) .fed) })) .fed) .at, ((r₅) .bytes, tt))) (emp 𝓤) ((mutable u8 (ws₆ .0) b‴ o‴ n‴ ((w .1 .1 .1 .0 ∙ sym (ls₈ .0))) room‴) ∷ []) ! fm (λ r ws. (r ≡ (kept-count (ws₆ .0) (((feed-def (ws₆ .0) ((r₅) .bytes) ((r₅) .last) (record { threads = z .0; cpus = z .1 .0; nodes = z .1 .1 .0; output = z .1 .1 .1 .1 .0; fed = ((z .1 .1 .1 .1 .1 .0) .fed) })) .fed) .at) ((r₅) .bytes))) × (ws .0 ≡ (kept-bytes (ws₆ .0) (((feed-def (ws₆ .0) ((r₅) .bytes) ((r₅) .last) (record { threads = z .0; cpus = z .1 .0; nodes = z .1 .1 .0; output = z .1 .1 .1 .1 .0; fed = ((z .1 .1 .1 .1 .1 .0) .fed) })) .fed) .at) ((r₅) .bytes)))) ((LL.owed Progress·.the-type Progress·laws.the-laws ((feed-def (ws₆ .0) ((r₅) .bytes) ((r₅) .last) (record { threads = z .0; cpus = z .1 .0; nodes = z .1 .1 .0; output = z .1 .1 .1 .1 .0; fed = ((z .1 .1 .1 .1 .1 .0) .fed) })) .fed) _ (is₁₈) .0, (LL.owed Filled·.the-type Filled·laws.the-laws (r₅) _ (is₇) .0, tt))) (id⊢ 𝓤 (emp 𝓤))
+          (λ νs. cited 𝓤 H (tripleOf 𝓤 H A fn-stream-block-keep.signature (fn-stream-block-keep.spec 𝓤 H A (𝓜 .mem) (𝓡 .run))) 𝓜 𝓡 code.env fn-stream-block-keep-def.name fn-stream-block-keep-def.routine code.calls-stream·block·keep (fn-stream-block-keep-thm.met 𝓤 H 𝓜 𝓖 𝓡) (((νs .0 .0 ∷ [], tt), (fullShare, tt), tt, (lent-as b‴ o‴ (νs .0 .1) (ws₆ .0), (((feed-def (ws₆ .0) ((r₅) .bytes) ((r₅) .last) (record { threads = z .0; cpus = z .1 .0; nodes = z .1 .1 .0; output = z .1 .1 .1 .1 .0; fed = ((z .1 .1 .1 .1 .1 .0) .fed) })) .fed) .at, ((r₅) .bytes, tt))), (slice-of b‴ o‴ (ws₆ .0) ∷ [], spell (number w64 ∷ number w64 ∷ []) ((((feed-def (ws₆ .0) ((r₅) .bytes) ((r₅) .last) (record { threads = z .0; cpus = z .1 .0; nodes = z .1 .1 .0; output = z .1 .1 .1 .1 .0; fed = ((z .1 .1 .1 .1 .1 .0) .fed) })) .fed) .at, ((r₅) .bytes, tt))))), tt))
           (λ k. and-then ! (load ! (from ! (stop !)) (look ! 10 refl)) (and-then ! (load ! (from ! (fld ! refl (stop !))) (look-in ! 62 (sub ! 0 refl (whole !)))) (and-then ! (load ! (from ! (stop !)) (look ! 66 refl)) (no-more !)))) (λ r₃₇ ws₃₈ is₃₉ ls₄₀ e₄₁.
           split ! $
           move ! (1 ∷ []) $
           drop ! $
           rewrite ! 0 (λ (us : List ℕ). ‵ (row u8 fullShare us b‴ o‴)) (e₄₁ .1) refl $
           told ! (number w64) (e₄₁ .0) is₃₉ (λ is₄₂.
-          land ! (from ! (stop !)) (init ! 58 refl ((number w64) .typed 𝓤 H A W (keptCount (ws₆ .0) (((feedDef (ws₆ .0) ((r₅) .bytes) ((r₅) .last) (record { threads = z .0; cpus = z .1 .0; nodes = z .1 .1 .0; output = z .1 .1 .1 .1 .0; fed = ((z .1 .1 .1 .1 .1 .0) .fed) })) .fed) .at) ((r₅) .bytes)) (is₄₂) .0)) $
+          land ! (from ! (stop !)) (init ! 58 refl ((number w64) .typed 𝓤 H A W (kept-count (ws₆ .0) (((feed-def (ws₆ .0) ((r₅) .bytes) ((r₅) .last) (record { threads = z .0; cpus = z .1 .0; nodes = z .1 .1 .0; output = z .1 .1 .1 .1 .0; fed = ((z .1 .1 .1 .1 .1 .0) .fed) })) .fed) .at) ((r₅) .bytes)) (is₄₂) .0)) $
           nothing ! $
-          call-slices-none Serving° (Fed° ∷ number w64 ∷ []) (((feedDef (ws₆ .0) ((r₅) .bytes) ((r₅) .last) (record { threads = z .0; cpus = z .1 .0; nodes = z .1 .1 .0; output = z .1 .1 .1 .1 .0; fed = ((z .1 .1 .1 .1 .1 .0) .fed) })) .fed, (keptCount (ws₆ .0) (((feedDef (ws₆ .0) ((r₅) .bytes) ((r₅) .last) (record { threads = z .0; cpus = z .1 .0; nodes = z .1 .1 .0; output = z .1 .1 .1 .1 .0; fed = ((z .1 .1 .1 .1 .1 .0) .fed) })) .fed) .at) ((r₅) .bytes), tt))) (emp 𝓤) ([]) ! fm ((is₁₈, (is₄₂, tt))) (id⊢ 𝓤 (emp 𝓤))
-          (λ νs. cited 𝓤 H (tripleOf 𝓤 H A fn-replay-with-left.signature (fn-replay-with-left.spec 𝓤 H A (𝓜 .mem) (𝓡 .run))) 𝓜 𝓡 code.env fn-replay-with-left-def.name fn-replay-with-left-def.routine code.calls-replay·with-left (fn-replay-with-left-thm.met 𝓤 H 𝓜 𝓖 𝓡) ((tt, tt, tt, ((feedDef (ws₆ .0) ((r₅) .bytes) ((r₅) .last) (record { threads = z .0; cpus = z .1 .0; nodes = z .1 .1 .0; output = z .1 .1 .1 .1 .0; fed = ((z .1 .1 .1 .1 .1 .0) .fed) })) .fed, (keptCount (ws₆ .0) (((feedDef (ws₆ .0) ((r₅) .bytes) ((r₅) .last) (record { threads = z .0; cpus = z .1 .0; nodes = z .1 .1 .0; output = z .1 .1 .1 .1 .0; fed = ((z .1 .1 .1 .1 .1 .0) .fed) })) .fed) .at) ((r₅) .bytes), tt)), spell (Fed° ∷ number w64 ∷ []) (((feedDef (ws₆ .0) ((r₅) .bytes) ((r₅) .last) (record { threads = z .0; cpus = z .1 .0; nodes = z .1 .1 .0; output = z .1 .1 .1 .1 .0; fed = ((z .1 .1 .1 .1 .1 .0) .fed) })) .fed, (keptCount (ws₆ .0) (((feedDef (ws₆ .0) ((r₅) .bytes) ((r₅) .last) (record { threads = z .0; cpus = z .1 .0; nodes = z .1 .1 .0; output = z .1 .1 .1 .1 .0; fed = ((z .1 .1 .1 .1 .1 .0) .fed) })) .fed) .at) ((r₅) .bytes), tt)))), tt))
+          call-slices-none Serving° (Progress° ∷ number w64 ∷ []) (((feed-def (ws₆ .0) ((r₅) .bytes) ((r₅) .last) (record { threads = z .0; cpus = z .1 .0; nodes = z .1 .1 .0; output = z .1 .1 .1 .1 .0; fed = ((z .1 .1 .1 .1 .1 .0) .fed) })) .fed, (kept-count (ws₆ .0) (((feed-def (ws₆ .0) ((r₅) .bytes) ((r₅) .last) (record { threads = z .0; cpus = z .1 .0; nodes = z .1 .1 .0; output = z .1 .1 .1 .1 .0; fed = ((z .1 .1 .1 .1 .1 .0) .fed) })) .fed) .at) ((r₅) .bytes), tt))) (emp 𝓤) ([]) ! fm ((is₁₈, (is₄₂, tt))) (id⊢ 𝓤 (emp 𝓤))
+          (λ νs. cited 𝓤 H (tripleOf 𝓤 H A fn-replay-with-left.signature (fn-replay-with-left.spec 𝓤 H A (𝓜 .mem) (𝓡 .run))) 𝓜 𝓡 code.env fn-replay-with-left-def.name fn-replay-with-left-def.routine code.calls-replay·with-left (fn-replay-with-left-thm.met 𝓤 H 𝓜 𝓖 𝓡) ((tt, tt, tt, ((feed-def (ws₆ .0) ((r₅) .bytes) ((r₅) .last) (record { threads = z .0; cpus = z .1 .0; nodes = z .1 .1 .0; output = z .1 .1 .1 .1 .0; fed = ((z .1 .1 .1 .1 .1 .0) .fed) })) .fed, (kept-count (ws₆ .0) (((feed-def (ws₆ .0) ((r₅) .bytes) ((r₅) .last) (record { threads = z .0; cpus = z .1 .0; nodes = z .1 .1 .0; output = z .1 .1 .1 .1 .0; fed = ((z .1 .1 .1 .1 .1 .0) .fed) })) .fed) .at) ((r₅) .bytes), tt)), spell (Progress° ∷ number w64 ∷ []) (((feed-def (ws₆ .0) ((r₅) .bytes) ((r₅) .last) (record { threads = z .0; cpus = z .1 .0; nodes = z .1 .1 .0; output = z .1 .1 .1 .1 .0; fed = ((z .1 .1 .1 .1 .1 .0) .fed) })) .fed, (kept-count (ws₆ .0) (((feed-def (ws₆ .0) ((r₅) .bytes) ((r₅) .last) (record { threads = z .0; cpus = z .1 .0; nodes = z .1 .1 .0; output = z .1 .1 .1 .1 .0; fed = ((z .1 .1 .1 .1 .1 .0) .fed) })) .fed) .at) ((r₅) .bytes), tt)))), tt))
           (λ k. and-then ! (load ! (from ! (stop !)) (look ! 63 refl)) (and-then ! (load ! (from ! (stop !)) (look ! 59 refl)) (no-more !))) (λ r₄₃ ws₄₄ is₄₅ ls₄₆.
           drop ! $
           land ! (from ! (stop !)) (init ! 56 refl (Serving° .typed 𝓤 H A W (r₄₃) (is₄₅) .0)) $
@@ -407,7 +407,7 @@ module _ {M : Type 1} (𝓤 : URA M) (H : Heap 𝓤) (𝓜 : Model 𝓤 H) (𝓖
           forget ! 12 refl $
           forget ! 10 refl $
           move ! (4 ∷ 5 ∷ 3 ∷ 6 ∷ 2 ∷ 7 ∷ 0 ∷ 8 ∷ 1 ∷ 9 ∷ 10 ∷ 11 ∷ 12 ∷ 13 ∷ 14 ∷ 15 ∷ 16 ∷ 17 ∷ 18 ∷ 19 ∷ 20 ∷ 21 ∷ 22 ∷ 23 ∷ 24 ∷ 25 ∷ 26 ∷ 27 ∷ 28 ∷ 29 ∷ 30 ∷ 31 ∷ 32 ∷ 33 ∷ 34 ∷ 35 ∷ 36 ∷ 37 ∷ 38 ∷ 39 ∷ 40 ∷ 41 ∷ 42 ∷ 43 ∷ 44 ∷ 45 ∷ 46 ∷ 47 ∷ 48 ∷ 49 ∷ 50 ∷ 51 ∷ 52 ∷ 53 ∷ 54 ∷ 55 ∷ 56 ∷ 57 ∷ 58 ∷ 59 ∷ 60 ∷ 61 ∷ 62 ∷ 63 ∷ 64 ∷ 65 ∷ 66 ∷ 67 ∷ 68 ∷ 69 ∷ 70 ∷ 71 ∷ 72 ∷ 73 ∷ 74 ∷ 75 ∷ 76 ∷ 77 ∷ 78 ∷ 79 ∷ 80 ∷ 81 ∷ 82 ∷ 83 ∷ 84 ∷ 85 ∷ 86 ∷ 87 ∷ 88 ∷ 89 ∷ 90 ∷ 91 ∷ 92 ∷ 93 ∷ []) $
-          again ! nearer I (z, w) (((feedDef (ws₆ .0) ((r₅) .bytes) ((r₅) .last) (record { threads = z .0; cpus = z .1 .0; nodes = z .1 .1 .0; output = z .1 .1 .1 .1 .0; fed = ((z .1 .1 .1 .1 .1 .0) .fed) })) .threads, ((feedDef (ws₆ .0) ((r₅) .bytes) ((r₅) .last) (record { threads = z .0; cpus = z .1 .0; nodes = z .1 .1 .0; output = z .1 .1 .1 .1 .0; fed = ((z .1 .1 .1 .1 .1 .0) .fed) })) .cpus, ((feedDef (ws₆ .0) ((r₅) .bytes) ((r₅) .last) (record { threads = z .0; cpus = z .1 .0; nodes = z .1 .1 .0; output = z .1 .1 .1 .1 .0; fed = ((z .1 .1 .1 .1 .1 .0) .fed) })) .nodes, (keptBytes (ws₆ .0) (((feedDef (ws₆ .0) ((r₅) .bytes) ((r₅) .last) (record { threads = z .0; cpus = z .1 .0; nodes = z .1 .1 .0; output = z .1 .1 .1 .1 .0; fed = ((z .1 .1 .1 .1 .1 .0) .fed) })) .fed) .at) ((r₅) .bytes), ((feedDef (ws₆ .0) ((r₅) .bytes) ((r₅) .last) (record { threads = z .0; cpus = z .1 .0; nodes = z .1 .1 .0; output = z .1 .1 .1 .1 .0; fed = ((z .1 .1 .1 .1 .1 .0) .fed) })) .output, (r₄₃, (z .1 .1 .1 .1 .1 .1) - (1))))))), ((w .0 ∙ sym (subst (λ (us : List Thread). length us ≡ length (z .0)) (e₁₇ .1 .0) (ls₁₆ .0))), ((w .1 .0 ∙ sym (subst (λ (us : List (List ℕ)). length us ≡ length (z .1 .0)) (e₁₇ .1 .1 .0) (ls₁₆ .1 .0))), ((w .1 .1 .0 ∙ sym (subst (λ (us : List (List ℕ)). length us ≡ length (z .1 .1 .0)) (e₁₇ .1 .1 .1 .0) (ls₁₆ .1 .1 .0))), (((w .1 .1 .1 .0 ∙ sym (ls₈ .0)) ∙ sym (subst (λ (us : List ℕ). length us ≡ length (ws₆ .0)) (e₄₁ .1) (ls₄₀ .0))), ((w .1 .1 .1 .1 .0 ∙ sym (subst (λ (us : List ℕ). length us ≡ length (z .1 .1 .1 .1 .0)) (e₁₇ .1 .1 .1 .1) (ls₁₆ .1 .1 .1 .1 .0))), (is₄₅, ((refl, lt-of-le-of-lt (sub-le (z .1 .1 .1 .1 .1 .1) (1)) (w .1 .1 .1 .1 .1 .1 .0 .1)), (tt))))))))) (omega (arith, ltb→lt 0 (z .1 .1 .1 .1 .1 .1) h₁))))))))))))))))
+          again ! nearer I (z, w) (((feed-def (ws₆ .0) ((r₅) .bytes) ((r₅) .last) (record { threads = z .0; cpus = z .1 .0; nodes = z .1 .1 .0; output = z .1 .1 .1 .1 .0; fed = ((z .1 .1 .1 .1 .1 .0) .fed) })) .threads, ((feed-def (ws₆ .0) ((r₅) .bytes) ((r₅) .last) (record { threads = z .0; cpus = z .1 .0; nodes = z .1 .1 .0; output = z .1 .1 .1 .1 .0; fed = ((z .1 .1 .1 .1 .1 .0) .fed) })) .cpus, ((feed-def (ws₆ .0) ((r₅) .bytes) ((r₅) .last) (record { threads = z .0; cpus = z .1 .0; nodes = z .1 .1 .0; output = z .1 .1 .1 .1 .0; fed = ((z .1 .1 .1 .1 .1 .0) .fed) })) .nodes, (kept-bytes (ws₆ .0) (((feed-def (ws₆ .0) ((r₅) .bytes) ((r₅) .last) (record { threads = z .0; cpus = z .1 .0; nodes = z .1 .1 .0; output = z .1 .1 .1 .1 .0; fed = ((z .1 .1 .1 .1 .1 .0) .fed) })) .fed) .at) ((r₅) .bytes), ((feed-def (ws₆ .0) ((r₅) .bytes) ((r₅) .last) (record { threads = z .0; cpus = z .1 .0; nodes = z .1 .1 .0; output = z .1 .1 .1 .1 .0; fed = ((z .1 .1 .1 .1 .1 .0) .fed) })) .output, (r₄₃, (z .1 .1 .1 .1 .1 .1) - (1))))))), ((w .0 ∙ sym (subst (λ (us : List Thread). length us ≡ length (z .0)) (e₁₇ .1 .0) (ls₁₆ .0))), ((w .1 .0 ∙ sym (subst (λ (us : List (List ℕ)). length us ≡ length (z .1 .0)) (e₁₇ .1 .1 .0) (ls₁₆ .1 .0))), ((w .1 .1 .0 ∙ sym (subst (λ (us : List (List ℕ)). length us ≡ length (z .1 .1 .0)) (e₁₇ .1 .1 .1 .0) (ls₁₆ .1 .1 .0))), (((w .1 .1 .1 .0 ∙ sym (ls₈ .0)) ∙ sym (subst (λ (us : List ℕ). length us ≡ length (ws₆ .0)) (e₄₁ .1) (ls₄₀ .0))), ((w .1 .1 .1 .1 .0 ∙ sym (subst (λ (us : List ℕ). length us ≡ length (z .1 .1 .1 .1 .0)) (e₁₇ .1 .1 .1 .1) (ls₁₆ .1 .1 .1 .1 .0))), (is₄₅, ((refl, lt-of-le-of-lt (sub-le (z .1 .1 .1 .1 .1 .1) (1)) (w .1 .1 .1 .1 .1 .1 .0 .1)), (tt))))))))) (omega (arith, ltb→lt 0 (z .1 .1 .1 .1 .1 .1) h₁))))))))))))))))
           (λ h₁. exec ! C Λ En mir.t-4 (atRet En Post) $
           assigns ! (of-opd ! (false-lit !)) (from ! (stop !)) (init ! 92 refl (tt, tt)) $
           move ! (8 ∷ 9 ∷ []) $

@@ -31,12 +31,12 @@ use denote.Triple.Table.{cited}
 use denote.Triple.Clauses.{Clauses}
 use denote.Triple.Walked.{says, Stays, stay-none, stay-slice, stay-none-slice, walkOf, goes-none, goes-slice, goes-none-slice, ends-at}
 use denote.Exit.{yes as kept-yes}
-use Rattle.lent.proofs.Walk.{Datum, struct, Dens, AreD, listed, spell, lent-as, slice-of, kept, opened, closed, full, told, proved}
-use Rattle.lent.proofs.Lent.{mutable, passed, call-slices, call-left, all-freed, so, begins4, leaves4}
-use Rattle.command.specs.Command.{commandDef}
+use Rattle.records.proofs.Walk.{Datum, struct, Dens, AreD, listed, spell, lent-as, slice-of, kept, opened, closed, full, told, proved}
+use Rattle.records.proofs.Lent.{mutable, passed, call-slices, call-left, all-freed, so, begins4, leaves4}
+use Rattle.command.specs.Command.{command-def}
 use Rattle.command.specs.Lent.{Lent}
-use Rattle.lent.specs.Left.{Left}
-use Rattle.scheduler.specs.Numbers.{commandRow, step-of}
+use Rattle.records.specs.Left.{Left}
+use Rattle.scheduler.specs.Numbers.{command-row, step-of}
 use denote.Struct.Laws as LL
 use Rattle.outcome.specs.declared.answer.Answered.{Answered}
 use Rattle.outcome.proofs.answer.Answered as Answered·
@@ -128,7 +128,7 @@ module _ {M : Type 1} (𝓤 : URA M) (H : Heap 𝓤) (𝓜 : Model 𝓤 H) (𝓖
     Post = walkOf 𝓤 H A scheduler-command.ended stayed c .post y
 
     abbrev V₁ : Left Answered Lent
-    V₁ = commandDef (length ys‴) 0 (a .0) ys‴ (record { threads = ys; cpus = ys′; nodes = ys″ })
+    V₁ = command-def (length ys‴) 0 (a .0) ys‴ (record { threads = ys; cpus = ys′; nodes = ys″ })
 
     walk : ent 𝓤 (onEntry 𝓤 H A scheduler-command.signature (κ, (κ′, (κ″, (κ‴, tt)))) (q, (q′, (q″, (q‴, tt)))) ((lent-as b o γ ys, (lent-as b′ o′ γ′ ys′, (lent-as b″ o″ γ″ ys″, (lent-as b‴ o‴ γ‴ ys‴, a))))) ((s ∷ [], (s′ ∷ [], (s″ ∷ [], (s‴ ∷ [], spell Ds a)))))) (WpFn 𝓤 H C Λ code.function (s ∷ s′ ∷ s″ ∷ s‴ ∷ listed Ds a) Post)
     walk =
@@ -192,7 +192,7 @@ module _ {M : Type 1} (𝓤 : URA M) (H : Heap 𝓤) (𝓜 : Model 𝓤 H) (𝓖
         returns ! (look ! 32 refl) $
         move ! (32 ∷ 33 ∷ 30 ∷ 31 ∷ 28 ∷ 29 ∷ 26 ∷ 27 ∷ 24 ∷ 25 ∷ 22 ∷ 23 ∷ 20 ∷ 21 ∷ 18 ∷ 19 ∷ 16 ∷ 17 ∷ 14 ∷ 15 ∷ 12 ∷ 13 ∷ 10 ∷ 11 ∷ 8 ∷ 9 ∷ []) $
         all-freed ! mir.locals (l₀ ∷ l₁ ∷ l₂ ∷ l₃ ∷ l₄ ∷ l₅ ∷ l₆ ∷ l₇ ∷ l₈ ∷ l₉ ∷ l₁₀ ∷ l₁₁ ∷ l₁₂ ∷ []) (full _ ∷ full _ ∷ full _ ∷ full _ ∷ full _ ∷ full _ ∷ full _ ∷ full _ ∷ full _ ∷ full _ ∷ full _ ∷ full _ ∷ full _ ∷ []) tt $
-        suffices ! _ (ends-at 𝓤 H A scheduler-command.ended stayed c W y _ (step-of (V₁ .answer)) (V₁ .memory .threads, (V₁ .memory .cpus, (V₁ .memory .nodes, (tt, (tt, tt))))) (sym ((refl ∙ sym (subst (λ (us : List Thread). length us ≡ length ys) (e₅ .1 .0) (ls₄ .0)))), (sym ((refl ∙ sym (subst (λ (us : List (List ℕ)). length us ≡ length ys′) (e₅ .1 .1 .0) (ls₄ .1 .0)))), (sym ((refl ∙ sym (subst (λ (us : List (List ℕ)). length us ≡ length ys″) (e₅ .1 .1 .1) (ls₄ .1 .1 .0)))), (tt, (tt, tt)))))) $ says ! (so {X = Left Step Lent} (record { answer = (step-of (V₁ .answer)); memory = record { threads = (V₁ .memory .threads); cpus = (V₁ .memory .cpus); nodes = (V₁ .memory .nodes) } }) (commandRow (a .0) ys‴ (record { threads = ys; cpus = ys′; nodes = ys″ })) (refl)) $
+        suffices ! _ (ends-at 𝓤 H A scheduler-command.ended stayed c W y _ (step-of (V₁ .answer)) (V₁ .memory .threads, (V₁ .memory .cpus, (V₁ .memory .nodes, (tt, (tt, tt))))) (sym ((refl ∙ sym (subst (λ (us : List Thread). length us ≡ length ys) (e₅ .1 .0) (ls₄ .0)))), (sym ((refl ∙ sym (subst (λ (us : List (List ℕ)). length us ≡ length ys′) (e₅ .1 .1 .0) (ls₄ .1 .0)))), (sym ((refl ∙ sym (subst (λ (us : List (List ℕ)). length us ≡ length ys″) (e₅ .1 .1 .1) (ls₄ .1 .1 .0)))), (tt, (tt, tt)))))) $ says ! (so {X = Left Step Lent} (record { answer = (step-of (V₁ .answer)); memory = record { threads = (V₁ .memory .threads); cpus = (V₁ .memory .cpus); nodes = (V₁ .memory .nodes) } }) (command-row (a .0) ys‴ (record { threads = ys; cpus = ys′; nodes = ys″ })) (refl)) $
         leaves4 ! Step° Ds a (step-of (V₁ .answer)) are (is₁₂))))))))))))))))))
 
 pub scheduler-command-spec : {M : Type 1} → stated.statement M

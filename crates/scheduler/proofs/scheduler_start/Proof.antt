@@ -30,25 +30,25 @@ use denote.Triple.Spec.{tripleOf}
 use denote.Triple.Table.{cited}
 use denote.Triple.Clauses.{Clauses}
 use denote.Triple.Walked.{says, Stays, stay-slice, walkOf, goes-slice, ends-at}
-use Rattle.lent.proofs.Walk.{Datum, struct, Dens, AreD, listed, spell, lent-as, slice-of, kept, opened, closed, full, told, proved}
-use Rattle.lent.proofs.Lent.{mutable, choice, call-slices, call-left, all-freed, so, begins3, leaves3}
+use Rattle.records.proofs.Walk.{Datum, struct, Dens, AreD, listed, spell, lent-as, slice-of, kept, opened, closed, full, told, proved}
+use Rattle.records.proofs.Lent.{mutable, choice, call-slices, call-left, all-freed, so, begins3, leaves3}
 use Rattle.command.specs.Lent.{Lent}
-use Rattle.feed.specs.Start.{startDef}
-use Rattle.lent.specs.Left.{Left}
-use Rattle.scheduler.specs.Numbers.{startRow, begun-of}
+use Rattle.records.specs.Left.{Left}
+use Rattle.scheduler.specs.Numbers.{start-row, begun-of}
+use Rattle.stream.specs.Start.{start-def}
 use denote.Struct.Laws as LL
 use Rattle.scheduler.specs.declared.numbers.Begun.{Begun}
 use Rattle.scheduler.proofs.numbers.Begun as Begun·
 use Rattle.scheduler.proofs.numbers.Begun.Laws as Begun·laws
-use Rattle.feed.specs.declared.start.Started.{Started}
-use Rattle.feed.proofs.start.Started as Started·
-use Rattle.feed.proofs.start.Started.Laws as Started·laws
+use Rattle.stream.specs.declared.start.Started.{Started}
+use Rattle.stream.proofs.start.Started as Started·
+use Rattle.stream.proofs.start.Started.Laws as Started·laws
 use Rattle.thread.specs.declared.Thread.{Thread}
 use Rattle.thread.proofs.Thread as Thread·
 use Rattle.thread.proofs.Thread.Laws as Thread·laws
-use Rattle.feed.proofs.start.start as fn-feed-start-start
-use Rattle.feed.proofs.start.start.Symbol as fn-feed-start-start-def
-use Rattle.feed.proofs.start.start.Met as fn-feed-start-start-thm
+use Rattle.stream.proofs.start.start as fn-stream-start-start
+use Rattle.stream.proofs.start.start.Symbol as fn-stream-start-start-def
+use Rattle.stream.proofs.start.start.Met as fn-stream-start-start-thm
 use Rattle.scheduler.proofs.numbers.begun_of as fn-scheduler-numbers-begun-of
 use Rattle.scheduler.proofs.numbers.begun_of.Symbol as fn-scheduler-numbers-begun-of-def
 use Rattle.scheduler.proofs.numbers.begun_of.Met as fn-scheduler-numbers-begun-of-thm
@@ -115,7 +115,7 @@ module _ {M : Type 1} (𝓤 : URA M) (H : Heap 𝓤) (𝓜 : Model 𝓤 H) (𝓖
     Post = walkOf 𝓤 H A scheduler-start.ended stayed c .post y
 
     abbrev V₁ : Left Started Lent
-    V₁ = startDef (record { threads = ys; cpus = ys′; nodes = ys″ })
+    V₁ = start-def (record { threads = ys; cpus = ys′; nodes = ys″ })
 
     walk : ent 𝓤 (onEntry 𝓤 H A scheduler-start.signature (κ, (κ′, (κ″, tt))) (q, (q′, (q″, tt))) ((lent-as b o γ ys, (lent-as b′ o′ γ′ ys′, (lent-as b″ o″ γ″ ys″, a)))) ((s ∷ [], (s′ ∷ [], (s″ ∷ [], spell Ds a))))) (WpFn 𝓤 H C Λ code.function (s ∷ s′ ∷ s″ ∷ listed Ds a) Post)
     walk =
@@ -142,7 +142,7 @@ module _ {M : Type 1} (𝓤 : URA M) (H : Heap 𝓤) (𝓜 : Model 𝓤 H) (𝓖
         move ! (1 ∷ 0 ∷ []) $
         join ! $
         call-left Started° ([]) tt (emp 𝓤) ((mutable Thread·.the-row ys b o n refl room) ∷ (mutable (Array u64 96) ys′ b′ o′ n′ refl room′) ∷ (mutable (Array u64 32) ys″ b″ o″ n″ refl room″) ∷ []) ! fm (λ r ws. (r ≡ (V₁ .answer)) × ((ws .0 ≡ (V₁ .memory .threads)) × ((ws .1 .0 ≡ (V₁ .memory .cpus)) × (ws .1 .1 .0 ≡ (V₁ .memory .nodes))))) (λ r ws. _≡_ {A = Left Started Lent} (record { answer = r; memory = record { threads = ws .0; cpus = ws .1 .0; nodes = ws .1 .1 .0 } }) V₁) (λ r ws e. (ap (λ (z : Left Started Lent). z .answer) e, (ap (λ (z : Left Started Lent). z .memory .threads) e, (ap (λ (z : Left Started Lent). z .memory .cpus) e, ap (λ (z : Left Started Lent). z .memory .nodes) e)))) tt (id⊢ 𝓤 (emp 𝓤))
-        (λ νs. cited 𝓤 H (tripleOf 𝓤 H A fn-feed-start-start.signature (fn-feed-start-start.spec 𝓤 H A (𝓜 .mem) (𝓡 .run))) 𝓜 𝓡 code.env fn-feed-start-start-def.name fn-feed-start-start-def.routine code.calls-feed·start·start (fn-feed-start-start-thm.met 𝓤 H 𝓜 𝓖 𝓡) (((νs .0 .0 ∷ [], (νs .1 .0 .0 ∷ [], (νs .1 .1 .0 .0 ∷ [], tt))), (fullShare, (fullShare, (fullShare, tt))), tt, (lent-as b o (νs .0 .1) ys, (lent-as b′ o′ (νs .1 .0 .1) ys′, (lent-as b″ o″ (νs .1 .1 .0 .1) ys″, tt))), (slice-of b o ys ∷ [], (slice-of b′ o′ ys′ ∷ [], (slice-of b″ o″ ys″ ∷ [], spell ([]) tt)))), tt))
+        (λ νs. cited 𝓤 H (tripleOf 𝓤 H A fn-stream-start-start.signature (fn-stream-start-start.spec 𝓤 H A (𝓜 .mem) (𝓡 .run))) 𝓜 𝓡 code.env fn-stream-start-start-def.name fn-stream-start-start-def.routine code.calls-stream·start·start (fn-stream-start-start-thm.met 𝓤 H 𝓜 𝓖 𝓡) (((νs .0 .0 ∷ [], (νs .1 .0 .0 ∷ [], (νs .1 .1 .0 .0 ∷ [], tt))), (fullShare, (fullShare, (fullShare, tt))), tt, (lent-as b o (νs .0 .1) ys, (lent-as b′ o′ (νs .1 .0 .1) ys′, (lent-as b″ o″ (νs .1 .1 .0 .1) ys″, tt))), (slice-of b o ys ∷ [], (slice-of b′ o′ ys′ ∷ [], (slice-of b″ o″ ys″ ∷ [], spell ([]) tt)))), tt))
         (λ k. and-then ! (load ! (from ! (stop !)) (look ! 12 refl)) (and-then ! (load ! (from ! (stop !)) (look ! 8 refl)) (and-then ! (load ! (from ! (stop !)) (look ! 4 refl)) (no-more !)))) (λ r₁ ws₂ is₃ ls₄ e₅.
         split ! $
         move ! (1 ∷ []) $
@@ -172,7 +172,7 @@ module _ {M : Type 1} (𝓤 : URA M) (H : Heap 𝓤) (𝓜 : Model 𝓤 H) (𝓖
         returns ! (look ! 26 refl) $
         move ! (26 ∷ 27 ∷ 24 ∷ 25 ∷ 22 ∷ 23 ∷ 20 ∷ 21 ∷ 18 ∷ 19 ∷ 16 ∷ 17 ∷ 14 ∷ 15 ∷ 12 ∷ 13 ∷ 10 ∷ 11 ∷ 8 ∷ 9 ∷ 6 ∷ 7 ∷ []) $
         all-freed ! mir.locals (l₀ ∷ l₁ ∷ l₂ ∷ l₃ ∷ l₄ ∷ l₅ ∷ l₆ ∷ l₇ ∷ l₈ ∷ l₉ ∷ l₁₀ ∷ []) (full _ ∷ full _ ∷ full _ ∷ full _ ∷ full _ ∷ full _ ∷ full _ ∷ full _ ∷ full _ ∷ full _ ∷ full _ ∷ []) tt $
-        suffices ! _ (ends-at 𝓤 H A scheduler-start.ended stayed c W y _ (begun-of (V₁ .answer)) (V₁ .memory .threads, (V₁ .memory .cpus, (V₁ .memory .nodes, tt))) (sym ((refl ∙ sym (subst (λ (us : List Thread). length us ≡ length ys) (e₅ .1 .0) (ls₄ .0)))), (sym ((refl ∙ sym (subst (λ (us : List (List ℕ)). length us ≡ length ys′) (e₅ .1 .1 .0) (ls₄ .1 .0)))), (sym ((refl ∙ sym (subst (λ (us : List (List ℕ)). length us ≡ length ys″) (e₅ .1 .1 .1) (ls₄ .1 .1 .0)))), tt)))) $ says ! (so {X = Left Begun Lent} (record { answer = (begun-of (V₁ .answer)); memory = record { threads = (V₁ .memory .threads); cpus = (V₁ .memory .cpus); nodes = (V₁ .memory .nodes) } }) (startRow (record { threads = ys; cpus = ys′; nodes = ys″ })) (refl)) $
+        suffices ! _ (ends-at 𝓤 H A scheduler-start.ended stayed c W y _ (begun-of (V₁ .answer)) (V₁ .memory .threads, (V₁ .memory .cpus, (V₁ .memory .nodes, tt))) (sym ((refl ∙ sym (subst (λ (us : List Thread). length us ≡ length ys) (e₅ .1 .0) (ls₄ .0)))), (sym ((refl ∙ sym (subst (λ (us : List (List ℕ)). length us ≡ length ys′) (e₅ .1 .1 .0) (ls₄ .1 .0)))), (sym ((refl ∙ sym (subst (λ (us : List (List ℕ)). length us ≡ length ys″) (e₅ .1 .1 .1) (ls₄ .1 .1 .0)))), tt)))) $ says ! (so {X = Left Begun Lent} (record { answer = (begun-of (V₁ .answer)); memory = record { threads = (V₁ .memory .threads); cpus = (V₁ .memory .cpus); nodes = (V₁ .memory .nodes) } }) (start-row (record { threads = ys; cpus = ys′; nodes = ys″ })) (refl)) $
         leaves3 ! Begun° Ds a (begun-of (V₁ .answer)) are (is₁₂))))))))))))))))
 
 pub scheduler-start-spec : {M : Type 1} → stated.statement M

@@ -29,8 +29,8 @@ use denote.Triple.Spec.{tripleOf}
 use denote.Triple.Table.{cited}
 use denote.Triple.Clauses.{Clauses}
 use denote.Triple.Walked.{Stays, walkOf, ends-at}
-use Rattle.lent.proofs.Walk.{Datum, number, nil, struct, Dens, AreD, listed, spell, lent-as, slice-of, kept, bare, full, arrayed, freed, told, proved}
-use Rattle.lent.proofs.Lent.{mutable, arr, call-slices, call-slices-none, big-lit, all-freed, rep-is, array-typed-of, says-none, begins0, leaves0}
+use Rattle.records.proofs.Walk.{Datum, number, nil, struct, Dens, AreD, listed, spell, lent-as, slice-of, kept, bare, full, arrayed, freed, told, proved}
+use Rattle.records.proofs.Lent.{mutable, arr, call-slices, call-slices-none, big-lit, all-freed, rep-is, array-typed-of, says-none, begins0, leaves0}
 use Rattle.thread.specs.Thread.{blank}
 use denote.Struct.Laws as LL
 use Rattle.vectors.specs.declared.Tally.{Tally}

@@ -36,22 +36,22 @@ use denote.Triple.Spec.{tripleOf}
 use denote.Triple.Table.{cited}
 use denote.Triple.Clauses.{Clauses}
 use denote.Triple.Walked.{Stays, stay-slice, walkOf, goes-slice, ends-at}
-use Rattle.lent.proofs.Walk.{Datum, number, truth, struct, Dens, AreD, listed, spell, lent-as, slice-of, kept, opened, closed, guards, whiles, env-of, standing, bare, full, told, proved}
-use Rattle.lent.proofs.Lent.{mutable, shared, choice, call-left, call-slices-none, all-freed, says-none, begins6, leaves6}
+use Rattle.records.proofs.Walk.{Datum, number, truth, struct, Dens, AreD, listed, spell, lent-as, slice-of, kept, opened, closed, guards, whiles, env-of, standing, bare, full, told, proved}
+use Rattle.records.proofs.Lent.{mutable, shared, choice, call-left, call-slices-none, all-freed, says-none, begins6, leaves6}
 use Rattle.command.specs.Lent.{Lent}
-use Rattle.feed.specs.Feed.{feedDef, World}
-use Rattle.feed.specs.Start.{startDef}
-use Rattle.lent.specs.Left.{Left}
+use Rattle.records.specs.Left.{Left}
+use Rattle.stream.specs.Feed.{feed-def, World}
+use Rattle.stream.specs.Start.{start-def}
 use denote.Struct.Laws as LL
-use Rattle.feed.specs.declared.fed.Fed.{Fed}
-use Rattle.feed.proofs.fed.Fed as Fed·
-use Rattle.feed.proofs.fed.Fed.Laws as Fed·laws
+use Rattle.stream.specs.declared.progress.Progress.{Progress}
+use Rattle.stream.proofs.progress.Progress as Progress·
+use Rattle.stream.proofs.progress.Progress.Laws as Progress·laws
 use Rattle.vectors.specs.declared.Sizes.{Sizes}
 use Rattle.vectors.proofs.Sizes as Sizes·
 use Rattle.vectors.proofs.Sizes.Laws as Sizes·laws
-use Rattle.feed.specs.declared.start.Started.{Started}
-use Rattle.feed.proofs.start.Started as Started·
-use Rattle.feed.proofs.start.Started.Laws as Started·laws
+use Rattle.stream.specs.declared.start.Started.{Started}
+use Rattle.stream.proofs.start.Started as Started·
+use Rattle.stream.proofs.start.Started.Laws as Started·laws
 use Rattle.vectors.specs.declared.Tally.{Tally}
 use Rattle.vectors.proofs.Tally as Tally·
 use Rattle.vectors.proofs.Tally.Laws as Tally·laws
@@ -70,15 +70,15 @@ use Rattle.vectors.proofs.ended.Met as fn-vectors-ended-thm
 use Rattle.vectors.proofs.take as fn-vectors-take
 use Rattle.vectors.proofs.take.Symbol as fn-vectors-take-def
 use Rattle.vectors.proofs.take.Met as fn-vectors-take-thm
-use Rattle.feed.proofs.start.start as fn-feed-start-start
-use Rattle.feed.proofs.start.start.Symbol as fn-feed-start-start-def
-use Rattle.feed.proofs.start.start.Met as fn-feed-start-start-thm
+use Rattle.stream.proofs.start.start as fn-stream-start-start
+use Rattle.stream.proofs.start.start.Symbol as fn-stream-start-start-def
+use Rattle.stream.proofs.start.start.Met as fn-stream-start-start-thm
 use Rattle.vectors.proofs.begun as fn-vectors-begun
 use Rattle.vectors.proofs.begun.Symbol as fn-vectors-begun-def
 use Rattle.vectors.proofs.begun.Met as fn-vectors-begun-thm
-use Rattle.feed.proofs.feed.feed as fn-feed-feed-feed
-use Rattle.feed.proofs.feed.feed.Symbol as fn-feed-feed-feed-def
-use Rattle.feed.proofs.feed.feed.Met as fn-feed-feed-feed-thm
+use Rattle.stream.proofs.feed.feed as fn-stream-feed-feed
+use Rattle.stream.proofs.feed.feed.Symbol as fn-stream-feed-feed-def
+use Rattle.stream.proofs.feed.feed.Met as fn-stream-feed-feed-thm
 use Rattle.vectors.proofs.headed as fn-vectors-headed
 use Rattle.vectors.proofs.headed.Symbol as fn-vectors-headed-def
 use Rattle.vectors.proofs.headed.Met as fn-vectors-headed-thm
@@ -94,8 +94,8 @@ use Rattle.vectors.proofs.replayed.Statement as stated
 use Rattle.vectors.proofs.replayed.Code as code
 use Rattle.vectors.proofs.replayed.Code.Mir as mir
 
-abbrev Fed° : Datum
-Fed° = struct Fed·.the-type Fed·laws.the-laws Fed·laws.the-plain
+abbrev Progress° : Datum
+Progress° = struct Progress·.the-type Progress·laws.the-laws Progress·laws.the-plain
 
 abbrev Sizes° : Datum
 Sizes° = struct Sizes·.the-type Sizes·laws.the-laws Sizes·laws.the-plain
@@ -178,7 +178,7 @@ module _ {M : Type 1} (𝓤 : URA M) (H : Heap 𝓤) (𝓜 : Model 𝓤 H) (𝓖
     Z = (List Thread) × ((List (List ℕ)) × ((List (List ℕ)) × ((List ℕ) × ((List ℕ) × ((List ℕ) × ((Tally) × (ℕ)))))))
 
     abbrev V₁ : Z → Left Started Lent
-    V₁ z = startDef (record { threads = z .0; cpus = z .1 .0; nodes = z .1 .1 .0 })
+    V₁ z = start-def (record { threads = z .0; cpus = z .1 .0; nodes = z .1 .1 .0 })
 
     abbrev μ : Z → ℕ
     μ z = (z .1 .1 .1 .1 .1 .1 .1)
@@ -287,7 +287,7 @@ module _ {M : Type 1} (𝓤 : URA M) (H : Heap 𝓤) (𝓜 : Model 𝓤 H) (𝓖
           move ! (3 ∷ 0 ∷ []) $
           join ! $
           call-left Started° ([]) tt (emp 𝓤) ((mutable Thread·.the-row (z .0) b o n (w .0) room) ∷ (mutable (Array u64 96) (z .1 .0) b′ o′ n′ (w .1 .0) room′) ∷ (mutable (Array u64 32) (z .1 .1 .0) b″ o″ n″ (w .1 .1 .0) room″) ∷ []) ! fm (λ r ws. (r ≡ ((V₁ z) .answer)) × ((ws .0 ≡ ((V₁ z) .memory .threads)) × ((ws .1 .0 ≡ ((V₁ z) .memory .cpus)) × (ws .1 .1 .0 ≡ ((V₁ z) .memory .nodes))))) (λ r ws. _≡_ {A = Left Started Lent} (record { answer = r; memory = record { threads = ws .0; cpus = ws .1 .0; nodes = ws .1 .1 .0 } }) (V₁ z)) (λ r ws e. (ap (λ (z : Left Started Lent). z .answer) e, (ap (λ (z : Left Started Lent). z .memory .threads) e, (ap (λ (z : Left Started Lent). z .memory .cpus) e, ap (λ (z : Left Started Lent). z .memory .nodes) e)))) tt (id⊢ 𝓤 (emp 𝓤))
-          (λ νs. cited 𝓤 H (tripleOf 𝓤 H A fn-feed-start-start.signature (fn-feed-start-start.spec 𝓤 H A (𝓜 .mem) (𝓡 .run))) 𝓜 𝓡 code.env fn-feed-start-start-def.name fn-feed-start-start-def.routine code.calls-feed·start·start (fn-feed-start-start-thm.met 𝓤 H 𝓜 𝓖 𝓡) (((νs .0 .0 ∷ [], (νs .1 .0 .0 ∷ [], (νs .1 .1 .0 .0 ∷ [], tt))), (fullShare, (fullShare, (fullShare, tt))), tt, (lent-as b o (νs .0 .1) (z .0), (lent-as b′ o′ (νs .1 .0 .1) (z .1 .0), (lent-as b″ o″ (νs .1 .1 .0 .1) (z .1 .1 .0), tt))), (slice-of b o (z .0) ∷ [], (slice-of b′ o′ (z .1 .0) ∷ [], (slice-of b″ o″ (z .1 .1 .0) ∷ [], spell ([]) tt)))), tt))
+          (λ νs. cited 𝓤 H (tripleOf 𝓤 H A fn-stream-start-start.signature (fn-stream-start-start.spec 𝓤 H A (𝓜 .mem) (𝓡 .run))) 𝓜 𝓡 code.env fn-stream-start-start-def.name fn-stream-start-start-def.routine code.calls-stream·start·start (fn-stream-start-start-thm.met 𝓤 H 𝓜 𝓖 𝓡) (((νs .0 .0 ∷ [], (νs .1 .0 .0 ∷ [], (νs .1 .1 .0 .0 ∷ [], tt))), (fullShare, (fullShare, (fullShare, tt))), tt, (lent-as b o (νs .0 .1) (z .0), (lent-as b′ o′ (νs .1 .0 .1) (z .1 .0), (lent-as b″ o″ (νs .1 .1 .0 .1) (z .1 .1 .0), tt))), (slice-of b o (z .0) ∷ [], (slice-of b′ o′ (z .1 .0) ∷ [], (slice-of b″ o″ (z .1 .1 .0) ∷ [], spell ([]) tt)))), tt))
           (λ k. and-then ! (load ! (from ! (stop !)) (look ! 50 refl)) (and-then ! (load ! (from ! (stop !)) (look ! 46 refl)) (and-then ! (load ! (from ! (stop !)) (look ! 42 refl)) (no-more !)))) (λ r₂₁ ws₂₂ is₂₃ ls₂₄ e₂₅.
           split ! $
           move ! (1 ∷ []) $
@@ -302,11 +302,11 @@ module _ {M : Type 1} (𝓤 : URA M) (H : Heap 𝓤) (𝓜 : Model 𝓤 H) (𝓖
           told ! Started° (e₂₅ .0) is₂₃ (λ is₂₆.
           land ! (from ! (stop !)) (init ! 82 refl (Started° .typed 𝓤 H A W ((V₁ z) .answer) (is₂₆) .0)) $
           nothing ! $
-          call-slices-none Fed° (Started° ∷ []) (((V₁ z) .answer, tt)) (emp 𝓤) ([]) ! fm ((is₂₆, tt)) (id⊢ 𝓤 (emp 𝓤))
+          call-slices-none Progress° (Started° ∷ []) (((V₁ z) .answer, tt)) (emp 𝓤) ([]) ! fm ((is₂₆, tt)) (id⊢ 𝓤 (emp 𝓤))
           (λ νs. cited 𝓤 H (tripleOf 𝓤 H A fn-vectors-begun.signature (fn-vectors-begun.spec 𝓤 H A (𝓜 .mem) (𝓡 .run))) 𝓜 𝓡 code.env fn-vectors-begun-def.name fn-vectors-begun-def.routine code.calls-vectors·begun (fn-vectors-begun-thm.met 𝓤 H 𝓜 𝓖 𝓡) ((tt, tt, tt, ((V₁ z) .answer, tt), spell (Started° ∷ []) (((V₁ z) .answer, tt))), tt))
           (λ k. and-then ! (load ! (from ! (stop !)) (look ! 83 refl)) (no-more !)) (λ r₂₇ ws₂₈ is₂₉ ls₃₀.
           drop ! $
-          land ! (from ! (stop !)) (init ! 80 refl (Fed° .typed 𝓤 H A W (r₂₇) (is₂₉) .0)) $
+          land ! (from ! (stop !)) (init ! 80 refl (Progress° .typed 𝓤 H A W (r₂₇) (is₂₉) .0)) $
           assigns ! (addr ! (from ! (fld ! refl (hop ! (look-in ! 108 (sub ! 0 refl (whole !))) (stop !))))) (from ! (stop !)) (init ! 42 refl (tt, tt)) $
           assigns ! (agg ! (and-then ! (load ! (from ! (stop !)) (look ! 42 refl)) (and-then ! (load ! (from ! (fld ! refl (stop !))) (look-in ! 108 (sub ! 1 refl (whole !)))) (no-more !)))) (from ! (stop !)) (init ! 40 refl (tt, (tt, (record { fits = room .0 }, tt)))) $
           assigns ! (addr ! (from ! (fld ! refl (hop ! (look-in ! 106 (sub ! 0 refl (whole !))) (stop !))))) (from ! (stop !)) (init ! 38 refl (tt, tt)) $
@@ -328,8 +328,8 @@ module _ {M : Type 1} (𝓤 : URA M) (H : Heap 𝓤) (𝓜 : Model 𝓤 H) (𝓖
           join ! $
           move ! (1 ∷ 0 ∷ []) $
           join ! $
-          call-left Fed° (number w64 ∷ truth ∷ Fed° ∷ []) (((r₅) .stream, (r₁₃, (r₂₇, tt)))) (emp 𝓤) ((mutable Thread·.the-row ((V₁ z) .memory .threads) b o n ((w .0 ∙ sym (subst (λ (us : List Thread). length us ≡ length (z .0)) (e₂₅ .1 .0) (ls₂₄ .0)))) room) ∷ (mutable (Array u64 96) ((V₁ z) .memory .cpus) b′ o′ n′ ((w .1 .0 ∙ sym (subst (λ (us : List (List ℕ)). length us ≡ length (z .1 .0)) (e₂₅ .1 .1 .0) (ls₂₄ .1 .0)))) room′) ∷ (mutable (Array u64 32) ((V₁ z) .memory .nodes) b″ o″ n″ ((w .1 .1 .0 ∙ sym (subst (λ (us : List (List ℕ)). length us ≡ length (z .1 .1 .0)) (e₂₅ .1 .1 .1) (ls₂₄ .1 .1 .0)))) room″) ∷ (shared u8 (ws₁₄ .0) b‴ o‴ n‴ (((w .1 .1 .1 .0 ∙ sym (ls₈ .0)) ∙ sym (ls₁₆ .0))) room‴) ∷ (mutable u8 (z .1 .1 .1 .1 .0) b⁗ o⁗ n⁗ (w .1 .1 .1 .1 .0) room⁗) ∷ []) ! fm (λ r ws. (r ≡ ((feedDef (ws₁₄ .0) ((r₅) .stream) r₁₃ (record { threads = (V₁ z) .memory .threads; cpus = (V₁ z) .memory .cpus; nodes = (V₁ z) .memory .nodes; output = z .1 .1 .1 .1 .0; fed = r₂₇ })) .fed)) × ((ws .0 ≡ ((feedDef (ws₁₄ .0) ((r₅) .stream) r₁₃ (record { threads = (V₁ z) .memory .threads; cpus = (V₁ z) .memory .cpus; nodes = (V₁ z) .memory .nodes; output = z .1 .1 .1 .1 .0; fed = r₂₇ })) .threads)) × ((ws .1 .0 ≡ ((feedDef (ws₁₄ .0) ((r₅) .stream) r₁₃ (record { threads = (V₁ z) .memory .threads; cpus = (V₁ z) .memory .cpus; nodes = (V₁ z) .memory .nodes; output = z .1 .1 .1 .1 .0; fed = r₂₇ })) .cpus)) × ((ws .1 .1 .0 ≡ ((feedDef (ws₁₄ .0) ((r₅) .stream) r₁₃ (record { threads = (V₁ z) .memory .threads; cpus = (V₁ z) .memory .cpus; nodes = (V₁ z) .memory .nodes; output = z .1 .1 .1 .1 .0; fed = r₂₇ })) .nodes)) × (ws .1 .1 .1 .1 .0 ≡ ((feedDef (ws₁₄ .0) ((r₅) .stream) r₁₃ (record { threads = (V₁ z) .memory .threads; cpus = (V₁ z) .memory .cpus; nodes = (V₁ z) .memory .nodes; output = z .1 .1 .1 .1 .0; fed = r₂₇ })) .output)))))) (λ r ws. _≡_ {A = World} (record { threads = ws .0; cpus = ws .1 .0; nodes = ws .1 .1 .0; output = ws .1 .1 .1 .1 .0; fed = r }) (feedDef (ws₁₄ .0) ((r₅) .stream) r₁₃ (record { threads = (V₁ z) .memory .threads; cpus = (V₁ z) .memory .cpus; nodes = (V₁ z) .memory .nodes; output = z .1 .1 .1 .1 .0; fed = r₂₇ }))) (λ r ws e. (ap (λ (z : World). z .fed) e, (ap (λ (z : World). z .threads) e, (ap (λ (z : World). z .cpus) e, (ap (λ (z : World). z .nodes) e, ap (λ (z : World). z .output) e))))) ((LL.owed Sizes·.the-type Sizes·laws.the-laws (r₅) _ (is₇) .0, (is₁₅, (is₂₉, tt)))) (id⊢ 𝓤 (emp 𝓤))
-          (λ νs. cited 𝓤 H (tripleOf 𝓤 H A fn-feed-feed-feed.signature (fn-feed-feed-feed.spec 𝓤 H A (𝓜 .mem) (𝓡 .run))) 𝓜 𝓡 code.env fn-feed-feed-feed-def.name fn-feed-feed-feed-def.routine code.calls-feed·feed·feed (fn-feed-feed-feed-thm.met 𝓤 H 𝓜 𝓖 𝓡) (((νs .0 .0 ∷ [], (νs .1 .0 .0 ∷ [], (νs .1 .1 .0 .0 ∷ [], (νs .1 .1 .1 .0 .0 ∷ [], (νs .1 .1 .1 .1 .0 .0 ∷ [], tt))))), (fullShare, (fullShare, (fullShare, (fullShare, (fullShare, tt))))), tt, (lent-as b o (νs .0 .1) ((V₁ z) .memory .threads), (lent-as b′ o′ (νs .1 .0 .1) ((V₁ z) .memory .cpus), (lent-as b″ o″ (νs .1 .1 .0 .1) ((V₁ z) .memory .nodes), (lent-as b‴ o‴ (νs .1 .1 .1 .0 .1) (ws₁₄ .0), (lent-as b⁗ o⁗ (νs .1 .1 .1 .1 .0 .1) (z .1 .1 .1 .1 .0), ((r₅) .stream, (r₁₃, (r₂₇, tt)))))))), (slice-of b o ((V₁ z) .memory .threads) ∷ [], (slice-of b′ o′ ((V₁ z) .memory .cpus) ∷ [], (slice-of b″ o″ ((V₁ z) .memory .nodes) ∷ [], (slice-of b‴ o‴ (ws₁₄ .0) ∷ [], (slice-of b⁗ o⁗ (z .1 .1 .1 .1 .0) ∷ [], spell (number w64 ∷ truth ∷ Fed° ∷ []) (((r₅) .stream, (r₁₃, (r₂₇, tt)))))))))), tt))
+          call-left Progress° (number w64 ∷ truth ∷ Progress° ∷ []) (((r₅) .stream, (r₁₃, (r₂₇, tt)))) (emp 𝓤) ((mutable Thread·.the-row ((V₁ z) .memory .threads) b o n ((w .0 ∙ sym (subst (λ (us : List Thread). length us ≡ length (z .0)) (e₂₅ .1 .0) (ls₂₄ .0)))) room) ∷ (mutable (Array u64 96) ((V₁ z) .memory .cpus) b′ o′ n′ ((w .1 .0 ∙ sym (subst (λ (us : List (List ℕ)). length us ≡ length (z .1 .0)) (e₂₅ .1 .1 .0) (ls₂₄ .1 .0)))) room′) ∷ (mutable (Array u64 32) ((V₁ z) .memory .nodes) b″ o″ n″ ((w .1 .1 .0 ∙ sym (subst (λ (us : List (List ℕ)). length us ≡ length (z .1 .1 .0)) (e₂₅ .1 .1 .1) (ls₂₄ .1 .1 .0)))) room″) ∷ (shared u8 (ws₁₄ .0) b‴ o‴ n‴ (((w .1 .1 .1 .0 ∙ sym (ls₈ .0)) ∙ sym (ls₁₆ .0))) room‴) ∷ (mutable u8 (z .1 .1 .1 .1 .0) b⁗ o⁗ n⁗ (w .1 .1 .1 .1 .0) room⁗) ∷ []) ! fm (λ r ws. (r ≡ ((feed-def (ws₁₄ .0) ((r₅) .stream) r₁₃ (record { threads = (V₁ z) .memory .threads; cpus = (V₁ z) .memory .cpus; nodes = (V₁ z) .memory .nodes; output = z .1 .1 .1 .1 .0; fed = r₂₇ })) .fed)) × ((ws .0 ≡ ((feed-def (ws₁₄ .0) ((r₅) .stream) r₁₃ (record { threads = (V₁ z) .memory .threads; cpus = (V₁ z) .memory .cpus; nodes = (V₁ z) .memory .nodes; output = z .1 .1 .1 .1 .0; fed = r₂₇ })) .threads)) × ((ws .1 .0 ≡ ((feed-def (ws₁₄ .0) ((r₅) .stream) r₁₃ (record { threads = (V₁ z) .memory .threads; cpus = (V₁ z) .memory .cpus; nodes = (V₁ z) .memory .nodes; output = z .1 .1 .1 .1 .0; fed = r₂₇ })) .cpus)) × ((ws .1 .1 .0 ≡ ((feed-def (ws₁₄ .0) ((r₅) .stream) r₁₃ (record { threads = (V₁ z) .memory .threads; cpus = (V₁ z) .memory .cpus; nodes = (V₁ z) .memory .nodes; output = z .1 .1 .1 .1 .0; fed = r₂₇ })) .nodes)) × (ws .1 .1 .1 .1 .0 ≡ ((feed-def (ws₁₄ .0) ((r₅) .stream) r₁₃ (record { threads = (V₁ z) .memory .threads; cpus = (V₁ z) .memory .cpus; nodes = (V₁ z) .memory .nodes; output = z .1 .1 .1 .1 .0; fed = r₂₇ })) .output)))))) (λ r ws. _≡_ {A = World} (record { threads = ws .0; cpus = ws .1 .0; nodes = ws .1 .1 .0; output = ws .1 .1 .1 .1 .0; fed = r }) (feed-def (ws₁₄ .0) ((r₅) .stream) r₁₃ (record { threads = (V₁ z) .memory .threads; cpus = (V₁ z) .memory .cpus; nodes = (V₁ z) .memory .nodes; output = z .1 .1 .1 .1 .0; fed = r₂₇ }))) (λ r ws e. (ap (λ (z : World). z .fed) e, (ap (λ (z : World). z .threads) e, (ap (λ (z : World). z .cpus) e, (ap (λ (z : World). z .nodes) e, ap (λ (z : World). z .output) e))))) ((LL.owed Sizes·.the-type Sizes·laws.the-laws (r₅) _ (is₇) .0, (is₁₅, (is₂₉, tt)))) (id⊢ 𝓤 (emp 𝓤))
+          (λ νs. cited 𝓤 H (tripleOf 𝓤 H A fn-stream-feed-feed.signature (fn-stream-feed-feed.spec 𝓤 H A (𝓜 .mem) (𝓡 .run))) 𝓜 𝓡 code.env fn-stream-feed-feed-def.name fn-stream-feed-feed-def.routine code.calls-stream·feed·feed (fn-stream-feed-feed-thm.met 𝓤 H 𝓜 𝓖 𝓡) (((νs .0 .0 ∷ [], (νs .1 .0 .0 ∷ [], (νs .1 .1 .0 .0 ∷ [], (νs .1 .1 .1 .0 .0 ∷ [], (νs .1 .1 .1 .1 .0 .0 ∷ [], tt))))), (fullShare, (fullShare, (fullShare, (fullShare, (fullShare, tt))))), tt, (lent-as b o (νs .0 .1) ((V₁ z) .memory .threads), (lent-as b′ o′ (νs .1 .0 .1) ((V₁ z) .memory .cpus), (lent-as b″ o″ (νs .1 .1 .0 .1) ((V₁ z) .memory .nodes), (lent-as b‴ o‴ (νs .1 .1 .1 .0 .1) (ws₁₄ .0), (lent-as b⁗ o⁗ (νs .1 .1 .1 .1 .0 .1) (z .1 .1 .1 .1 .0), ((r₅) .stream, (r₁₃, (r₂₇, tt)))))))), (slice-of b o ((V₁ z) .memory .threads) ∷ [], (slice-of b′ o′ ((V₁ z) .memory .cpus) ∷ [], (slice-of b″ o″ ((V₁ z) .memory .nodes) ∷ [], (slice-of b‴ o‴ (ws₁₄ .0) ∷ [], (slice-of b⁗ o⁗ (z .1 .1 .1 .1 .0) ∷ [], spell (number w64 ∷ truth ∷ Progress° ∷ []) (((r₅) .stream, (r₁₃, (r₂₇, tt)))))))))), tt))
           (λ k. and-then ! (load ! (from ! (stop !)) (look ! 36 refl)) (and-then ! (load ! (from ! (stop !)) (look ! 32 refl)) (and-then ! (load ! (from ! (stop !)) (look ! 28 refl)) (and-then ! (load ! (from ! (stop !)) (look ! 24 refl)) (and-then ! (load ! (from ! (stop !)) (look ! 20 refl)) (and-then ! (load ! (from ! (stop !)) (look ! 86 refl)) (and-then ! (load ! (from ! (stop !)) (look ! 82 refl)) (and-then ! (load ! (from ! (stop !)) (look ! 76 refl)) (no-more !))))))))) (λ r₃₁ ws₃₂ is₃₃ ls₃₄ e₃₅.
           split ! $
           move ! (1 ∷ []) $
@@ -346,15 +346,15 @@ module _ {M : Type 1} (𝓤 : URA M) (H : Heap 𝓤) (𝓜 : Model 𝓤 H) (𝓖
           rewrite ! 3 (λ (us : List (List ℕ)). ‵ (row (Array u64 96) fullShare us b′ o′)) (e₃₅ .1 .1 .0) refl $
           rewrite ! 2 (λ (us : List (List ℕ)). ‵ (row (Array u64 32) fullShare us b″ o″)) (e₃₅ .1 .1 .1 .0) refl $
           rewrite ! 0 (λ (us : List ℕ). ‵ (row u8 fullShare us b⁗ o⁗)) (e₃₅ .1 .1 .1 .1) refl $
-          told ! Fed° (e₃₅ .0) is₃₃ (λ is₃₆.
-          land ! (from ! (stop !)) (init ! 78 refl (Fed° .typed 𝓤 H A W ((feedDef (ws₁₄ .0) ((r₅) .stream) r₁₃ (record { threads = (V₁ z) .memory .threads; cpus = (V₁ z) .memory .cpus; nodes = (V₁ z) .memory .nodes; output = z .1 .1 .1 .1 .0; fed = r₂₇ })) .fed) (is₃₆) .0)) $
+          told ! Progress° (e₃₅ .0) is₃₃ (λ is₃₆.
+          land ! (from ! (stop !)) (init ! 78 refl (Progress° .typed 𝓤 H A W ((feed-def (ws₁₄ .0) ((r₅) .stream) r₁₃ (record { threads = (V₁ z) .memory .threads; cpus = (V₁ z) .memory .cpus; nodes = (V₁ z) .memory .nodes; output = z .1 .1 .1 .1 .0; fed = r₂₇ })) .fed) (is₃₆) .0)) $
           assigns ! (addr ! (from ! (fld ! refl (hop ! (look-in ! 100 (sub ! 0 refl (whole !))) (stop !))))) (from ! (stop !)) (init ! 22 refl (tt, tt)) $
           assigns ! (agg ! (and-then ! (load ! (from ! (stop !)) (look ! 22 refl)) (and-then ! (load ! (from ! (fld ! refl (stop !))) (look-in ! 100 (sub ! 1 refl (whole !)))) (no-more !)))) (from ! (stop !)) (init ! 20 refl (tt, (tt, (record { fits = room⁗ .0 }, tt)))) $
           nothing ! $
           move ! (1 ∷ 0 ∷ []) $
           join ! $
-          call-slices-none truth ([]) tt (emp 𝓤) ((shared u8 ((feedDef (ws₁₄ .0) ((r₅) .stream) r₁₃ (record { threads = (V₁ z) .memory .threads; cpus = (V₁ z) .memory .cpus; nodes = (V₁ z) .memory .nodes; output = z .1 .1 .1 .1 .0; fed = r₂₇ })) .output) b⁗ o⁗ n⁗ ((w .1 .1 .1 .1 .0 ∙ sym (subst (λ (us : List ℕ). length us ≡ length (z .1 .1 .1 .1 .0)) (e₃₅ .1 .1 .1 .1) (ls₃₄ .1 .1 .1 .1 .0)))) room⁗) ∷ []) ! fm tt (id⊢ 𝓤 (emp 𝓤))
-          (λ νs. cited 𝓤 H (tripleOf 𝓤 H A fn-vectors-headed.signature (fn-vectors-headed.spec 𝓤 H A (𝓜 .mem) (𝓡 .run))) 𝓜 𝓡 code.env fn-vectors-headed-def.name fn-vectors-headed-def.routine code.calls-vectors·headed (fn-vectors-headed-thm.met 𝓤 H 𝓜 𝓖 𝓡) (((νs .0 .0 ∷ [], tt), (fullShare, tt), tt, (lent-as b⁗ o⁗ (νs .0 .1) ((feedDef (ws₁₄ .0) ((r₅) .stream) r₁₃ (record { threads = (V₁ z) .memory .threads; cpus = (V₁ z) .memory .cpus; nodes = (V₁ z) .memory .nodes; output = z .1 .1 .1 .1 .0; fed = r₂₇ })) .output), tt), (slice-of b⁗ o⁗ ((feedDef (ws₁₄ .0) ((r₅) .stream) r₁₃ (record { threads = (V₁ z) .memory .threads; cpus = (V₁ z) .memory .cpus; nodes = (V₁ z) .memory .nodes; output = z .1 .1 .1 .1 .0; fed = r₂₇ })) .output) ∷ [], spell ([]) tt)), tt))
+          call-slices-none truth ([]) tt (emp 𝓤) ((shared u8 ((feed-def (ws₁₄ .0) ((r₅) .stream) r₁₃ (record { threads = (V₁ z) .memory .threads; cpus = (V₁ z) .memory .cpus; nodes = (V₁ z) .memory .nodes; output = z .1 .1 .1 .1 .0; fed = r₂₇ })) .output) b⁗ o⁗ n⁗ ((w .1 .1 .1 .1 .0 ∙ sym (subst (λ (us : List ℕ). length us ≡ length (z .1 .1 .1 .1 .0)) (e₃₅ .1 .1 .1 .1) (ls₃₄ .1 .1 .1 .1 .0)))) room⁗) ∷ []) ! fm tt (id⊢ 𝓤 (emp 𝓤))
+          (λ νs. cited 𝓤 H (tripleOf 𝓤 H A fn-vectors-headed.signature (fn-vectors-headed.spec 𝓤 H A (𝓜 .mem) (𝓡 .run))) 𝓜 𝓡 code.env fn-vectors-headed-def.name fn-vectors-headed-def.routine code.calls-vectors·headed (fn-vectors-headed-thm.met 𝓤 H 𝓜 𝓖 𝓡) (((νs .0 .0 ∷ [], tt), (fullShare, tt), tt, (lent-as b⁗ o⁗ (νs .0 .1) ((feed-def (ws₁₄ .0) ((r₅) .stream) r₁₃ (record { threads = (V₁ z) .memory .threads; cpus = (V₁ z) .memory .cpus; nodes = (V₁ z) .memory .nodes; output = z .1 .1 .1 .1 .0; fed = r₂₇ })) .output), tt), (slice-of b⁗ o⁗ ((feed-def (ws₁₄ .0) ((r₅) .stream) r₁₃ (record { threads = (V₁ z) .memory .threads; cpus = (V₁ z) .memory .cpus; nodes = (V₁ z) .memory .nodes; output = z .1 .1 .1 .1 .0; fed = r₂₇ })) .output) ∷ [], spell ([]) tt)), tt))
           (λ k. and-then ! (load ! (from ! (stop !)) (look ! 20 refl)) (no-more !)) (λ r₃₇ ws₃₈ is₃₉ ls₄₀.
           split ! $
           move ! (1 ∷ []) $
@@ -369,8 +369,8 @@ module _ {M : Type 1} (𝓤 : URA M) (H : Heap 𝓤) (𝓜 : Model 𝓤 H) (𝓖
           join ! $
           move ! (1 ∷ 0 ∷ []) $
           join ! $
-          call-slices-none truth (number w64 ∷ number w64 ∷ []) ((((feedDef (ws₁₄ .0) ((r₅) .stream) r₁₃ (record { threads = (V₁ z) .memory .threads; cpus = (V₁ z) .memory .cpus; nodes = (V₁ z) .memory .nodes; output = z .1 .1 .1 .1 .0; fed = r₂₇ })) .fed) .done, ((r₅) .lines, tt))) (emp 𝓤) ((shared u8 ((feedDef (ws₁₄ .0) ((r₅) .stream) r₁₃ (record { threads = (V₁ z) .memory .threads; cpus = (V₁ z) .memory .cpus; nodes = (V₁ z) .memory .nodes; output = z .1 .1 .1 .1 .0; fed = r₂₇ })) .output) b⁗ o⁗ n⁗ ((w .1 .1 .1 .1 .0 ∙ sym (subst (λ (us : List ℕ). length us ≡ length (z .1 .1 .1 .1 .0)) (e₃₅ .1 .1 .1 .1) (ls₃₄ .1 .1 .1 .1 .0)))) room⁗) ∷ (shared u8 (ws₁₈ .0) b₅ o₅ n₅ ((w .1 .1 .1 .1 .1 .0 ∙ sym (ls₂₀ .0))) room₅) ∷ []) ! fm ((LL.owed Fed·.the-type Fed·laws.the-laws ((feedDef (ws₁₄ .0) ((r₅) .stream) r₁₃ (record { threads = (V₁ z) .memory .threads; cpus = (V₁ z) .memory .cpus; nodes = (V₁ z) .memory .nodes; output = z .1 .1 .1 .1 .0; fed = r₂₇ })) .fed) _ (is₃₆) .1 .0, (LL.owed Sizes·.the-type Sizes·laws.the-laws (r₅) _ (is₇) .1 .0, tt))) (id⊢ 𝓤 (emp 𝓤))
-          (λ νs. cited 𝓤 H (tripleOf 𝓤 H A fn-vectors-equal.signature (fn-vectors-equal.spec 𝓤 H A (𝓜 .mem) (𝓡 .run))) 𝓜 𝓡 code.env fn-vectors-equal-def.name fn-vectors-equal-def.routine code.calls-vectors·equal (fn-vectors-equal-thm.met 𝓤 H 𝓜 𝓖 𝓡) (((νs .0 .0 ∷ [], (νs .1 .0 .0 ∷ [], tt)), (fullShare, (fullShare, tt)), tt, (lent-as b⁗ o⁗ (νs .0 .1) ((feedDef (ws₁₄ .0) ((r₅) .stream) r₁₃ (record { threads = (V₁ z) .memory .threads; cpus = (V₁ z) .memory .cpus; nodes = (V₁ z) .memory .nodes; output = z .1 .1 .1 .1 .0; fed = r₂₇ })) .output), (lent-as b₅ o₅ (νs .1 .0 .1) (ws₁₈ .0), (((feedDef (ws₁₄ .0) ((r₅) .stream) r₁₃ (record { threads = (V₁ z) .memory .threads; cpus = (V₁ z) .memory .cpus; nodes = (V₁ z) .memory .nodes; output = z .1 .1 .1 .1 .0; fed = r₂₇ })) .fed) .done, ((r₅) .lines, tt)))), (slice-of b⁗ o⁗ ((feedDef (ws₁₄ .0) ((r₅) .stream) r₁₃ (record { threads = (V₁ z) .memory .threads; cpus = (V₁ z) .memory .cpus; nodes = (V₁ z) .memory .nodes; output = z .1 .1 .1 .1 .0; fed = r₂₇ })) .output) ∷ [], (slice-of b₅ o₅ (ws₁₈ .0) ∷ [], spell (number w64 ∷ number w64 ∷ []) ((((feedDef (ws₁₄ .0) ((r₅) .stream) r₁₃ (record { threads = (V₁ z) .memory .threads; cpus = (V₁ z) .memory .cpus; nodes = (V₁ z) .memory .nodes; output = z .1 .1 .1 .1 .0; fed = r₂₇ })) .fed) .done, ((r₅) .lines, tt)))))), tt))
+          call-slices-none truth (number w64 ∷ number w64 ∷ []) ((((feed-def (ws₁₄ .0) ((r₅) .stream) r₁₃ (record { threads = (V₁ z) .memory .threads; cpus = (V₁ z) .memory .cpus; nodes = (V₁ z) .memory .nodes; output = z .1 .1 .1 .1 .0; fed = r₂₇ })) .fed) .done, ((r₅) .lines, tt))) (emp 𝓤) ((shared u8 ((feed-def (ws₁₄ .0) ((r₅) .stream) r₁₃ (record { threads = (V₁ z) .memory .threads; cpus = (V₁ z) .memory .cpus; nodes = (V₁ z) .memory .nodes; output = z .1 .1 .1 .1 .0; fed = r₂₇ })) .output) b⁗ o⁗ n⁗ ((w .1 .1 .1 .1 .0 ∙ sym (subst (λ (us : List ℕ). length us ≡ length (z .1 .1 .1 .1 .0)) (e₃₅ .1 .1 .1 .1) (ls₃₄ .1 .1 .1 .1 .0)))) room⁗) ∷ (shared u8 (ws₁₈ .0) b₅ o₅ n₅ ((w .1 .1 .1 .1 .1 .0 ∙ sym (ls₂₀ .0))) room₅) ∷ []) ! fm ((LL.owed Progress·.the-type Progress·laws.the-laws ((feed-def (ws₁₄ .0) ((r₅) .stream) r₁₃ (record { threads = (V₁ z) .memory .threads; cpus = (V₁ z) .memory .cpus; nodes = (V₁ z) .memory .nodes; output = z .1 .1 .1 .1 .0; fed = r₂₇ })) .fed) _ (is₃₆) .1 .0, (LL.owed Sizes·.the-type Sizes·laws.the-laws (r₅) _ (is₇) .1 .0, tt))) (id⊢ 𝓤 (emp 𝓤))
+          (λ νs. cited 𝓤 H (tripleOf 𝓤 H A fn-vectors-equal.signature (fn-vectors-equal.spec 𝓤 H A (𝓜 .mem) (𝓡 .run))) 𝓜 𝓡 code.env fn-vectors-equal-def.name fn-vectors-equal-def.routine code.calls-vectors·equal (fn-vectors-equal-thm.met 𝓤 H 𝓜 𝓖 𝓡) (((νs .0 .0 ∷ [], (νs .1 .0 .0 ∷ [], tt)), (fullShare, (fullShare, tt)), tt, (lent-as b⁗ o⁗ (νs .0 .1) ((feed-def (ws₁₄ .0) ((r₅) .stream) r₁₃ (record { threads = (V₁ z) .memory .threads; cpus = (V₁ z) .memory .cpus; nodes = (V₁ z) .memory .nodes; output = z .1 .1 .1 .1 .0; fed = r₂₇ })) .output), (lent-as b₅ o₅ (νs .1 .0 .1) (ws₁₈ .0), (((feed-def (ws₁₄ .0) ((r₅) .stream) r₁₃ (record { threads = (V₁ z) .memory .threads; cpus = (V₁ z) .memory .cpus; nodes = (V₁ z) .memory .nodes; output = z .1 .1 .1 .1 .0; fed = r₂₇ })) .fed) .done, ((r₅) .lines, tt)))), (slice-of b⁗ o⁗ ((feed-def (ws₁₄ .0) ((r₅) .stream) r₁₃ (record { threads = (V₁ z) .memory .threads; cpus = (V₁ z) .memory .cpus; nodes = (V₁ z) .memory .nodes; output = z .1 .1 .1 .1 .0; fed = r₂₇ })) .output) ∷ [], (slice-of b₅ o₅ (ws₁₈ .0) ∷ [], spell (number w64 ∷ number w64 ∷ []) ((((feed-def (ws₁₄ .0) ((r₅) .stream) r₁₃ (record { threads = (V₁ z) .memory .threads; cpus = (V₁ z) .memory .cpus; nodes = (V₁ z) .memory .nodes; output = z .1 .1 .1 .1 .0; fed = r₂₇ })) .fed) .done, ((r₅) .lines, tt)))))), tt))
           (λ k. and-then ! (load ! (from ! (stop !)) (look ! 15 refl)) (and-then ! (load ! (from ! (stop !)) (look ! 11 refl)) (and-then ! (load ! (from ! (fld ! refl (stop !))) (look-in ! 77 (sub ! 1 refl (whole !)))) (and-then ! (load ! (from ! (stop !)) (look ! 87 refl)) (no-more !))))) (λ r₄₁ ws₄₂ is₄₃ ls₄₄.
           split ! $
           move ! (1 ∷ []) $
@@ -428,7 +428,7 @@ module _ {M : Type 1} (𝓤 : URA M) (H : Heap 𝓤) (𝓜 : Model 𝓤 H) (𝓖
           forget ! 14 refl $
           forget ! 12 refl $
           move ! (5 ∷ 6 ∷ 4 ∷ 7 ∷ 3 ∷ 8 ∷ 2 ∷ 9 ∷ 1 ∷ 10 ∷ 0 ∷ 11 ∷ 12 ∷ 13 ∷ 14 ∷ 15 ∷ 16 ∷ 17 ∷ 18 ∷ 19 ∷ 20 ∷ 21 ∷ 22 ∷ 23 ∷ 24 ∷ 25 ∷ 26 ∷ 27 ∷ 28 ∷ 29 ∷ 30 ∷ 31 ∷ 32 ∷ 33 ∷ 34 ∷ 35 ∷ 36 ∷ 37 ∷ 38 ∷ 39 ∷ 40 ∷ 41 ∷ 42 ∷ 43 ∷ 44 ∷ 45 ∷ 46 ∷ 47 ∷ 48 ∷ 49 ∷ 50 ∷ 51 ∷ 52 ∷ 53 ∷ 54 ∷ 55 ∷ 56 ∷ 57 ∷ 58 ∷ 59 ∷ 60 ∷ 61 ∷ 62 ∷ 63 ∷ 64 ∷ 65 ∷ 66 ∷ 67 ∷ 68 ∷ 69 ∷ 70 ∷ 71 ∷ 72 ∷ 73 ∷ 74 ∷ 75 ∷ 76 ∷ 77 ∷ 78 ∷ 79 ∷ 80 ∷ 81 ∷ 82 ∷ 83 ∷ 84 ∷ 85 ∷ 86 ∷ 87 ∷ 88 ∷ 89 ∷ 90 ∷ 91 ∷ 92 ∷ 93 ∷ 94 ∷ 95 ∷ 96 ∷ 97 ∷ 98 ∷ 99 ∷ 100 ∷ 101 ∷ 102 ∷ 103 ∷ 104 ∷ 105 ∷ 106 ∷ 107 ∷ 108 ∷ 109 ∷ 110 ∷ 111 ∷ []) $
-          again ! nearer I (z, w) (((feedDef (ws₁₄ .0) ((r₅) .stream) r₁₃ (record { threads = (V₁ z) .memory .threads; cpus = (V₁ z) .memory .cpus; nodes = (V₁ z) .memory .nodes; output = z .1 .1 .1 .1 .0; fed = r₂₇ })) .threads, ((feedDef (ws₁₄ .0) ((r₅) .stream) r₁₃ (record { threads = (V₁ z) .memory .threads; cpus = (V₁ z) .memory .cpus; nodes = (V₁ z) .memory .nodes; output = z .1 .1 .1 .1 .0; fed = r₂₇ })) .cpus, ((feedDef (ws₁₄ .0) ((r₅) .stream) r₁₃ (record { threads = (V₁ z) .memory .threads; cpus = (V₁ z) .memory .cpus; nodes = (V₁ z) .memory .nodes; output = z .1 .1 .1 .1 .0; fed = r₂₇ })) .nodes, (ws₁₄ .0, ((feedDef (ws₁₄ .0) ((r₅) .stream) r₁₃ (record { threads = (V₁ z) .memory .threads; cpus = (V₁ z) .memory .cpus; nodes = (V₁ z) .memory .nodes; output = z .1 .1 .1 .1 .0; fed = r₂₇ })) .output, (ws₁₈ .0, (r₄₅, (z .1 .1 .1 .1 .1 .1 .1) - (1)))))))), (((w .0 ∙ sym (subst (λ (us : List Thread). length us ≡ length (z .0)) (e₂₅ .1 .0) (ls₂₄ .0))) ∙ sym (subst (λ (us : List Thread). length us ≡ length ((V₁ z) .memory .threads)) (e₃₅ .1 .0) (ls₃₄ .0))), (((w .1 .0 ∙ sym (subst (λ (us : List (List ℕ)). length us ≡ length (z .1 .0)) (e₂₅ .1 .1 .0) (ls₂₄ .1 .0))) ∙ sym (subst (λ (us : List (List ℕ)). length us ≡ length ((V₁ z) .memory .cpus)) (e₃₅ .1 .1 .0) (ls₃₄ .1 .0))), (((w .1 .1 .0 ∙ sym (subst (λ (us : List (List ℕ)). length us ≡ length (z .1 .1 .0)) (e₂₅ .1 .1 .1) (ls₂₄ .1 .1 .0))) ∙ sym (subst (λ (us : List (List ℕ)). length us ≡ length ((V₁ z) .memory .nodes)) (e₃₅ .1 .1 .1 .0) (ls₃₄ .1 .1 .0))), (((w .1 .1 .1 .0 ∙ sym (ls₈ .0)) ∙ sym (ls₁₆ .0)), ((w .1 .1 .1 .1 .0 ∙ sym (subst (λ (us : List ℕ). length us ≡ length (z .1 .1 .1 .1 .0)) (e₃₅ .1 .1 .1 .1) (ls₃₄ .1 .1 .1 .1 .0))), ((w .1 .1 .1 .1 .1 .0 ∙ sym (ls₂₀ .0)), (is₄₇, ((refl, lt-of-le-of-lt (sub-le (z .1 .1 .1 .1 .1 .1 .1) (1)) (w .1 .1 .1 .1 .1 .1 .1 .0 .1)), (tt)))))))))) (omega (arith, ltb→lt 0 (z .1 .1 .1 .1 .1 .1 .1) h₁))))))))))))))))
+          again ! nearer I (z, w) (((feed-def (ws₁₄ .0) ((r₅) .stream) r₁₃ (record { threads = (V₁ z) .memory .threads; cpus = (V₁ z) .memory .cpus; nodes = (V₁ z) .memory .nodes; output = z .1 .1 .1 .1 .0; fed = r₂₇ })) .threads, ((feed-def (ws₁₄ .0) ((r₅) .stream) r₁₃ (record { threads = (V₁ z) .memory .threads; cpus = (V₁ z) .memory .cpus; nodes = (V₁ z) .memory .nodes; output = z .1 .1 .1 .1 .0; fed = r₂₇ })) .cpus, ((feed-def (ws₁₄ .0) ((r₅) .stream) r₁₃ (record { threads = (V₁ z) .memory .threads; cpus = (V₁ z) .memory .cpus; nodes = (V₁ z) .memory .nodes; output = z .1 .1 .1 .1 .0; fed = r₂₇ })) .nodes, (ws₁₄ .0, ((feed-def (ws₁₄ .0) ((r₅) .stream) r₁₃ (record { threads = (V₁ z) .memory .threads; cpus = (V₁ z) .memory .cpus; nodes = (V₁ z) .memory .nodes; output = z .1 .1 .1 .1 .0; fed = r₂₇ })) .output, (ws₁₈ .0, (r₄₅, (z .1 .1 .1 .1 .1 .1 .1) - (1)))))))), (((w .0 ∙ sym (subst (λ (us : List Thread). length us ≡ length (z .0)) (e₂₅ .1 .0) (ls₂₄ .0))) ∙ sym (subst (λ (us : List Thread). length us ≡ length ((V₁ z) .memory .threads)) (e₃₅ .1 .0) (ls₃₄ .0))), (((w .1 .0 ∙ sym (subst (λ (us : List (List ℕ)). length us ≡ length (z .1 .0)) (e₂₅ .1 .1 .0) (ls₂₄ .1 .0))) ∙ sym (subst (λ (us : List (List ℕ)). length us ≡ length ((V₁ z) .memory .cpus)) (e₃₅ .1 .1 .0) (ls₃₄ .1 .0))), (((w .1 .1 .0 ∙ sym (subst (λ (us : List (List ℕ)). length us ≡ length (z .1 .1 .0)) (e₂₅ .1 .1 .1) (ls₂₄ .1 .1 .0))) ∙ sym (subst (λ (us : List (List ℕ)). length us ≡ length ((V₁ z) .memory .nodes)) (e₃₅ .1 .1 .1 .0) (ls₃₄ .1 .1 .0))), (((w .1 .1 .1 .0 ∙ sym (ls₈ .0)) ∙ sym (ls₁₆ .0)), ((w .1 .1 .1 .1 .0 ∙ sym (subst (λ (us : List ℕ). length us ≡ length (z .1 .1 .1 .1 .0)) (e₃₅ .1 .1 .1 .1) (ls₃₄ .1 .1 .1 .1 .0))), ((w .1 .1 .1 .1 .1 .0 ∙ sym (ls₂₀ .0)), (is₄₇, ((refl, lt-of-le-of-lt (sub-le (z .1 .1 .1 .1 .1 .1 .1) (1)) (w .1 .1 .1 .1 .1 .1 .1 .0 .1)), (tt)))))))))) (omega (arith, ltb→lt 0 (z .1 .1 .1 .1 .1 .1 .1) h₁))))))))))))))))
           (λ h₁. exec ! C Λ En mir.t-4 (atRet En Post) $
           assigns ! (of-opd ! (load ! (from ! (stop !)) (look ! 96 refl))) (from ! (stop !)) (init ! 110 refl (Tally° .typed 𝓤 H A W (z .1 .1 .1 .1 .1 .1 .0) (w .1 .1 .1 .1 .1 .1 .0) .0)) $
           move ! (10 ∷ 11 ∷ []) $

@@ -7,8 +7,8 @@ use mathlib.Core.Path.{refl}
 use Prim.Native.Nat.{_-_}
 use Rattle.choice.specs.Balance.{extremes-in}
 use Rattle.choice.specs.Reads.{weight-at}
-use Rattle.nodes.specs.Node.{contains-at}
-use Rattle.nodes.specs.Walk.{those-from}
+use Rattle.topology.specs.Node.{contains-at}
+use Rattle.topology.specs.Walk.{those-from}
 use Rattle.rules.specs.Choice.{extremes}
 use Rattle.topology.specs.CpuSet.{contains}
 use mathlib.Core.Path.{_≡_}

@@ -1,5 +1,5 @@
 use Rattle.choice.specs.Balance.{chosen-in, extremes-in, finished, unraised}
-use Rattle.nodes.specs.Walk.{cpus-at}
+use Rattle.topology.specs.Walk.{cpus-at}
 use Rattle.rules.specs.Choice.{choose-cpu-balance}
 use mathlib.Core.Path.{_∙_, ap}
 use borrow.Author.Needs.{needs}

@@ -5,7 +5,7 @@ use borrow.Author.Tests.{eq-eqb}
 use mathlib.Core.Path.{_∙_, sym}
 use Rattle.choice.specs.Found.{begun, searched-in}
 use Rattle.choice.specs.Reads.{skips-at, weight-at}
-use Rattle.nodes.specs.Walk.{leaf-cpus, to-root, visited-at}
+use Rattle.topology.specs.Walk.{leaf-cpus, to-root, visited-at}
 use Rattle.rules.specs.Choice.{find-cpu}
 use Rattle.rules.specs.State.{join-all}
 use Rattle.thread.specs.Reads.{held}

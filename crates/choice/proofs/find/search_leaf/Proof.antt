@@ -1,5 +1,5 @@
-use Rattle.nodes.specs.Walk.{cpus-at}
-use Rattle.nodes.specs.Walk.{leaf-cpus}
+use Rattle.topology.specs.Walk.{cpus-at}
+use Rattle.topology.specs.Walk.{leaf-cpus}
 use Rattle.rules.specs.Choice.{find-cpu}
 use borrow.Author.Needs.{needs}
 use Rattle.choice.proofs.find.search_leaf.Statement.{statement}

@@ -6,8 +6,8 @@ use mathlib.Core.Path.{refl}
 use Prim.Native.Nat.{_-_}
 use Rattle.choice.specs.Found.{searched-in}
 use Rattle.choice.specs.Reads.{skips-at, weight-at}
-use Rattle.nodes.specs.Node.{contains-at}
-use Rattle.nodes.specs.Walk.{those-from}
+use Rattle.topology.specs.Node.{contains-at}
+use Rattle.topology.specs.Walk.{those-from}
 use Rattle.rules.specs.Choice.{find-cpu}
 use Rattle.thread.specs.Reads.{held}
 use mathlib.Core.Path.{_≡_}

@@ -7,7 +7,7 @@ use Rattle.choice.specs.Steal.{first-here, found-so}
 use mathlib.Core.Path.{_∙_, ap, sym}
 use mathlib.Core.Path.{refl}
 use Rattle.choice.specs.Reads.{load-at, movable-at}
-use Rattle.nodes.specs.Walk.{cpus-at, nearest-at, to-root}
+use Rattle.topology.specs.Walk.{cpus-at, nearest-at, to-root}
 use Rattle.rules.specs.Choice.{first-that, may-steal-from}
 use Rattle.rules.specs.State.{join-all}
 use mathlib.Core.Path.{_≡_}

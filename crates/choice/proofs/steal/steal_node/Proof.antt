@@ -1,4 +1,4 @@
-use Rattle.nodes.specs.Walk.{cpus-at}
+use Rattle.topology.specs.Walk.{cpus-at}
 use borrow.Author.Needs.{needs}
 use Rattle.choice.proofs.steal.steal_node.Statement.{statement}
 use Rattle.choice.proofs.steal.steal_node.Tie as tie

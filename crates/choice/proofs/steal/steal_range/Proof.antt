@@ -5,8 +5,8 @@ use Rattle.choice.specs.Steal.{first-turn}
 use mathlib.Core.Path.{refl}
 use Prim.Native.Nat.{_-_}
 use Rattle.choice.specs.Reads.{load-at, movable-at}
-use Rattle.nodes.specs.Node.{contains-at}
-use Rattle.nodes.specs.Walk.{those-from}
+use Rattle.topology.specs.Node.{contains-at}
+use Rattle.topology.specs.Walk.{those-from}
 use Rattle.rules.specs.Choice.{first-that, may-steal-from}
 use mathlib.Core.Path.{_≡_}
 use borrow.Author.Needs.{needs}

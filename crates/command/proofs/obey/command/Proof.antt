@@ -32,12 +32,12 @@ use denote.Triple.Table.{cited}
 use denote.Triple.Clauses.{Clauses}
 use denote.Triple.Walked.{says, Stays, stay-none, stay-slice, stay-none-slice, walkOf, goes-none, goes-slice, goes-none-slice, ends-at}
 use denote.Exit.{yes as kept-yes}
-use Rattle.lent.proofs.Walk.{Datum, number, truth, struct, Dens, AreD, listed, spell, lent-as, slice-of, kept, opened, closed, full, told, proved}
-use Rattle.lent.proofs.Lent.{mutable, passed, choice, call-slices, call-left, all-freed, so, begins4, leaves4}
-use Rattle.command.specs.Command.{commandDef, answeredDef}
+use Rattle.records.proofs.Walk.{Datum, number, truth, struct, Dens, AreD, listed, spell, lent-as, slice-of, kept, opened, closed, full, told, proved}
+use Rattle.records.proofs.Lent.{mutable, passed, choice, call-slices, call-left, all-freed, so, begins4, leaves4}
+use Rattle.command.specs.Command.{command-def, answered-def}
 use Rattle.command.specs.Lent.{Lent}
-use Rattle.lent.specs.Left.{Left}
-use Rattle.outcome.specs.Call.{askedDef}
+use Rattle.outcome.specs.Call.{asked-def}
+use Rattle.records.specs.Left.{Left}
 use denote.Struct.Laws as LL
 use Rattle.outcome.specs.declared.answer.Answered.{Answered}
 use Rattle.outcome.proofs.answer.Answered as Answered·
@@ -129,13 +129,13 @@ module _ {M : Type 1} (𝓤 : URA M) (H : Heap 𝓤) (𝓜 : Model 𝓤 H) (𝓖
     Post = walkOf 𝓤 H A command.ended stayed c .post y
 
     abbrev V₁ : Reading
-    V₁ = askedDef ys‴ n‴ 0 ((a .0) .wide)
+    V₁ = asked-def ys‴ n‴ 0 ((a .0) .wide)
 
     abbrev V₂ : Left Answered Lent
-    V₂ = answeredDef (a .0) V₁ (record { threads = ys; cpus = ys′; nodes = ys″ })
+    V₂ = answered-def (a .0) V₁ (record { threads = ys; cpus = ys′; nodes = ys″ })
 
     walk : ent 𝓤 (onEntry 𝓤 H A command.signature (κ, (κ′, (κ″, (κ‴, tt)))) (q, (q′, (q″, (q‴, tt)))) ((lent-as b o γ ys, (lent-as b′ o′ γ′ ys′, (lent-as b″ o″ γ″ ys″, (lent-as b‴ o‴ γ‴ ys‴, a))))) ((s ∷ [], (s′ ∷ [], (s″ ∷ [], (s‴ ∷ [], spell Ds a)))))) (WpFn 𝓤 H C Λ code.function (s ∷ s′ ∷ s″ ∷ s‴ ∷ listed Ds a) Post)
-    unfolding commandDef
+    unfolding command-def
     walk =
         qed W ((‵ (flft κ q) ⊛ (‵ (flft κ′ q′) ⊛ (‵ (flft κ″ q″) ⊛ (‵ (flft κ‴ q‴) ⊛ (‵ ftrue))))) ∷ ‵ (owns (MutSlice (named 0) κ Thread·.the-row ∷ MutSlice (named 1) κ′ (Array u64 96) ∷ MutSlice (named 2) κ″ (Array u64 32) ∷ ShrSlice (named 3) κ‴ u8 ∷ State·.the-row ∷ []) ((lent-as b o γ ys, (lent-as b′ o′ γ′ ys′, (lent-as b″ o″ γ″ ys″, (lent-as b‴ o‴ γ‴ ys‴, a))))) ((s ∷ [], (s′ ∷ [], (s″ ∷ [], (s‴ ∷ [], spell Ds a)))))) ∷ []) ∵ begins4 ! $ enter ! C _ code.function (s ∷ s′ ∷ s″ ∷ s‴ ∷ listed Ds a) _ $
         alloc1 ! (λ l₀. alloc1 ! (λ l₁. alloc1 ! (λ l₂. alloc1 ! (λ l₃. alloc1 ! (λ l₄. alloc1 ! (λ l₅. alloc1 ! (λ l₆. alloc1 ! (λ l₇. alloc1 ! (λ l₈. alloc1 ! (λ l₉. alloc1 ! (λ l₁₀. alloc1 ! (λ l₁₁. alloc1 ! (λ l₁₂. alloc1 ! (λ l₁₃. alloc1 ! (λ l₁₄. alloc0 ! $ params1 ! $
@@ -200,7 +200,7 @@ module _ {M : Type 1} (𝓤 : URA M) (H : Heap 𝓤) (𝓜 : Model 𝓤 H) (𝓖
         returns ! (look ! 36 refl) $
         move ! (36 ∷ 37 ∷ 34 ∷ 35 ∷ 32 ∷ 33 ∷ 30 ∷ 31 ∷ 28 ∷ 29 ∷ 26 ∷ 27 ∷ 24 ∷ 25 ∷ 22 ∷ 23 ∷ 20 ∷ 21 ∷ 18 ∷ 19 ∷ 16 ∷ 17 ∷ 14 ∷ 15 ∷ 12 ∷ 13 ∷ 10 ∷ 11 ∷ 8 ∷ 9 ∷ []) $
         all-freed ! mir.locals (l₀ ∷ l₁ ∷ l₂ ∷ l₃ ∷ l₄ ∷ l₅ ∷ l₆ ∷ l₇ ∷ l₈ ∷ l₉ ∷ l₁₀ ∷ l₁₁ ∷ l₁₂ ∷ l₁₃ ∷ l₁₄ ∷ []) (full _ ∷ full _ ∷ full _ ∷ full _ ∷ full _ ∷ full _ ∷ full _ ∷ full _ ∷ full _ ∷ full _ ∷ full _ ∷ full _ ∷ full _ ∷ full _ ∷ full _ ∷ []) tt $
-        suffices ! _ (ends-at 𝓤 H A command.ended stayed c W y _ (V₂ .answer) (V₂ .memory .threads, (V₂ .memory .cpus, (V₂ .memory .nodes, (tt, (tt, tt))))) (sym ((refl ∙ sym (subst (λ (us : List Thread). length us ≡ length ys) (e₁₁ .1 .0) (ls₁₀ .0)))), (sym ((refl ∙ sym (subst (λ (us : List (List ℕ)). length us ≡ length ys′) (e₁₁ .1 .1 .0) (ls₁₀ .1 .0)))), (sym ((refl ∙ sym (subst (λ (us : List (List ℕ)). length us ≡ length ys″) (e₁₁ .1 .1 .1) (ls₁₀ .1 .1 .0)))), (tt, (tt, tt)))))) $ says ! (so {X = Left Answered Lent} (record { answer = (V₂ .answer); memory = record { threads = (V₂ .memory .threads); cpus = (V₂ .memory .cpus); nodes = (V₂ .memory .nodes) } }) (commandDef (length ys‴) 0 (a .0) ys‴ (record { threads = ys; cpus = ys′; nodes = ys″ })) (refl)) $
+        suffices ! _ (ends-at 𝓤 H A command.ended stayed c W y _ (V₂ .answer) (V₂ .memory .threads, (V₂ .memory .cpus, (V₂ .memory .nodes, (tt, (tt, tt))))) (sym ((refl ∙ sym (subst (λ (us : List Thread). length us ≡ length ys) (e₁₁ .1 .0) (ls₁₀ .0)))), (sym ((refl ∙ sym (subst (λ (us : List (List ℕ)). length us ≡ length ys′) (e₁₁ .1 .1 .0) (ls₁₀ .1 .0)))), (sym ((refl ∙ sym (subst (λ (us : List (List ℕ)). length us ≡ length ys″) (e₁₁ .1 .1 .1) (ls₁₀ .1 .1 .0)))), (tt, (tt, tt)))))) $ says ! (so {X = Left Answered Lent} (record { answer = (V₂ .answer); memory = record { threads = (V₂ .memory .threads); cpus = (V₂ .memory .cpus); nodes = (V₂ .memory .nodes) } }) (command-def (length ys‴) 0 (a .0) ys‴ (record { threads = ys; cpus = ys′; nodes = ys″ })) (refl)) $
         leaves4 ! Answered° Ds a (V₂ .answer) are (is₁₂))))))))))))))))))))
 
 pub command-spec : {M : Type 1} → stated.statement M

@@ -33,15 +33,15 @@ use denote.Triple.Table.{cited}
 use denote.Triple.Clauses.{Clauses}
 use denote.Triple.Walked.{says, Stays, stay-none, stay-slice, walkOf, goes-none, goes-slice, ends-at}
 use denote.Exit.{yes as kept-yes}
-use Rattle.lent.proofs.Walk.{Datum, number, truth, struct, Dens, AreD, listed, spell, lent-as, slice-of, kept, opened, closed, guards, bare, full, told, proved}
-use Rattle.lent.proofs.Lent.{mutable, shared, choice, call-slices, call-left, all-freed, no, yes, so, begins3, leaves3}
-use Rattle.command.specs.Command.{answeredDef, obeyDef}
+use Rattle.records.proofs.Walk.{Datum, number, truth, struct, Dens, AreD, listed, spell, lent-as, slice-of, kept, opened, closed, guards, bare, full, told, proved}
+use Rattle.records.proofs.Lent.{mutable, shared, choice, call-slices, call-left, all-freed, no, yes, so, begins3, leaves3}
+use Rattle.command.specs.Command.{answered-def, obey-def}
 use Rattle.command.specs.Lent.{Lent}
-use Rattle.lent.specs.Left.{Left}
 use Rattle.lines.specs.Lines.{refusal-number}
 use Rattle.outcome.specs.Answer.{refuses}
 use Rattle.outcome.specs.Call.{call-read, refusal-back}
 use Rattle.questions.specs.Questions.{refusal-in}
+use Rattle.records.specs.Left.{Left}
 use Rattle.request.specs.Request.{reading-of}
 use Rattle.thread.specs.Thread.{blank}
 use denote.Struct.Laws as LL
@@ -66,9 +66,9 @@ use Rattle.thread.proofs.Thread.Laws as Thread·laws
 use Rattle.outcome.proofs.call.call_of as fn-outcome-call-call-of
 use Rattle.outcome.proofs.call.call_of.Symbol as fn-outcome-call-call-of-def
 use Rattle.outcome.proofs.call.call_of.Met as fn-outcome-call-call-of-thm
-use Rattle.lent.proofs.records.get as fn-lent-records-get
-use Rattle.lent.proofs.records.get.Symbol as fn-lent-records-get-def
-use Rattle.lent.proofs.records.get.Met as fn-lent-records-get-thm
+use Rattle.records.proofs.record.get as fn-records-record-get
+use Rattle.records.proofs.record.get.Symbol as fn-records-record-get-def
+use Rattle.records.proofs.record.get.Met as fn-records-record-get-thm
 use Rattle.outcome.proofs.call.judged as fn-outcome-call-judged
 use Rattle.outcome.proofs.call.judged.Symbol as fn-outcome-call-judged-def
 use Rattle.outcome.proofs.call.judged.Met as fn-outcome-call-judged-thm
@@ -168,10 +168,10 @@ module _ {M : Type 1} (𝓤 : URA M) (H : Heap 𝓤) (𝓜 : Model 𝓤 H) (𝓖
     V₅ = refuses (a .0) V₃ ((V₁) .used)
 
     abbrev V₆ : Left Answered Lent
-    V₆ = obeyDef (a .0) V₁ (record { threads = ys; cpus = ys′; nodes = ys″ })
+    V₆ = obey-def (a .0) V₁ (record { threads = ys; cpus = ys′; nodes = ys″ })
 
     walk : ent 𝓤 (onEntry 𝓤 H A command-read.signature (κ, (κ′, (κ″, tt))) (q, (q′, (q″, tt))) ((lent-as b o γ ys, (lent-as b′ o′ γ′ ys′, (lent-as b″ o″ γ″ ys″, a)))) ((s ∷ [], (s′ ∷ [], (s″ ∷ [], spell Ds a))))) (WpFn 𝓤 H C Λ code.function (s ∷ s′ ∷ s″ ∷ listed Ds a) Post)
-    unfolding answeredDef
+    unfolding answered-def
     walk =
         qed W ((‵ (flft κ q) ⊛ (‵ (flft κ′ q′) ⊛ (‵ (flft κ″ q″) ⊛ (‵ ftrue)))) ∷ ‵ (owns (MutSlice (named 0) κ Thread·.the-row ∷ MutSlice (named 1) κ′ (Array u64 96) ∷ MutSlice (named 2) κ″ (Array u64 32) ∷ State·.the-row ∷ Reading·.the-row ∷ []) ((lent-as b o γ ys, (lent-as b′ o′ γ′ ys′, (lent-as b″ o″ γ″ ys″, a)))) ((s ∷ [], (s′ ∷ [], (s″ ∷ [], spell Ds a))))) ∷ []) ∵ begins3 ! $ enter ! C _ code.function (s ∷ s′ ∷ s″ ∷ listed Ds a) _ $
         alloc1 ! (λ l₀. alloc1 ! (λ l₁. alloc1 ! (λ l₂. alloc1 ! (λ l₃. alloc1 ! (λ l₄. alloc1 ! (λ l₅. alloc1 ! (λ l₆. alloc1 ! (λ l₇. alloc1 ! (λ l₈. alloc1 ! (λ l₉. alloc1 ! (λ l₁₀. alloc1 ! (λ l₁₁. alloc1 ! (λ l₁₂. alloc1 ! (λ l₁₃. alloc1 ! (λ l₁₄. alloc1 ! (λ l₁₅. alloc1 ! (λ l₁₆. alloc1 ! (λ l₁₇. alloc1 ! (λ l₁₈. alloc1 ! (λ l₁₉. alloc1 ! (λ l₂₀. alloc1 ! (λ l₂₁. alloc1 ! (λ l₂₂. alloc1 ! (λ l₂₃. alloc0 ! $ params1 ! $
@@ -197,7 +197,7 @@ module _ {M : Type 1} (𝓤 : URA M) (H : Heap 𝓤) (𝓜 : Model 𝓤 H) (𝓖
         move ! (1 ∷ 0 ∷ []) $
         join ! $
         call-slices Thread° (number w64 ∷ []) (((V₁) .thread, tt)) (emp 𝓤) ((shared Thread·.the-row ys b o n refl room) ∷ []) ! fm (λ r ws. r ≡ V₂) ((LL.owed Call·.the-type Call·laws.the-laws (V₁) _ (is₆) .1 .1 .0, tt)) (id⊢ 𝓤 (emp 𝓤))
-        (λ νs. cited 𝓤 H (tripleOf 𝓤 H A fn-lent-records-get.signature (fn-lent-records-get.spec 𝓤 H A (𝓜 .mem) (𝓡 .run))) 𝓜 𝓡 code.env fn-lent-records-get-def.name fn-lent-records-get-def.routine code.calls-lent·records·get (fn-lent-records-get-thm.met 𝓤 H 𝓜 𝓖 𝓡) (((νs .0 .0 ∷ [], tt), (fullShare, tt), tt, (lent-as b o (νs .0 .1) ys, ((V₁) .thread, tt)), (slice-of b o ys ∷ [], spell (number w64 ∷ []) (((V₁) .thread, tt)))), tt))
+        (λ νs. cited 𝓤 H (tripleOf 𝓤 H A fn-records-record-get.signature (fn-records-record-get.spec 𝓤 H A (𝓜 .mem) (𝓡 .run))) 𝓜 𝓡 code.env fn-records-record-get-def.name fn-records-record-get-def.routine code.calls-records·record·get (fn-records-record-get-thm.met 𝓤 H 𝓜 𝓖 𝓡) (((νs .0 .0 ∷ [], tt), (fullShare, tt), tt, (lent-as b o (νs .0 .1) ys, ((V₁) .thread, tt)), (slice-of b o ys ∷ [], spell (number w64 ∷ []) (((V₁) .thread, tt)))), tt))
         (λ k. and-then ! (load ! (from ! (stop !)) (look ! 28 refl)) (and-then ! (load ! (from ! (stop !)) (look ! 38 refl)) (no-more !))) (λ r₇ ws₈ is₉ ls₁₀ e₁₁.
         split ! $
         move ! (1 ∷ []) $
@@ -248,7 +248,7 @@ module _ {M : Type 1} (𝓤 : URA M) (H : Heap 𝓤) (𝓜 : Model 𝓤 H) (𝓖
         returns-within ! Post refl (look ! 52 refl) $
         move ! (52 ∷ 53 ∷ 50 ∷ 51 ∷ 48 ∷ 49 ∷ 46 ∷ 47 ∷ 44 ∷ 45 ∷ 42 ∷ 43 ∷ 40 ∷ 41 ∷ 38 ∷ 39 ∷ 36 ∷ 37 ∷ 34 ∷ 35 ∷ 32 ∷ 33 ∷ 30 ∷ 31 ∷ 28 ∷ 29 ∷ 26 ∷ 27 ∷ 24 ∷ 25 ∷ 22 ∷ 23 ∷ 20 ∷ 21 ∷ 18 ∷ 19 ∷ 16 ∷ 17 ∷ 14 ∷ 15 ∷ 12 ∷ 13 ∷ 10 ∷ 11 ∷ 8 ∷ 9 ∷ 6 ∷ 7 ∷ []) $
         all-freed ! mir.locals (l₀ ∷ l₁ ∷ l₂ ∷ l₃ ∷ l₄ ∷ l₅ ∷ l₆ ∷ l₇ ∷ l₈ ∷ l₉ ∷ l₁₀ ∷ l₁₁ ∷ l₁₂ ∷ l₁₃ ∷ l₁₄ ∷ l₁₅ ∷ l₁₆ ∷ l₁₇ ∷ l₁₈ ∷ l₁₉ ∷ l₂₀ ∷ l₂₁ ∷ l₂₂ ∷ l₂₃ ∷ []) (full _ ∷ full _ ∷ full _ ∷ full _ ∷ full _ ∷ full _ ∷ full _ ∷ full _ ∷ full _ ∷ full _ ∷ full _ ∷ full _ ∷ full _ ∷ full _ ∷ full _ ∷ full _ ∷ full _ ∷ full _ ∷ bare ∷ bare ∷ bare ∷ bare ∷ bare ∷ bare ∷ []) tt $
-        suffices ! _ (ends-at 𝓤 H A command-read.ended stayed c W y _ (V₅) (ys, (ys′, (ys″, (tt, (tt, tt))))) (sym refl, (sym refl, (sym refl, (tt, (tt, tt)))))) $ says ! (so {X = Left Answered Lent} (record { answer = V₅; memory = record { threads = ys; cpus = ys′; nodes = ys″ } }) (answeredDef (a .0) (a .1 .0) (record { threads = ys; cpus = ys′; nodes = ys″ })) ((yes (V₄) h₁ _ (refl)))) $
+        suffices ! _ (ends-at 𝓤 H A command-read.ended stayed c W y _ (V₅) (ys, (ys′, (ys″, (tt, (tt, tt))))) (sym refl, (sym refl, (sym refl, (tt, (tt, tt)))))) $ says ! (so {X = Left Answered Lent} (record { answer = V₅; memory = record { threads = ys; cpus = ys′; nodes = ys″ } }) (answered-def (a .0) (a .1 .0) (record { threads = ys; cpus = ys′; nodes = ys″ })) ((yes (V₄) h₁ _ (refl)))) $
         leaves3 ! Answered° Ds a (V₅) are (is₃₀))))
         (λ h₁.
         assigns ! (addr ! (from ! (fld ! refl (hop ! (look-in ! 50 (sub ! 0 refl (whole !))) (stop !))))) (from ! (stop !)) (init ! 16 refl (tt, tt)) $
@@ -288,7 +288,7 @@ module _ {M : Type 1} (𝓤 : URA M) (H : Heap 𝓤) (𝓜 : Model 𝓤 H) (𝓖
         returns ! (look ! 52 refl) $
         move ! (52 ∷ 53 ∷ 50 ∷ 51 ∷ 48 ∷ 49 ∷ 46 ∷ 47 ∷ 44 ∷ 45 ∷ 42 ∷ 43 ∷ 40 ∷ 41 ∷ 38 ∷ 39 ∷ 36 ∷ 37 ∷ 34 ∷ 35 ∷ 32 ∷ 33 ∷ 30 ∷ 31 ∷ 28 ∷ 29 ∷ 26 ∷ 27 ∷ 24 ∷ 25 ∷ 22 ∷ 23 ∷ 20 ∷ 21 ∷ 18 ∷ 19 ∷ 16 ∷ 17 ∷ 14 ∷ 15 ∷ 12 ∷ 13 ∷ 10 ∷ 11 ∷ 8 ∷ 9 ∷ 6 ∷ 7 ∷ []) $
         all-freed ! mir.locals (l₀ ∷ l₁ ∷ l₂ ∷ l₃ ∷ l₄ ∷ l₅ ∷ l₆ ∷ l₇ ∷ l₈ ∷ l₉ ∷ l₁₀ ∷ l₁₁ ∷ l₁₂ ∷ l₁₃ ∷ l₁₄ ∷ l₁₅ ∷ l₁₆ ∷ l₁₇ ∷ l₁₈ ∷ l₁₉ ∷ l₂₀ ∷ l₂₁ ∷ l₂₂ ∷ l₂₃ ∷ []) (full _ ∷ full _ ∷ full _ ∷ full _ ∷ full _ ∷ full _ ∷ full _ ∷ full _ ∷ full _ ∷ full _ ∷ full _ ∷ full _ ∷ full _ ∷ full _ ∷ full _ ∷ full _ ∷ full _ ∷ full _ ∷ full _ ∷ full _ ∷ full _ ∷ full _ ∷ full _ ∷ full _ ∷ []) tt $
-        suffices ! _ (ends-at 𝓤 H A command-read.ended stayed c W y _ (V₆ .answer) (V₆ .memory .threads, (V₆ .memory .cpus, (V₆ .memory .nodes, (tt, (tt, tt))))) (sym ((refl ∙ sym (subst (λ (us : List Thread). length us ≡ length ys) (e₃₅ .1 .0) (ls₃₄ .0)))), (sym ((refl ∙ sym (subst (λ (us : List (List ℕ)). length us ≡ length ys′) (e₃₅ .1 .1 .0) (ls₃₄ .1 .0)))), (sym ((refl ∙ sym (subst (λ (us : List (List ℕ)). length us ≡ length ys″) (e₃₅ .1 .1 .1) (ls₃₄ .1 .1 .0)))), (tt, (tt, tt)))))) $ says ! (so {X = Left Answered Lent} (record { answer = (V₆ .answer); memory = record { threads = (V₆ .memory .threads); cpus = (V₆ .memory .cpus); nodes = (V₆ .memory .nodes) } }) (answeredDef (a .0) (a .1 .0) (record { threads = ys; cpus = ys′; nodes = ys″ })) ((no (V₄) h₁ _ (refl)))) $
+        suffices ! _ (ends-at 𝓤 H A command-read.ended stayed c W y _ (V₆ .answer) (V₆ .memory .threads, (V₆ .memory .cpus, (V₆ .memory .nodes, (tt, (tt, tt))))) (sym ((refl ∙ sym (subst (λ (us : List Thread). length us ≡ length ys) (e₃₅ .1 .0) (ls₃₄ .0)))), (sym ((refl ∙ sym (subst (λ (us : List (List ℕ)). length us ≡ length ys′) (e₃₅ .1 .1 .0) (ls₃₄ .1 .0)))), (sym ((refl ∙ sym (subst (λ (us : List (List ℕ)). length us ≡ length ys″) (e₃₅ .1 .1 .1) (ls₃₄ .1 .1 .0)))), (tt, (tt, tt)))))) $ says ! (so {X = Left Answered Lent} (record { answer = (V₆ .answer); memory = record { threads = (V₆ .memory .threads); cpus = (V₆ .memory .cpus); nodes = (V₆ .memory .nodes) } }) (answered-def (a .0) (a .1 .0) (record { threads = ys; cpus = ys′; nodes = ys″ })) ((no (V₄) h₁ _ (refl)))) $
         leaves3 ! Answered° Ds a (V₆ .answer) are (is₃₆))))))))))))))))))))))))))))))))))))
 
 pub command-read-spec : {M : Type 1} → stated.statement M

@@ -29,11 +29,11 @@ use denote.Triple.Table.{cited}
 use denote.Triple.Clauses.{Clauses}
 use denote.Triple.Walked.{says, Stays, stay-none, stay-slice, walkOf, goes-none, goes-slice, ends-at}
 use denote.Exit.{yes as kept-yes}
-use Rattle.lent.proofs.Walk.{Datum, number, nil, struct, Dens, AreD, listed, spell, lent-as, slice-of, kept, opened, closed, full, told, proved}
-use Rattle.lent.proofs.Lent.{mutable, call-slices, all-freed, so, begins1, leaves1}
-use Rattle.command.specs.Command.{declareThread, thread-in}
-use Rattle.lent.specs.Left.{Left}
+use Rattle.records.proofs.Walk.{Datum, number, nil, struct, Dens, AreD, listed, spell, lent-as, slice-of, kept, opened, closed, full, told, proved}
+use Rattle.records.proofs.Lent.{mutable, call-slices, all-freed, so, begins1, leaves1}
+use Rattle.command.specs.Command.{declare-thread-command, thread-in}
 use Rattle.outcome.specs.Answer.{changed}
+use Rattle.records.specs.Left.{Left}
 use denote.Struct.Laws as LL
 use Rattle.outcome.specs.declared.answer.Answered.{Answered}
 use Rattle.outcome.proofs.answer.Answered as Answered·
@@ -50,9 +50,9 @@ use Rattle.thread.proofs.Thread.Laws as Thread·laws
 use Rattle.command.proofs.obey.thread_in as fn-command-obey-thread-in
 use Rattle.command.proofs.obey.thread_in.Symbol as fn-command-obey-thread-in-def
 use Rattle.command.proofs.obey.thread_in.Met as fn-command-obey-thread-in-thm
-use Rattle.lent.proofs.records.set as fn-lent-records-set
-use Rattle.lent.proofs.records.set.Symbol as fn-lent-records-set-def
-use Rattle.lent.proofs.records.set.Met as fn-lent-records-set-thm
+use Rattle.records.proofs.record.set as fn-records-record-set
+use Rattle.records.proofs.record.set.Symbol as fn-records-record-set-def
+use Rattle.records.proofs.record.set.Met as fn-records-record-set-thm
 use Rattle.command.proofs.obey.done as fn-command-obey-done
 use Rattle.command.proofs.obey.done.Symbol as fn-command-obey-done-def
 use Rattle.command.proofs.obey.done.Met as fn-command-obey-done-thm
@@ -116,7 +116,7 @@ module _ {M : Type 1} (𝓤 : URA M) (H : Heap 𝓤) (𝓜 : Model 𝓤 H) (𝓖
     V₂ = changed (a .0) ((a .1 .0) .used)
 
     walk : ent 𝓤 (onEntry 𝓤 H A declare-thread.signature (κ, tt) (q, tt) ((lent-as b o γ ys, a)) ((s ∷ [], spell Ds a))) (WpFn 𝓤 H C Λ code.function (s ∷ listed Ds a) Post)
-    unfolding declareThread
+    unfolding declare-thread-command
     walk =
         qed W ((‵ (flft κ q) ⊛ (‵ ftrue)) ∷ ‵ (owns (MutSlice (named 0) κ Thread·.the-row ∷ State·.the-row ∷ Call·.the-row ∷ []) ((lent-as b o γ ys, a)) ((s ∷ [], spell Ds a))) ∷ []) ∵ begins1 ! $ enter ! C _ code.function (s ∷ listed Ds a) _ $
         alloc1 ! (λ l₀. alloc1 ! (λ l₁. alloc1 ! (λ l₂. alloc1 ! (λ l₃. alloc1 ! (λ l₄. alloc1 ! (λ l₅. alloc1 ! (λ l₆. alloc1 ! (λ l₇. alloc1 ! (λ l₈. alloc0 ! $ params1 ! $
@@ -137,7 +137,7 @@ module _ {M : Type 1} (𝓤 : URA M) (H : Heap 𝓤) (𝓜 : Model 𝓤 H) (𝓖
         move ! (1 ∷ 0 ∷ []) $
         join ! $
         call-slices nil (number w64 ∷ Thread° ∷ []) (((a .1 .0) .thread, (thread-in (a .1 .0), tt))) (emp 𝓤) ((mutable Thread·.the-row ys b o n refl room) ∷ []) ! fm (λ r ws. ws .0 ≡ V₁) ((LL.owed Call·.the-type Call·laws.the-laws (a .1 .0) _ (are .1 .0) .1 .1 .0, (is₆, tt))) (id⊢ 𝓤 (emp 𝓤))
-        (λ νs. cited 𝓤 H (tripleOf 𝓤 H A fn-lent-records-set.signature (fn-lent-records-set.spec 𝓤 H A (𝓜 .mem) (𝓡 .run))) 𝓜 𝓡 code.env fn-lent-records-set-def.name fn-lent-records-set-def.routine code.calls-lent·records·set (fn-lent-records-set-thm.met 𝓤 H 𝓜 𝓖 𝓡) (((νs .0 .0 ∷ [], tt), (fullShare, tt), tt, (lent-as b o (νs .0 .1) ys, ((a .1 .0) .thread, (thread-in (a .1 .0), tt))), (slice-of b o ys ∷ [], spell (number w64 ∷ Thread° ∷ []) (((a .1 .0) .thread, (thread-in (a .1 .0), tt))))), tt))
+        (λ νs. cited 𝓤 H (tripleOf 𝓤 H A fn-records-record-set.signature (fn-records-record-set.spec 𝓤 H A (𝓜 .mem) (𝓡 .run))) 𝓜 𝓡 code.env fn-records-record-set-def.name fn-records-record-set-def.routine code.calls-records·record·set (fn-records-record-set-thm.met 𝓤 H 𝓜 𝓖 𝓡) (((νs .0 .0 ∷ [], tt), (fullShare, tt), tt, (lent-as b o (νs .0 .1) ys, ((a .1 .0) .thread, (thread-in (a .1 .0), tt))), (slice-of b o ys ∷ [], spell (number w64 ∷ Thread° ∷ []) (((a .1 .0) .thread, (thread-in (a .1 .0), tt))))), tt))
         (λ k. and-then ! (load ! (from ! (stop !)) (look ! 2 refl)) (and-then ! (load ! (from ! (stop !)) (look ! 10 refl)) (and-then ! (load ! (from ! (stop !)) (look ! 8 refl)) (no-more !)))) (λ r₇ ws₈ is₉ ls₁₀ e₁₁.
         split ! $
         move ! (1 ∷ []) $
@@ -155,7 +155,7 @@ module _ {M : Type 1} (𝓤 : URA M) (H : Heap 𝓤) (𝓜 : Model 𝓤 H) (𝓖
         returns ! (look ! 18 refl) $
         move ! (18 ∷ 19 ∷ 16 ∷ 17 ∷ 14 ∷ 15 ∷ 12 ∷ 13 ∷ 10 ∷ 11 ∷ 8 ∷ 9 ∷ 6 ∷ 7 ∷ 4 ∷ 5 ∷ 2 ∷ 3 ∷ []) $
         all-freed ! mir.locals (l₀ ∷ l₁ ∷ l₂ ∷ l₃ ∷ l₄ ∷ l₅ ∷ l₆ ∷ l₇ ∷ l₈ ∷ []) (full _ ∷ full _ ∷ full _ ∷ full _ ∷ full _ ∷ full _ ∷ full _ ∷ full _ ∷ full _ ∷ []) tt $
-        suffices ! _ (ends-at 𝓤 H A declare-thread.ended stayed c W y _ (V₂) (V₁, (tt, (tt, tt))) (sym ((refl ∙ sym (subst (λ (us : List Thread). length us ≡ length ys) (e₁₁) (ls₁₀ .0)))), (tt, (tt, tt)))) $ says ! (so {X = Left Answered (List Thread)} (record { answer = V₂; memory = V₁ }) (declareThread (a .0) (a .1 .0) ys) (refl)) $
+        suffices ! _ (ends-at 𝓤 H A declare-thread.ended stayed c W y _ (V₂) (V₁, (tt, (tt, tt))) (sym ((refl ∙ sym (subst (λ (us : List Thread). length us ≡ length ys) (e₁₁) (ls₁₀ .0)))), (tt, (tt, tt)))) $ says ! (so {X = Left Answered (List Thread)} (record { answer = V₂; memory = V₁ }) (declare-thread-command (a .0) (a .1 .0) ys) (refl)) $
         leaves1 ! Answered° Ds a (V₂) are (is₁₇)))))))))))))))
 
 pub declare-thread-spec : {M : Type 1} → stated.statement M

@@ -32,13 +32,13 @@ use denote.Triple.Table.{cited}
 use denote.Triple.Clauses.{Clauses}
 use denote.Triple.Walked.{says, Stays, stay-none, stay-slice, stay-none-slice, walkOf, goes-none, goes-slice, goes-none-slice, ends-at}
 use denote.Exit.{yes as kept-yes}
-use Rattle.lent.proofs.Walk.{Datum, number, struct, Dens, AreD, listed, spell, lent-as, slice-of, kept, opened, closed, full, told, proved}
-use Rattle.lent.proofs.Lent.{mutable, passed, call-slices, call-left, all-freed, so, begins2, leaves2}
-use Rattle.command.specs.Command.{donateDef}
-use Rattle.lent.specs.Left.{Left}
+use Rattle.records.proofs.Walk.{Datum, number, struct, Dens, AreD, listed, spell, lent-as, slice-of, kept, opened, closed, full, told, proved}
+use Rattle.records.proofs.Lent.{mutable, passed, call-slices, call-left, all-freed, so, begins2, leaves2}
+use Rattle.command.specs.Command.{donate-command}
 use Rattle.outcome.specs.Answer.{ran}
 use Rattle.outcome.specs.Call.{priority-in}
-use Rattle.sched_queues.specs.Donate.{donatePriority}
+use Rattle.records.specs.Left.{Left}
+use Rattle.sched_queues.specs.Donate.{donate-priority-def}
 use denote.Struct.Laws as LL
 use Rattle.outcome.specs.declared.answer.Answered.{Answered}
 use Rattle.outcome.proofs.answer.Answered as Answered·
@@ -127,13 +127,13 @@ module _ {M : Type 1} (𝓤 : URA M) (H : Heap 𝓤) (𝓜 : Model 𝓤 H) (𝓖
     Post = walkOf 𝓤 H A donate.ended stayed c .post y
 
     abbrev V₁ : Left ℕ (List Thread)
-    V₁ = donatePriority ((a .1 .0) .cpu) ((a .1 .0) .thread) (priority-in (a .1 .0)) 0 ys′ ys
+    V₁ = donate-priority-def ((a .1 .0) .cpu) ((a .1 .0) .thread) (priority-in (a .1 .0)) 0 ys′ ys
 
     abbrev V₂ : Answered
     V₂ = ran ys′ (a .0) ((a .1 .0) .cpu) (V₁ .answer) ((a .1 .0) .used)
 
     walk : ent 𝓤 (onEntry 𝓤 H A donate.signature (κ, (κ′, tt)) (q, (q′, tt)) ((lent-as b o γ ys, (lent-as b′ o′ γ′ ys′, a))) ((s ∷ [], (s′ ∷ [], spell Ds a)))) (WpFn 𝓤 H C Λ code.function (s ∷ s′ ∷ listed Ds a) Post)
-    unfolding donateDef
+    unfolding donate-command
     walk =
         qed W ((‵ (flft κ q) ⊛ (‵ (flft κ′ q′) ⊛ (‵ ftrue))) ∷ ‵ (owns (MutSlice (named 0) κ Thread·.the-row ∷ ShrSlice (named 1) κ′ (Array u64 96) ∷ State·.the-row ∷ Call·.the-row ∷ []) ((lent-as b o γ ys, (lent-as b′ o′ γ′ ys′, a))) ((s ∷ [], (s′ ∷ [], spell Ds a)))) ∷ []) ∵ begins2 ! $ enter ! C _ code.function (s ∷ s′ ∷ listed Ds a) _ $
         alloc1 ! (λ l₀. alloc1 ! (λ l₁. alloc1 ! (λ l₂. alloc1 ! (λ l₃. alloc1 ! (λ l₄. alloc1 ! (λ l₅. alloc1 ! (λ l₆. alloc1 ! (λ l₇. alloc1 ! (λ l₈. alloc1 ! (λ l₉. alloc1 ! (λ l₁₀. alloc0 ! $ params1 ! $
@@ -188,7 +188,7 @@ module _ {M : Type 1} (𝓤 : URA M) (H : Heap 𝓤) (𝓜 : Model 𝓤 H) (𝓖
         returns ! (look ! 24 refl) $
         move ! (24 ∷ 25 ∷ 22 ∷ 23 ∷ 20 ∷ 21 ∷ 18 ∷ 19 ∷ 16 ∷ 17 ∷ 14 ∷ 15 ∷ 12 ∷ 13 ∷ 10 ∷ 11 ∷ 8 ∷ 9 ∷ 6 ∷ 7 ∷ 4 ∷ 5 ∷ []) $
         all-freed ! mir.locals (l₀ ∷ l₁ ∷ l₂ ∷ l₃ ∷ l₄ ∷ l₅ ∷ l₆ ∷ l₇ ∷ l₈ ∷ l₉ ∷ l₁₀ ∷ []) (full _ ∷ full _ ∷ full _ ∷ full _ ∷ full _ ∷ full _ ∷ full _ ∷ full _ ∷ full _ ∷ full _ ∷ full _ ∷ []) tt $
-        suffices ! _ (ends-at 𝓤 H A donate.ended stayed c W y _ (V₂) (V₁ .memory, (tt, (tt, (tt, tt)))) (sym ((refl ∙ sym (subst (λ (us : List Thread). length us ≡ length ys) (e₁₁ .1) (ls₁₀ .0)))), (tt, (tt, (tt, tt))))) $ says ! (so {X = Left Answered (List Thread)} (record { answer = V₂; memory = (V₁ .memory) }) (donateDef (a .0) (a .1 .0) ys′ ys) (refl)) $
+        suffices ! _ (ends-at 𝓤 H A donate.ended stayed c W y _ (V₂) (V₁ .memory, (tt, (tt, (tt, tt)))) (sym ((refl ∙ sym (subst (λ (us : List Thread). length us ≡ length ys) (e₁₁ .1) (ls₁₀ .0)))), (tt, (tt, (tt, tt))))) $ says ! (so {X = Left Answered (List Thread)} (record { answer = V₂; memory = (V₁ .memory) }) (donate-command (a .0) (a .1 .0) ys′ ys) (refl)) $
         leaves2 ! Answered° Ds a (V₂) are (is₁₈))))))))))))))))))
 
 pub donate-spec : {M : Type 1} → stated.statement M

@@ -32,13 +32,13 @@ use denote.Triple.Table.{cited}
 use denote.Triple.Clauses.{Clauses}
 use denote.Triple.Walked.{says, Stays, stay-none, stay-slice, walkOf, goes-none, goes-slice, ends-at}
 use denote.Exit.{yes as kept-yes}
-use Rattle.lent.proofs.Walk.{Datum, number, nil, struct, Dens, AreD, listed, spell, lent-as, slice-of, kept, opened, closed, full, told, proved}
-use Rattle.lent.proofs.Lent.{mutable, shared, call-slices, call-left, all-freed, so, begins2, leaves2}
-use Rattle.command.specs.Command.{hardtickCommand}
-use Rattle.lent.specs.Left.{Memory, Left}
+use Rattle.records.proofs.Walk.{Datum, number, nil, struct, Dens, AreD, listed, spell, lent-as, slice-of, kept, opened, closed, full, told, proved}
+use Rattle.records.proofs.Lent.{mutable, shared, call-slices, call-left, all-freed, so, begins2, leaves2}
+use Rattle.command.specs.Command.{hardtick-command}
 use Rattle.outcome.specs.Answer.{ran}
 use Rattle.outcome.specs.Call.{context-of}
-use Rattle.sched_ticks.specs.Ticks.{scheduleHardtick}
+use Rattle.records.specs.Left.{Memory, Left}
+use Rattle.sched_ticks.specs.Ticks.{schedule-hardtick-def}
 use denote.Struct.Laws as LL
 use Rattle.outcome.specs.declared.answer.Answered.{Answered}
 use Rattle.outcome.proofs.answer.Answered as Answered·
@@ -46,9 +46,9 @@ use Rattle.outcome.proofs.answer.Answered.Laws as Answered·laws
 use Rattle.outcome.specs.declared.call.Call.{Call}
 use Rattle.outcome.proofs.call.Call as Call·
 use Rattle.outcome.proofs.call.Call.Laws as Call·laws
-use Rattle.step.specs.declared.context.Context.{Context}
-use Rattle.step.proofs.context.Context as Context·
-use Rattle.step.proofs.context.Context.Laws as Context·laws
+use Rattle.sched_words.specs.declared.context.Context.{Context}
+use Rattle.sched_words.proofs.context.Context as Context·
+use Rattle.sched_words.proofs.context.Context.Laws as Context·laws
 use Rattle.questions.specs.declared.state.State.{State}
 use Rattle.questions.proofs.state.State as State·
 use Rattle.questions.proofs.state.State.Laws as State·laws
@@ -130,13 +130,13 @@ module _ {M : Type 1} (𝓤 : URA M) (H : Heap 𝓤) (𝓜 : Model 𝓤 H) (𝓖
     V₁ = context-of (a .0) (a .1 .0)
 
     abbrev V₂ : Memory
-    V₂ = scheduleHardtick V₁ (record { threads = ys; cpus = ys′ })
+    V₂ = schedule-hardtick-def V₁ (record { threads = ys; cpus = ys′ })
 
     abbrev V₃ : Answered
     V₃ = ran (V₂ .cpus) (a .0) ((a .1 .0) .cpu) 0 ((a .1 .0) .used)
 
     walk : ent 𝓤 (onEntry 𝓤 H A hardtick.signature (κ, (κ′, tt)) (q, (q′, tt)) ((lent-as b o γ ys, (lent-as b′ o′ γ′ ys′, a))) ((s ∷ [], (s′ ∷ [], spell Ds a)))) (WpFn 𝓤 H C Λ code.function (s ∷ s′ ∷ listed Ds a) Post)
-    unfolding hardtickCommand
+    unfolding hardtick-command
     walk =
         qed W ((‵ (flft κ q) ⊛ (‵ (flft κ′ q′) ⊛ (‵ ftrue))) ∷ ‵ (owns (MutSlice (named 0) κ Thread·.the-row ∷ MutSlice (named 1) κ′ (Array u64 96) ∷ State·.the-row ∷ Call·.the-row ∷ []) ((lent-as b o γ ys, (lent-as b′ o′ γ′ ys′, a))) ((s ∷ [], (s′ ∷ [], spell Ds a)))) ∷ []) ∵ begins2 ! $ enter ! C _ code.function (s ∷ s′ ∷ listed Ds a) _ $
         alloc1 ! (λ l₀. alloc1 ! (λ l₁. alloc1 ! (λ l₂. alloc1 ! (λ l₃. alloc1 ! (λ l₄. alloc1 ! (λ l₅. alloc1 ! (λ l₆. alloc1 ! (λ l₇. alloc1 ! (λ l₈. alloc1 ! (λ l₉. alloc1 ! (λ l₁₀. alloc1 ! (λ l₁₁. alloc1 ! (λ l₁₂. alloc0 ! $ params1 ! $
@@ -192,7 +192,7 @@ module _ {M : Type 1} (𝓤 : URA M) (H : Heap 𝓤) (𝓜 : Model 𝓤 H) (𝓖
         returns ! (look ! 28 refl) $
         move ! (28 ∷ 29 ∷ 26 ∷ 27 ∷ 24 ∷ 25 ∷ 22 ∷ 23 ∷ 20 ∷ 21 ∷ 18 ∷ 19 ∷ 16 ∷ 17 ∷ 14 ∷ 15 ∷ 12 ∷ 13 ∷ 10 ∷ 11 ∷ 8 ∷ 9 ∷ 6 ∷ 7 ∷ 4 ∷ 5 ∷ []) $
         all-freed ! mir.locals (l₀ ∷ l₁ ∷ l₂ ∷ l₃ ∷ l₄ ∷ l₅ ∷ l₆ ∷ l₇ ∷ l₈ ∷ l₉ ∷ l₁₀ ∷ l₁₁ ∷ l₁₂ ∷ []) (full _ ∷ full _ ∷ full _ ∷ full _ ∷ full _ ∷ full _ ∷ full _ ∷ full _ ∷ full _ ∷ full _ ∷ full _ ∷ full _ ∷ full _ ∷ []) tt $
-        suffices ! _ (ends-at 𝓤 H A hardtick.ended stayed c W y _ (V₃) (V₂ .threads, (V₂ .cpus, (tt, (tt, tt)))) (sym ((refl ∙ sym (subst (λ (us : List Thread). length us ≡ length ys) (e₁₁ .0) (ls₁₀ .0)))), (sym ((refl ∙ sym (subst (λ (us : List (List ℕ)). length us ≡ length ys′) (e₁₁ .1) (ls₁₀ .1 .0)))), (tt, (tt, tt))))) $ says ! (so {X = Left Answered Memory} (record { answer = V₃; memory = record { threads = (V₂ .threads); cpus = (V₂ .cpus) } }) (hardtickCommand (a .0) (a .1 .0) (record { threads = ys; cpus = ys′ })) (refl)) $
+        suffices ! _ (ends-at 𝓤 H A hardtick.ended stayed c W y _ (V₃) (V₂ .threads, (V₂ .cpus, (tt, (tt, tt)))) (sym ((refl ∙ sym (subst (λ (us : List Thread). length us ≡ length ys) (e₁₁ .0) (ls₁₀ .0)))), (sym ((refl ∙ sym (subst (λ (us : List (List ℕ)). length us ≡ length ys′) (e₁₁ .1) (ls₁₀ .1 .0)))), (tt, (tt, tt))))) $ says ! (so {X = Left Answered Memory} (record { answer = V₃; memory = record { threads = (V₂ .threads); cpus = (V₂ .cpus) } }) (hardtick-command (a .0) (a .1 .0) (record { threads = ys; cpus = ys′ })) (refl)) $
         leaves2 ! Answered° Ds a (V₃) are (is₁₇)))))))))))))))))))
 
 pub hardtick-spec : {M : Type 1} → stated.statement M

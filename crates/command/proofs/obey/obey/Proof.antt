@@ -34,14 +34,14 @@ use denote.Triple.Table.{cited}
 use denote.Triple.Clauses.{Clauses}
 use denote.Triple.Walked.{says, Stays, stay-none, stay-slice, walkOf, goes-none, goes-slice, ends-at}
 use denote.Exit.{yes as kept-yes}
-use Rattle.lent.proofs.Walk.{Datum, number, struct, Dens, AreD, listed, spell, lent-as, slice-of, kept, opened, closed, guards, env-of, standing, bare, full, told, proved}
-use Rattle.lent.proofs.Lent.{mutable, shared, call-slices, call-left, all-freed, no, yes, so, begins3, leaves3}
-use Rattle.command.specs.Command.{obeyDef, declareThread, scheduleThreadDef, scheduleCommand, hardtickCommand, stattickDef, reschedDef, maybePreemptDef, donateDef, removeDonation, criticalDef}
+use Rattle.records.proofs.Walk.{Datum, number, struct, Dens, AreD, listed, spell, lent-as, slice-of, kept, opened, closed, guards, env-of, standing, bare, full, told, proved}
+use Rattle.records.proofs.Lent.{mutable, shared, call-slices, call-left, all-freed, no, yes, so, begins3, leaves3}
+use Rattle.command.specs.Command.{obey-def, declare-thread-command, schedule-thread-command, schedule-command, hardtick-command, stattick-command, resched-command, maybe-preempt-command, donate-command, remove-donation-command, set-critical-command}
 use Rattle.command.specs.Lent.{Lent}
-use Rattle.lent.specs.Left.{Memory, Left}
 use Rattle.outcome.specs.Answer.{changed}
 use Rattle.outcome.specs.Call.{ticked}
 use Rattle.outcome.specs.Prepare.{prepares}
+use Rattle.records.specs.Left.{Memory, Left}
 use denote.Struct.Laws as LL
 use Rattle.outcome.specs.declared.answer.Answered.{Answered}
 use Rattle.outcome.proofs.answer.Answered as Answered·
@@ -166,44 +166,44 @@ module _ {M : Type 1} (𝓤 : URA M) (H : Heap 𝓤) (𝓜 : Model 𝓤 H) (𝓖
     V₃ = prepares ys′ ys″ (a .0) (a .1 .0) .nodes
 
     abbrev V₄ : Left Answered (List Thread)
-    V₄ = declareThread (a .0) (a .1 .0) ys
+    V₄ = declare-thread-command (a .0) (a .1 .0) ys
 
     abbrev V₅ : Answered
     V₅ = changed (ticked (a .0) ((a .1 .0) .number)) ((a .1 .0) .used)
 
     abbrev V₆ : Left Answered Memory
-    V₆ = scheduleThreadDef (a .0) (a .1 .0) ys″ (record { threads = ys; cpus = ys′ })
+    V₆ = schedule-thread-command (a .0) (a .1 .0) ys″ (record { threads = ys; cpus = ys′ })
 
     abbrev V₇ : Left Answered Memory
-    V₇ = scheduleCommand (a .0) (a .1 .0) ys″ (record { threads = ys; cpus = ys′ })
+    V₇ = schedule-command (a .0) (a .1 .0) ys″ (record { threads = ys; cpus = ys′ })
 
     abbrev V₈ : Left Answered Memory
-    V₈ = hardtickCommand (a .0) (a .1 .0) (record { threads = ys; cpus = ys′ })
+    V₈ = hardtick-command (a .0) (a .1 .0) (record { threads = ys; cpus = ys′ })
 
     abbrev V₉ : Left Answered Memory
-    V₉ = stattickDef (a .0) (a .1 .0) ys″ (record { threads = ys; cpus = ys′ })
+    V₉ = stattick-command (a .0) (a .1 .0) ys″ (record { threads = ys; cpus = ys′ })
 
     abbrev V₁₀ : Left Answered (List (List ℕ))
-    V₁₀ = reschedDef (a .0) (a .1 .0) ys ys′
+    V₁₀ = resched-command (a .0) (a .1 .0) ys ys′
 
     abbrev V₁₁ : Left Answered Memory
-    V₁₁ = maybePreemptDef (a .0) (a .1 .0) ys″ (record { threads = ys; cpus = ys′ })
+    V₁₁ = maybe-preempt-command (a .0) (a .1 .0) ys″ (record { threads = ys; cpus = ys′ })
 
     abbrev V₁₂ : Left Answered (List Thread)
-    V₁₂ = donateDef (a .0) (a .1 .0) ys′ ys
+    V₁₂ = donate-command (a .0) (a .1 .0) ys′ ys
 
     abbrev V₁₃ : Left Answered (List Thread)
-    V₁₃ = removeDonation (a .0) (a .1 .0) ys
+    V₁₃ = remove-donation-command (a .0) (a .1 .0) ys
 
     abbrev V₁₄ : Left Answered (List Thread)
-    V₁₄ = criticalDef (a .0) (a .1 .0) ys
+    V₁₄ = set-critical-command (a .0) (a .1 .0) ys
 
     module _ (l₀ l₁ l₂ l₃ l₄ l₅ l₆ l₇ l₈ l₉ l₁₀ l₁₁ l₁₂ l₁₃ l₁₄ l₁₅ l₁₆ l₁₇ l₁₈ l₁₉ l₂₀ l₂₁ l₂₂ l₂₃ l₂₄ l₂₅ l₂₆ l₂₇ l₂₈ l₂₉ l₃₀ l₃₁ l₃₂ l₃₃ l₃₄ l₃₅ l₃₆ l₃₇ l₃₈ l₃₉ l₄₀ l₄₁ l₄₂ l₄₃ l₄₄ l₄₅ l₄₆ l₄₇ l₄₈ l₄₉ l₅₀ l₅₁ l₅₂ l₅₃ : ℕ) where
       abbrev En : Env 𝓤 H
       En = env-of mir.locals (l₀ ∷ l₁ ∷ l₂ ∷ l₃ ∷ l₄ ∷ l₅ ∷ l₆ ∷ l₇ ∷ l₈ ∷ l₉ ∷ l₁₀ ∷ l₁₁ ∷ l₁₂ ∷ l₁₃ ∷ l₁₄ ∷ l₁₅ ∷ l₁₆ ∷ l₁₇ ∷ l₁₈ ∷ l₁₉ ∷ l₂₀ ∷ l₂₁ ∷ l₂₂ ∷ l₂₃ ∷ l₂₄ ∷ l₂₅ ∷ l₂₆ ∷ l₂₇ ∷ l₂₈ ∷ l₂₉ ∷ l₃₀ ∷ l₃₁ ∷ l₃₂ ∷ l₃₃ ∷ l₃₄ ∷ l₃₅ ∷ l₃₆ ∷ l₃₇ ∷ l₃₈ ∷ l₃₉ ∷ l₄₀ ∷ l₄₁ ∷ l₄₂ ∷ l₄₃ ∷ l₄₄ ∷ l₄₅ ∷ l₄₆ ∷ l₄₇ ∷ l₄₈ ∷ l₄₉ ∷ l₅₀ ∷ l₅₁ ∷ l₅₂ ∷ l₅₃ ∷ [])
 
       part-20 : (c₆ : Is u64 ((a .1 .0) .kind) ((number w64) .val ((a .1 .0) .kind) ∷ [])) (h₁ : Holds (not (leb ((a .1 .0) .kind) (4)))) (h₂ : Holds (not (eqb ((a .1 .0) .kind) (16)))) (h₃ : Holds (not (eqb ((a .1 .0) .kind) (17)))) (h₄ : Holds (not (eqb ((a .1 .0) .kind) (18)))) (h₅ : Holds (not (eqb ((a .1 .0) .kind) (19)))) (h₆ : Holds (not (eqb ((a .1 .0) .kind) (20)))) (h₇ : Holds (not (eqb ((a .1 .0) .kind) (21)))) (h₈ : Holds (not (eqb ((a .1 .0) .kind) (22)))) (h₉ : Holds (not (eqb ((a .1 .0) .kind) (23)))) → Sq W (‵ (row Thread·.the-row fullShare (ys) b o) ∷ ‵ (kept Thread·.the-row κ q γ b o ys) ∷ ‵ (row (Array u64 96) fullShare (ys′) b′ o′) ∷ ‵ (kept (Array u64 96) κ′ q′ γ′ b′ o′ ys′) ∷ ‵ (row (Array u64 32) fullShare (ys″) b″ o″) ∷ ‵ (kept (Array u64 32) κ″ q″ γ″ b″ o″ ys″) ∷ standing 𝓤 mir.locals (l₀ ∷ l₁ ∷ l₂ ∷ l₃ ∷ l₄ ∷ l₅ ∷ l₆ ∷ l₇ ∷ l₈ ∷ l₉ ∷ l₁₀ ∷ l₁₁ ∷ l₁₂ ∷ l₁₃ ∷ l₁₄ ∷ l₁₅ ∷ l₁₆ ∷ l₁₇ ∷ l₁₈ ∷ l₁₉ ∷ l₂₀ ∷ l₂₁ ∷ l₂₂ ∷ l₂₃ ∷ l₂₄ ∷ l₂₅ ∷ l₂₆ ∷ l₂₇ ∷ l₂₈ ∷ l₂₉ ∷ l₃₀ ∷ l₃₁ ∷ l₃₂ ∷ l₃₃ ∷ l₃₄ ∷ l₃₅ ∷ l₃₆ ∷ l₃₇ ∷ l₃₈ ∷ l₃₉ ∷ l₄₀ ∷ l₄₁ ∷ l₄₂ ∷ l₄₃ ∷ l₄₄ ∷ l₄₅ ∷ l₄₆ ∷ l₄₇ ∷ l₄₈ ∷ l₄₉ ∷ l₅₀ ∷ l₅₁ ∷ l₅₂ ∷ l₅₃ ∷ []) (bare ∷ full s ∷ full s′ ∷ full s″ ∷ full (State° .val (a .0)) ∷ full (Call° .val (a .1 .0)) ∷ full ((number w64) .val ((a .1 .0) .kind)) ∷ bare ∷ bare ∷ bare ∷ bare ∷ bare ∷ bare ∷ bare ∷ bare ∷ bare ∷ bare ∷ bare ∷ bare ∷ bare ∷ bare ∷ bare ∷ bare ∷ bare ∷ bare ∷ bare ∷ bare ∷ bare ∷ bare ∷ bare ∷ bare ∷ bare ∷ bare ∷ bare ∷ bare ∷ bare ∷ bare ∷ bare ∷ bare ∷ bare ∷ bare ∷ bare ∷ bare ∷ bare ∷ bare ∷ bare ∷ bare ∷ bare ∷ bare ∷ bare ∷ bare ∷ bare ∷ bare ∷ bare ∷ []) []) (runs C Λ En mir.t-20 (atRet En Post))
-      unfolding obeyDef
+      unfolding obey-def
       part-20 c₆ h₁ h₂ h₃ h₄ h₅ h₆ h₇ h₈ h₉ =
           assigns ! (bin ! (load ! (from ! (stop !)) (look ! 100 refl)) (lit ! tt) tt) (from ! (stop !)) (init ! 98 refl (tt, tt)) $
           guards ! (load ! (from ! (stop !)) (look ! 98 refl))
@@ -237,7 +237,7 @@ module _ {M : Type 1} (𝓤 : URA M) (H : Heap 𝓤) (𝓜 : Model 𝓤 H) (𝓖
           returns-within ! Post refl (look ! 112 refl) $
           move ! (112 ∷ 113 ∷ 110 ∷ 111 ∷ 108 ∷ 109 ∷ 106 ∷ 107 ∷ 104 ∷ 105 ∷ 102 ∷ 103 ∷ 100 ∷ 101 ∷ 98 ∷ 99 ∷ 96 ∷ 97 ∷ 94 ∷ 95 ∷ 92 ∷ 93 ∷ 90 ∷ 91 ∷ 88 ∷ 89 ∷ 86 ∷ 87 ∷ 84 ∷ 85 ∷ 82 ∷ 83 ∷ 80 ∷ 81 ∷ 78 ∷ 79 ∷ 76 ∷ 77 ∷ 74 ∷ 75 ∷ 72 ∷ 73 ∷ 70 ∷ 71 ∷ 68 ∷ 69 ∷ 66 ∷ 67 ∷ 64 ∷ 65 ∷ 62 ∷ 63 ∷ 60 ∷ 61 ∷ 58 ∷ 59 ∷ 56 ∷ 57 ∷ 54 ∷ 55 ∷ 52 ∷ 53 ∷ 50 ∷ 51 ∷ 48 ∷ 49 ∷ 46 ∷ 47 ∷ 44 ∷ 45 ∷ 42 ∷ 43 ∷ 40 ∷ 41 ∷ 38 ∷ 39 ∷ 36 ∷ 37 ∷ 34 ∷ 35 ∷ 32 ∷ 33 ∷ 30 ∷ 31 ∷ 28 ∷ 29 ∷ 26 ∷ 27 ∷ 24 ∷ 25 ∷ 22 ∷ 23 ∷ 20 ∷ 21 ∷ 18 ∷ 19 ∷ 16 ∷ 17 ∷ 14 ∷ 15 ∷ 12 ∷ 13 ∷ 10 ∷ 11 ∷ 8 ∷ 9 ∷ 6 ∷ 7 ∷ []) $
           all-freed ! mir.locals (l₀ ∷ l₁ ∷ l₂ ∷ l₃ ∷ l₄ ∷ l₅ ∷ l₆ ∷ l₇ ∷ l₈ ∷ l₉ ∷ l₁₀ ∷ l₁₁ ∷ l₁₂ ∷ l₁₃ ∷ l₁₄ ∷ l₁₅ ∷ l₁₆ ∷ l₁₇ ∷ l₁₈ ∷ l₁₉ ∷ l₂₀ ∷ l₂₁ ∷ l₂₂ ∷ l₂₃ ∷ l₂₄ ∷ l₂₅ ∷ l₂₆ ∷ l₂₇ ∷ l₂₈ ∷ l₂₉ ∷ l₃₀ ∷ l₃₁ ∷ l₃₂ ∷ l₃₃ ∷ l₃₄ ∷ l₃₅ ∷ l₃₆ ∷ l₃₇ ∷ l₃₈ ∷ l₃₉ ∷ l₄₀ ∷ l₄₁ ∷ l₄₂ ∷ l₄₃ ∷ l₄₄ ∷ l₄₅ ∷ l₄₆ ∷ l₄₇ ∷ l₄₈ ∷ l₄₉ ∷ l₅₀ ∷ l₅₁ ∷ l₅₂ ∷ l₅₃ ∷ []) (full _ ∷ full _ ∷ full _ ∷ full _ ∷ full _ ∷ full _ ∷ full _ ∷ full _ ∷ bare ∷ bare ∷ bare ∷ bare ∷ bare ∷ bare ∷ bare ∷ bare ∷ bare ∷ bare ∷ bare ∷ bare ∷ bare ∷ bare ∷ bare ∷ bare ∷ bare ∷ bare ∷ bare ∷ bare ∷ bare ∷ bare ∷ bare ∷ bare ∷ bare ∷ bare ∷ bare ∷ bare ∷ bare ∷ bare ∷ bare ∷ bare ∷ bare ∷ bare ∷ bare ∷ bare ∷ bare ∷ bare ∷ full _ ∷ full _ ∷ full _ ∷ full _ ∷ bare ∷ bare ∷ bare ∷ bare ∷ []) tt $
-          suffices ! _ (ends-at 𝓤 H A obey.ended stayed c W y _ (V₁₂ .answer) (V₁₂ .memory, (ys′, (ys″, (tt, (tt, tt))))) (sym ((refl ∙ sym (subst (λ (us : List Thread). length us ≡ length ys) (e₅₉ .1) (ls₅₈ .0)))), (sym refl, (sym refl, (tt, (tt, tt)))))) $ says ! (so {X = Left Answered Lent} (record { answer = (V₁₂ .answer); memory = record { threads = (V₁₂ .memory); cpus = ys′; nodes = ys″ } }) (obeyDef (a .0) (a .1 .0) (record { threads = ys; cpus = ys′; nodes = ys″ })) ((no (leb ((a .1 .0) .kind) (4)) h₁ _ (no (eqb ((a .1 .0) .kind) (16)) h₂ _ (no (eqb ((a .1 .0) .kind) (17)) h₃ _ (no (eqb ((a .1 .0) .kind) (18)) h₄ _ (no (eqb ((a .1 .0) .kind) (19)) h₅ _ (no (eqb ((a .1 .0) .kind) (20)) h₆ _ (no (eqb ((a .1 .0) .kind) (21)) h₇ _ (no (eqb ((a .1 .0) .kind) (22)) h₈ _ (no (eqb ((a .1 .0) .kind) (23)) h₉ _ (yes (eqb ((a .1 .0) .kind) (24)) h₁₀ _ (refl))))))))))))) $
+          suffices ! _ (ends-at 𝓤 H A obey.ended stayed c W y _ (V₁₂ .answer) (V₁₂ .memory, (ys′, (ys″, (tt, (tt, tt))))) (sym ((refl ∙ sym (subst (λ (us : List Thread). length us ≡ length ys) (e₅₉ .1) (ls₅₈ .0)))), (sym refl, (sym refl, (tt, (tt, tt)))))) $ says ! (so {X = Left Answered Lent} (record { answer = (V₁₂ .answer); memory = record { threads = (V₁₂ .memory); cpus = ys′; nodes = ys″ } }) (obey-def (a .0) (a .1 .0) (record { threads = ys; cpus = ys′; nodes = ys″ })) ((no (leb ((a .1 .0) .kind) (4)) h₁ _ (no (eqb ((a .1 .0) .kind) (16)) h₂ _ (no (eqb ((a .1 .0) .kind) (17)) h₃ _ (no (eqb ((a .1 .0) .kind) (18)) h₄ _ (no (eqb ((a .1 .0) .kind) (19)) h₅ _ (no (eqb ((a .1 .0) .kind) (20)) h₆ _ (no (eqb ((a .1 .0) .kind) (21)) h₇ _ (no (eqb ((a .1 .0) .kind) (22)) h₈ _ (no (eqb ((a .1 .0) .kind) (23)) h₉ _ (yes (eqb ((a .1 .0) .kind) (24)) h₁₀ _ (refl))))))))))))) $
           leaves3 ! Answered° Ds a (V₁₂ .answer) are (is₆₀))))
           (λ h₁₀.
           assigns ! (bin ! (load ! (from ! (stop !)) (look ! 100 refl)) (lit ! tt) tt) (from ! (stop !)) (store ! 98 refl (tt, tt)) $
@@ -266,7 +266,7 @@ module _ {M : Type 1} (𝓤 : URA M) (H : Heap 𝓤) (𝓜 : Model 𝓤 H) (𝓖
           returns-within ! Post refl (look ! 112 refl) $
           move ! (112 ∷ 113 ∷ 110 ∷ 111 ∷ 108 ∷ 109 ∷ 106 ∷ 107 ∷ 104 ∷ 105 ∷ 102 ∷ 103 ∷ 100 ∷ 101 ∷ 98 ∷ 99 ∷ 96 ∷ 97 ∷ 94 ∷ 95 ∷ 92 ∷ 93 ∷ 90 ∷ 91 ∷ 88 ∷ 89 ∷ 86 ∷ 87 ∷ 84 ∷ 85 ∷ 82 ∷ 83 ∷ 80 ∷ 81 ∷ 78 ∷ 79 ∷ 76 ∷ 77 ∷ 74 ∷ 75 ∷ 72 ∷ 73 ∷ 70 ∷ 71 ∷ 68 ∷ 69 ∷ 66 ∷ 67 ∷ 64 ∷ 65 ∷ 62 ∷ 63 ∷ 60 ∷ 61 ∷ 58 ∷ 59 ∷ 56 ∷ 57 ∷ 54 ∷ 55 ∷ 52 ∷ 53 ∷ 50 ∷ 51 ∷ 48 ∷ 49 ∷ 46 ∷ 47 ∷ 44 ∷ 45 ∷ 42 ∷ 43 ∷ 40 ∷ 41 ∷ 38 ∷ 39 ∷ 36 ∷ 37 ∷ 34 ∷ 35 ∷ 32 ∷ 33 ∷ 30 ∷ 31 ∷ 28 ∷ 29 ∷ 26 ∷ 27 ∷ 24 ∷ 25 ∷ 22 ∷ 23 ∷ 20 ∷ 21 ∷ 18 ∷ 19 ∷ 16 ∷ 17 ∷ 14 ∷ 15 ∷ 12 ∷ 13 ∷ 10 ∷ 11 ∷ 8 ∷ 9 ∷ 6 ∷ 7 ∷ []) $
           all-freed ! mir.locals (l₀ ∷ l₁ ∷ l₂ ∷ l₃ ∷ l₄ ∷ l₅ ∷ l₆ ∷ l₇ ∷ l₈ ∷ l₉ ∷ l₁₀ ∷ l₁₁ ∷ l₁₂ ∷ l₁₃ ∷ l₁₄ ∷ l₁₅ ∷ l₁₆ ∷ l₁₇ ∷ l₁₈ ∷ l₁₉ ∷ l₂₀ ∷ l₂₁ ∷ l₂₂ ∷ l₂₃ ∷ l₂₄ ∷ l₂₅ ∷ l₂₆ ∷ l₂₇ ∷ l₂₈ ∷ l₂₉ ∷ l₃₀ ∷ l₃₁ ∷ l₃₂ ∷ l₃₃ ∷ l₃₄ ∷ l₃₅ ∷ l₃₆ ∷ l₃₇ ∷ l₃₈ ∷ l₃₉ ∷ l₄₀ ∷ l₄₁ ∷ l₄₂ ∷ l₄₃ ∷ l₄₄ ∷ l₄₅ ∷ l₄₆ ∷ l₄₇ ∷ l₄₈ ∷ l₄₉ ∷ l₅₀ ∷ l₅₁ ∷ l₅₂ ∷ l₅₃ ∷ []) (full _ ∷ full _ ∷ full _ ∷ full _ ∷ full _ ∷ full _ ∷ full _ ∷ full _ ∷ bare ∷ bare ∷ bare ∷ bare ∷ bare ∷ bare ∷ bare ∷ bare ∷ bare ∷ bare ∷ bare ∷ bare ∷ bare ∷ bare ∷ bare ∷ bare ∷ bare ∷ bare ∷ bare ∷ bare ∷ bare ∷ bare ∷ bare ∷ bare ∷ bare ∷ bare ∷ bare ∷ bare ∷ bare ∷ bare ∷ bare ∷ bare ∷ bare ∷ bare ∷ bare ∷ bare ∷ bare ∷ bare ∷ bare ∷ bare ∷ bare ∷ bare ∷ full _ ∷ full _ ∷ bare ∷ bare ∷ []) tt $
-          suffices ! _ (ends-at 𝓤 H A obey.ended stayed c W y _ (V₁₃ .answer) (V₁₃ .memory, (ys′, (ys″, (tt, (tt, tt))))) (sym ((refl ∙ sym (subst (λ (us : List Thread). length us ≡ length ys) (e₆₅ .1) (ls₆₄ .0)))), (sym refl, (sym refl, (tt, (tt, tt)))))) $ says ! (so {X = Left Answered Lent} (record { answer = (V₁₃ .answer); memory = record { threads = (V₁₃ .memory); cpus = ys′; nodes = ys″ } }) (obeyDef (a .0) (a .1 .0) (record { threads = ys; cpus = ys′; nodes = ys″ })) ((no (leb ((a .1 .0) .kind) (4)) h₁ _ (no (eqb ((a .1 .0) .kind) (16)) h₂ _ (no (eqb ((a .1 .0) .kind) (17)) h₃ _ (no (eqb ((a .1 .0) .kind) (18)) h₄ _ (no (eqb ((a .1 .0) .kind) (19)) h₅ _ (no (eqb ((a .1 .0) .kind) (20)) h₆ _ (no (eqb ((a .1 .0) .kind) (21)) h₇ _ (no (eqb ((a .1 .0) .kind) (22)) h₈ _ (no (eqb ((a .1 .0) .kind) (23)) h₉ _ (no (eqb ((a .1 .0) .kind) (24)) h₁₀ _ (yes (eqb ((a .1 .0) .kind) (25)) h₁₁ _ (refl)))))))))))))) $
+          suffices ! _ (ends-at 𝓤 H A obey.ended stayed c W y _ (V₁₃ .answer) (V₁₃ .memory, (ys′, (ys″, (tt, (tt, tt))))) (sym ((refl ∙ sym (subst (λ (us : List Thread). length us ≡ length ys) (e₆₅ .1) (ls₆₄ .0)))), (sym refl, (sym refl, (tt, (tt, tt)))))) $ says ! (so {X = Left Answered Lent} (record { answer = (V₁₃ .answer); memory = record { threads = (V₁₃ .memory); cpus = ys′; nodes = ys″ } }) (obey-def (a .0) (a .1 .0) (record { threads = ys; cpus = ys′; nodes = ys″ })) ((no (leb ((a .1 .0) .kind) (4)) h₁ _ (no (eqb ((a .1 .0) .kind) (16)) h₂ _ (no (eqb ((a .1 .0) .kind) (17)) h₃ _ (no (eqb ((a .1 .0) .kind) (18)) h₄ _ (no (eqb ((a .1 .0) .kind) (19)) h₅ _ (no (eqb ((a .1 .0) .kind) (20)) h₆ _ (no (eqb ((a .1 .0) .kind) (21)) h₇ _ (no (eqb ((a .1 .0) .kind) (22)) h₈ _ (no (eqb ((a .1 .0) .kind) (23)) h₉ _ (no (eqb ((a .1 .0) .kind) (24)) h₁₀ _ (yes (eqb ((a .1 .0) .kind) (25)) h₁₁ _ (refl)))))))))))))) $
           leaves3 ! Answered° Ds a (V₁₃ .answer) are (is₆₆))))
           (λ h₁₁.
           assigns ! (addr ! (from ! (fld ! refl (hop ! (look-in ! 110 (sub ! 0 refl (whole !))) (stop !))))) (from ! (stop !)) (init ! 8 refl (tt, tt)) $
@@ -292,11 +292,11 @@ module _ {M : Type 1} (𝓤 : URA M) (H : Heap 𝓤) (𝓜 : Model 𝓤 H) (𝓖
           returns ! (look ! 112 refl) $
           move ! (112 ∷ 113 ∷ 110 ∷ 111 ∷ 108 ∷ 109 ∷ 106 ∷ 107 ∷ 104 ∷ 105 ∷ 102 ∷ 103 ∷ 100 ∷ 101 ∷ 98 ∷ 99 ∷ 96 ∷ 97 ∷ 94 ∷ 95 ∷ 92 ∷ 93 ∷ 90 ∷ 91 ∷ 88 ∷ 89 ∷ 86 ∷ 87 ∷ 84 ∷ 85 ∷ 82 ∷ 83 ∷ 80 ∷ 81 ∷ 78 ∷ 79 ∷ 76 ∷ 77 ∷ 74 ∷ 75 ∷ 72 ∷ 73 ∷ 70 ∷ 71 ∷ 68 ∷ 69 ∷ 66 ∷ 67 ∷ 64 ∷ 65 ∷ 62 ∷ 63 ∷ 60 ∷ 61 ∷ 58 ∷ 59 ∷ 56 ∷ 57 ∷ 54 ∷ 55 ∷ 52 ∷ 53 ∷ 50 ∷ 51 ∷ 48 ∷ 49 ∷ 46 ∷ 47 ∷ 44 ∷ 45 ∷ 42 ∷ 43 ∷ 40 ∷ 41 ∷ 38 ∷ 39 ∷ 36 ∷ 37 ∷ 34 ∷ 35 ∷ 32 ∷ 33 ∷ 30 ∷ 31 ∷ 28 ∷ 29 ∷ 26 ∷ 27 ∷ 24 ∷ 25 ∷ 22 ∷ 23 ∷ 20 ∷ 21 ∷ 18 ∷ 19 ∷ 16 ∷ 17 ∷ 14 ∷ 15 ∷ 12 ∷ 13 ∷ 10 ∷ 11 ∷ 8 ∷ 9 ∷ 6 ∷ 7 ∷ []) $
           all-freed ! mir.locals (l₀ ∷ l₁ ∷ l₂ ∷ l₃ ∷ l₄ ∷ l₅ ∷ l₆ ∷ l₇ ∷ l₈ ∷ l₉ ∷ l₁₀ ∷ l₁₁ ∷ l₁₂ ∷ l₁₃ ∷ l₁₄ ∷ l₁₅ ∷ l₁₆ ∷ l₁₇ ∷ l₁₈ ∷ l₁₉ ∷ l₂₀ ∷ l₂₁ ∷ l₂₂ ∷ l₂₃ ∷ l₂₄ ∷ l₂₅ ∷ l₂₆ ∷ l₂₇ ∷ l₂₈ ∷ l₂₉ ∷ l₃₀ ∷ l₃₁ ∷ l₃₂ ∷ l₃₃ ∷ l₃₄ ∷ l₃₅ ∷ l₃₆ ∷ l₃₇ ∷ l₃₈ ∷ l₃₉ ∷ l₄₀ ∷ l₄₁ ∷ l₄₂ ∷ l₄₃ ∷ l₄₄ ∷ l₄₅ ∷ l₄₆ ∷ l₄₇ ∷ l₄₈ ∷ l₄₉ ∷ l₅₀ ∷ l₅₁ ∷ l₅₂ ∷ l₅₃ ∷ []) (full _ ∷ full _ ∷ full _ ∷ full _ ∷ full _ ∷ full _ ∷ full _ ∷ full _ ∷ bare ∷ bare ∷ bare ∷ bare ∷ bare ∷ bare ∷ bare ∷ bare ∷ bare ∷ bare ∷ bare ∷ bare ∷ bare ∷ bare ∷ bare ∷ bare ∷ bare ∷ bare ∷ bare ∷ bare ∷ bare ∷ bare ∷ bare ∷ bare ∷ bare ∷ bare ∷ bare ∷ bare ∷ bare ∷ bare ∷ bare ∷ bare ∷ bare ∷ bare ∷ bare ∷ bare ∷ bare ∷ bare ∷ bare ∷ bare ∷ bare ∷ bare ∷ bare ∷ bare ∷ full _ ∷ full _ ∷ []) tt $
-          suffices ! _ (ends-at 𝓤 H A obey.ended stayed c W y _ (V₁₄ .answer) (V₁₄ .memory, (ys′, (ys″, (tt, (tt, tt))))) (sym ((refl ∙ sym (subst (λ (us : List Thread). length us ≡ length ys) (e₇₁ .1) (ls₇₀ .0)))), (sym refl, (sym refl, (tt, (tt, tt)))))) $ says ! (so {X = Left Answered Lent} (record { answer = (V₁₄ .answer); memory = record { threads = (V₁₄ .memory); cpus = ys′; nodes = ys″ } }) (obeyDef (a .0) (a .1 .0) (record { threads = ys; cpus = ys′; nodes = ys″ })) ((no (leb ((a .1 .0) .kind) (4)) h₁ _ (no (eqb ((a .1 .0) .kind) (16)) h₂ _ (no (eqb ((a .1 .0) .kind) (17)) h₃ _ (no (eqb ((a .1 .0) .kind) (18)) h₄ _ (no (eqb ((a .1 .0) .kind) (19)) h₅ _ (no (eqb ((a .1 .0) .kind) (20)) h₆ _ (no (eqb ((a .1 .0) .kind) (21)) h₇ _ (no (eqb ((a .1 .0) .kind) (22)) h₈ _ (no (eqb ((a .1 .0) .kind) (23)) h₉ _ (no (eqb ((a .1 .0) .kind) (24)) h₁₀ _ (no (eqb ((a .1 .0) .kind) (25)) h₁₁ _ (refl)))))))))))))) $
+          suffices ! _ (ends-at 𝓤 H A obey.ended stayed c W y _ (V₁₄ .answer) (V₁₄ .memory, (ys′, (ys″, (tt, (tt, tt))))) (sym ((refl ∙ sym (subst (λ (us : List Thread). length us ≡ length ys) (e₇₁ .1) (ls₇₀ .0)))), (sym refl, (sym refl, (tt, (tt, tt)))))) $ says ! (so {X = Left Answered Lent} (record { answer = (V₁₄ .answer); memory = record { threads = (V₁₄ .memory); cpus = ys′; nodes = ys″ } }) (obey-def (a .0) (a .1 .0) (record { threads = ys; cpus = ys′; nodes = ys″ })) ((no (leb ((a .1 .0) .kind) (4)) h₁ _ (no (eqb ((a .1 .0) .kind) (16)) h₂ _ (no (eqb ((a .1 .0) .kind) (17)) h₃ _ (no (eqb ((a .1 .0) .kind) (18)) h₄ _ (no (eqb ((a .1 .0) .kind) (19)) h₅ _ (no (eqb ((a .1 .0) .kind) (20)) h₆ _ (no (eqb ((a .1 .0) .kind) (21)) h₇ _ (no (eqb ((a .1 .0) .kind) (22)) h₈ _ (no (eqb ((a .1 .0) .kind) (23)) h₉ _ (no (eqb ((a .1 .0) .kind) (24)) h₁₀ _ (no (eqb ((a .1 .0) .kind) (25)) h₁₁ _ (refl)))))))))))))) $
           leaves3 ! Answered° Ds a (V₁₄ .answer) are (is₇₂)))))
 
       part-14 : (c₆ : Is u64 ((a .1 .0) .kind) ((number w64) .val ((a .1 .0) .kind) ∷ [])) (h₁ : Holds (not (leb ((a .1 .0) .kind) (4)))) (h₂ : Holds (not (eqb ((a .1 .0) .kind) (16)))) (h₃ : Holds (not (eqb ((a .1 .0) .kind) (17)))) (h₄ : Holds (not (eqb ((a .1 .0) .kind) (18)))) (h₅ : Holds (not (eqb ((a .1 .0) .kind) (19)))) (h₆ : Holds (not (eqb ((a .1 .0) .kind) (20)))) → Sq W (‵ (row Thread·.the-row fullShare (ys) b o) ∷ ‵ (kept Thread·.the-row κ q γ b o ys) ∷ ‵ (row (Array u64 96) fullShare (ys′) b′ o′) ∷ ‵ (kept (Array u64 96) κ′ q′ γ′ b′ o′ ys′) ∷ ‵ (row (Array u64 32) fullShare (ys″) b″ o″) ∷ ‵ (kept (Array u64 32) κ″ q″ γ″ b″ o″ ys″) ∷ standing 𝓤 mir.locals (l₀ ∷ l₁ ∷ l₂ ∷ l₃ ∷ l₄ ∷ l₅ ∷ l₆ ∷ l₇ ∷ l₈ ∷ l₉ ∷ l₁₀ ∷ l₁₁ ∷ l₁₂ ∷ l₁₃ ∷ l₁₄ ∷ l₁₅ ∷ l₁₆ ∷ l₁₇ ∷ l₁₈ ∷ l₁₉ ∷ l₂₀ ∷ l₂₁ ∷ l₂₂ ∷ l₂₃ ∷ l₂₄ ∷ l₂₅ ∷ l₂₆ ∷ l₂₇ ∷ l₂₈ ∷ l₂₉ ∷ l₃₀ ∷ l₃₁ ∷ l₃₂ ∷ l₃₃ ∷ l₃₄ ∷ l₃₅ ∷ l₃₆ ∷ l₃₇ ∷ l₃₈ ∷ l₃₉ ∷ l₄₀ ∷ l₄₁ ∷ l₄₂ ∷ l₄₃ ∷ l₄₄ ∷ l₄₅ ∷ l₄₆ ∷ l₄₇ ∷ l₄₈ ∷ l₄₉ ∷ l₅₀ ∷ l₅₁ ∷ l₅₂ ∷ l₅₃ ∷ []) (bare ∷ full s ∷ full s′ ∷ full s″ ∷ full (State° .val (a .0)) ∷ full (Call° .val (a .1 .0)) ∷ full ((number w64) .val ((a .1 .0) .kind)) ∷ bare ∷ bare ∷ bare ∷ bare ∷ bare ∷ bare ∷ bare ∷ bare ∷ bare ∷ bare ∷ bare ∷ bare ∷ bare ∷ bare ∷ bare ∷ bare ∷ bare ∷ bare ∷ bare ∷ bare ∷ bare ∷ bare ∷ bare ∷ bare ∷ bare ∷ bare ∷ bare ∷ bare ∷ bare ∷ bare ∷ bare ∷ bare ∷ bare ∷ bare ∷ bare ∷ bare ∷ bare ∷ bare ∷ bare ∷ bare ∷ bare ∷ bare ∷ bare ∷ bare ∷ bare ∷ bare ∷ bare ∷ []) []) (runs C Λ En mir.t-14 (atRet En Post))
-      unfolding obeyDef
+      unfolding obey-def
       part-14 c₆ h₁ h₂ h₃ h₄ h₅ h₆ =
           assigns ! (bin ! (load ! (from ! (stop !)) (look ! 100 refl)) (lit ! tt) tt) (from ! (stop !)) (init ! 98 refl (tt, tt)) $
           guards ! (load ! (from ! (stop !)) (look ! 98 refl))
@@ -337,7 +337,7 @@ module _ {M : Type 1} (𝓤 : URA M) (H : Heap 𝓤) (𝓜 : Model 𝓤 H) (𝓖
           returns-within ! Post refl (look ! 112 refl) $
           move ! (112 ∷ 113 ∷ 110 ∷ 111 ∷ 108 ∷ 109 ∷ 106 ∷ 107 ∷ 104 ∷ 105 ∷ 102 ∷ 103 ∷ 100 ∷ 101 ∷ 98 ∷ 99 ∷ 96 ∷ 97 ∷ 94 ∷ 95 ∷ 92 ∷ 93 ∷ 90 ∷ 91 ∷ 88 ∷ 89 ∷ 86 ∷ 87 ∷ 84 ∷ 85 ∷ 82 ∷ 83 ∷ 80 ∷ 81 ∷ 78 ∷ 79 ∷ 76 ∷ 77 ∷ 74 ∷ 75 ∷ 72 ∷ 73 ∷ 70 ∷ 71 ∷ 68 ∷ 69 ∷ 66 ∷ 67 ∷ 64 ∷ 65 ∷ 62 ∷ 63 ∷ 60 ∷ 61 ∷ 58 ∷ 59 ∷ 56 ∷ 57 ∷ 54 ∷ 55 ∷ 52 ∷ 53 ∷ 50 ∷ 51 ∷ 48 ∷ 49 ∷ 46 ∷ 47 ∷ 44 ∷ 45 ∷ 42 ∷ 43 ∷ 40 ∷ 41 ∷ 38 ∷ 39 ∷ 36 ∷ 37 ∷ 34 ∷ 35 ∷ 32 ∷ 33 ∷ 30 ∷ 31 ∷ 28 ∷ 29 ∷ 26 ∷ 27 ∷ 24 ∷ 25 ∷ 22 ∷ 23 ∷ 20 ∷ 21 ∷ 18 ∷ 19 ∷ 16 ∷ 17 ∷ 14 ∷ 15 ∷ 12 ∷ 13 ∷ 10 ∷ 11 ∷ 8 ∷ 9 ∷ 6 ∷ 7 ∷ []) $
           all-freed ! mir.locals (l₀ ∷ l₁ ∷ l₂ ∷ l₃ ∷ l₄ ∷ l₅ ∷ l₆ ∷ l₇ ∷ l₈ ∷ l₉ ∷ l₁₀ ∷ l₁₁ ∷ l₁₂ ∷ l₁₃ ∷ l₁₄ ∷ l₁₅ ∷ l₁₆ ∷ l₁₇ ∷ l₁₈ ∷ l₁₉ ∷ l₂₀ ∷ l₂₁ ∷ l₂₂ ∷ l₂₃ ∷ l₂₄ ∷ l₂₅ ∷ l₂₆ ∷ l₂₇ ∷ l₂₈ ∷ l₂₉ ∷ l₃₀ ∷ l₃₁ ∷ l₃₂ ∷ l₃₃ ∷ l₃₄ ∷ l₃₅ ∷ l₃₆ ∷ l₃₇ ∷ l₃₈ ∷ l₃₉ ∷ l₄₀ ∷ l₄₁ ∷ l₄₂ ∷ l₄₃ ∷ l₄₄ ∷ l₄₅ ∷ l₄₆ ∷ l₄₇ ∷ l₄₈ ∷ l₄₉ ∷ l₅₀ ∷ l₅₁ ∷ l₅₂ ∷ l₅₃ ∷ []) (full _ ∷ full _ ∷ full _ ∷ full _ ∷ full _ ∷ full _ ∷ full _ ∷ full _ ∷ bare ∷ bare ∷ bare ∷ bare ∷ bare ∷ bare ∷ bare ∷ bare ∷ bare ∷ bare ∷ bare ∷ bare ∷ bare ∷ bare ∷ bare ∷ bare ∷ bare ∷ bare ∷ bare ∷ bare ∷ bare ∷ bare ∷ full _ ∷ full _ ∷ full _ ∷ full _ ∷ full _ ∷ full _ ∷ bare ∷ bare ∷ bare ∷ bare ∷ bare ∷ bare ∷ bare ∷ bare ∷ bare ∷ bare ∷ bare ∷ bare ∷ bare ∷ bare ∷ bare ∷ bare ∷ bare ∷ bare ∷ []) tt $
-          suffices ! _ (ends-at 𝓤 H A obey.ended stayed c W y _ (V₉ .answer) (V₉ .memory .threads, (V₉ .memory .cpus, (ys″, (tt, (tt, tt))))) (sym ((refl ∙ sym (subst (λ (us : List Thread). length us ≡ length ys) (e₄₁ .1 .0) (ls₄₀ .0)))), (sym ((refl ∙ sym (subst (λ (us : List (List ℕ)). length us ≡ length ys′) (e₄₁ .1 .1) (ls₄₀ .1 .0)))), (sym refl, (tt, (tt, tt)))))) $ says ! (so {X = Left Answered Lent} (record { answer = (V₉ .answer); memory = record { threads = (V₉ .memory .threads); cpus = (V₉ .memory .cpus); nodes = ys″ } }) (obeyDef (a .0) (a .1 .0) (record { threads = ys; cpus = ys′; nodes = ys″ })) ((no (leb ((a .1 .0) .kind) (4)) h₁ _ (no (eqb ((a .1 .0) .kind) (16)) h₂ _ (no (eqb ((a .1 .0) .kind) (17)) h₃ _ (no (eqb ((a .1 .0) .kind) (18)) h₄ _ (no (eqb ((a .1 .0) .kind) (19)) h₅ _ (no (eqb ((a .1 .0) .kind) (20)) h₆ _ (yes (eqb ((a .1 .0) .kind) (21)) h₇ _ (refl)))))))))) $
+          suffices ! _ (ends-at 𝓤 H A obey.ended stayed c W y _ (V₉ .answer) (V₉ .memory .threads, (V₉ .memory .cpus, (ys″, (tt, (tt, tt))))) (sym ((refl ∙ sym (subst (λ (us : List Thread). length us ≡ length ys) (e₄₁ .1 .0) (ls₄₀ .0)))), (sym ((refl ∙ sym (subst (λ (us : List (List ℕ)). length us ≡ length ys′) (e₄₁ .1 .1) (ls₄₀ .1 .0)))), (sym refl, (tt, (tt, tt)))))) $ says ! (so {X = Left Answered Lent} (record { answer = (V₉ .answer); memory = record { threads = (V₉ .memory .threads); cpus = (V₉ .memory .cpus); nodes = ys″ } }) (obey-def (a .0) (a .1 .0) (record { threads = ys; cpus = ys′; nodes = ys″ })) ((no (leb ((a .1 .0) .kind) (4)) h₁ _ (no (eqb ((a .1 .0) .kind) (16)) h₂ _ (no (eqb ((a .1 .0) .kind) (17)) h₃ _ (no (eqb ((a .1 .0) .kind) (18)) h₄ _ (no (eqb ((a .1 .0) .kind) (19)) h₅ _ (no (eqb ((a .1 .0) .kind) (20)) h₆ _ (yes (eqb ((a .1 .0) .kind) (21)) h₇ _ (refl)))))))))) $
           leaves3 ! Answered° Ds a (V₉ .answer) are (is₄₂))))
           (λ h₇.
           assigns ! (bin ! (load ! (from ! (stop !)) (look ! 100 refl)) (lit ! tt) tt) (from ! (stop !)) (store ! 98 refl (tt, tt)) $
@@ -372,7 +372,7 @@ module _ {M : Type 1} (𝓤 : URA M) (H : Heap 𝓤) (𝓜 : Model 𝓤 H) (𝓖
           returns-within ! Post refl (look ! 112 refl) $
           move ! (112 ∷ 113 ∷ 110 ∷ 111 ∷ 108 ∷ 109 ∷ 106 ∷ 107 ∷ 104 ∷ 105 ∷ 102 ∷ 103 ∷ 100 ∷ 101 ∷ 98 ∷ 99 ∷ 96 ∷ 97 ∷ 94 ∷ 95 ∷ 92 ∷ 93 ∷ 90 ∷ 91 ∷ 88 ∷ 89 ∷ 86 ∷ 87 ∷ 84 ∷ 85 ∷ 82 ∷ 83 ∷ 80 ∷ 81 ∷ 78 ∷ 79 ∷ 76 ∷ 77 ∷ 74 ∷ 75 ∷ 72 ∷ 73 ∷ 70 ∷ 71 ∷ 68 ∷ 69 ∷ 66 ∷ 67 ∷ 64 ∷ 65 ∷ 62 ∷ 63 ∷ 60 ∷ 61 ∷ 58 ∷ 59 ∷ 56 ∷ 57 ∷ 54 ∷ 55 ∷ 52 ∷ 53 ∷ 50 ∷ 51 ∷ 48 ∷ 49 ∷ 46 ∷ 47 ∷ 44 ∷ 45 ∷ 42 ∷ 43 ∷ 40 ∷ 41 ∷ 38 ∷ 39 ∷ 36 ∷ 37 ∷ 34 ∷ 35 ∷ 32 ∷ 33 ∷ 30 ∷ 31 ∷ 28 ∷ 29 ∷ 26 ∷ 27 ∷ 24 ∷ 25 ∷ 22 ∷ 23 ∷ 20 ∷ 21 ∷ 18 ∷ 19 ∷ 16 ∷ 17 ∷ 14 ∷ 15 ∷ 12 ∷ 13 ∷ 10 ∷ 11 ∷ 8 ∷ 9 ∷ 6 ∷ 7 ∷ []) $
           all-freed ! mir.locals (l₀ ∷ l₁ ∷ l₂ ∷ l₃ ∷ l₄ ∷ l₅ ∷ l₆ ∷ l₇ ∷ l₈ ∷ l₉ ∷ l₁₀ ∷ l₁₁ ∷ l₁₂ ∷ l₁₃ ∷ l₁₄ ∷ l₁₅ ∷ l₁₆ ∷ l₁₇ ∷ l₁₈ ∷ l₁₉ ∷ l₂₀ ∷ l₂₁ ∷ l₂₂ ∷ l₂₃ ∷ l₂₄ ∷ l₂₅ ∷ l₂₆ ∷ l₂₇ ∷ l₂₈ ∷ l₂₉ ∷ l₃₀ ∷ l₃₁ ∷ l₃₂ ∷ l₃₃ ∷ l₃₄ ∷ l₃₅ ∷ l₃₆ ∷ l₃₇ ∷ l₃₈ ∷ l₃₉ ∷ l₄₀ ∷ l₄₁ ∷ l₄₂ ∷ l₄₃ ∷ l₄₄ ∷ l₄₅ ∷ l₄₆ ∷ l₄₇ ∷ l₄₈ ∷ l₄₉ ∷ l₅₀ ∷ l₅₁ ∷ l₅₂ ∷ l₅₃ ∷ []) (full _ ∷ full _ ∷ full _ ∷ full _ ∷ full _ ∷ full _ ∷ full _ ∷ full _ ∷ bare ∷ bare ∷ bare ∷ bare ∷ bare ∷ bare ∷ bare ∷ bare ∷ bare ∷ bare ∷ bare ∷ bare ∷ bare ∷ bare ∷ bare ∷ bare ∷ bare ∷ bare ∷ bare ∷ bare ∷ bare ∷ bare ∷ bare ∷ bare ∷ bare ∷ bare ∷ bare ∷ bare ∷ full _ ∷ full _ ∷ full _ ∷ full _ ∷ bare ∷ bare ∷ bare ∷ bare ∷ bare ∷ bare ∷ bare ∷ bare ∷ bare ∷ bare ∷ bare ∷ bare ∷ bare ∷ bare ∷ []) tt $
-          suffices ! _ (ends-at 𝓤 H A obey.ended stayed c W y _ (V₁₀ .answer) (ys, (V₁₀ .memory, (ys″, (tt, (tt, tt))))) (sym refl, (sym ((refl ∙ sym (subst (λ (us : List (List ℕ)). length us ≡ length ys′) (e₄₇ .1) (ls₄₆ .1 .0)))), (sym refl, (tt, (tt, tt)))))) $ says ! (so {X = Left Answered Lent} (record { answer = (V₁₀ .answer); memory = record { threads = ys; cpus = (V₁₀ .memory); nodes = ys″ } }) (obeyDef (a .0) (a .1 .0) (record { threads = ys; cpus = ys′; nodes = ys″ })) ((no (leb ((a .1 .0) .kind) (4)) h₁ _ (no (eqb ((a .1 .0) .kind) (16)) h₂ _ (no (eqb ((a .1 .0) .kind) (17)) h₃ _ (no (eqb ((a .1 .0) .kind) (18)) h₄ _ (no (eqb ((a .1 .0) .kind) (19)) h₅ _ (no (eqb ((a .1 .0) .kind) (20)) h₆ _ (no (eqb ((a .1 .0) .kind) (21)) h₇ _ (yes (eqb ((a .1 .0) .kind) (22)) h₈ _ (refl))))))))))) $
+          suffices ! _ (ends-at 𝓤 H A obey.ended stayed c W y _ (V₁₀ .answer) (ys, (V₁₀ .memory, (ys″, (tt, (tt, tt))))) (sym refl, (sym ((refl ∙ sym (subst (λ (us : List (List ℕ)). length us ≡ length ys′) (e₄₇ .1) (ls₄₆ .1 .0)))), (sym refl, (tt, (tt, tt)))))) $ says ! (so {X = Left Answered Lent} (record { answer = (V₁₀ .answer); memory = record { threads = ys; cpus = (V₁₀ .memory); nodes = ys″ } }) (obey-def (a .0) (a .1 .0) (record { threads = ys; cpus = ys′; nodes = ys″ })) ((no (leb ((a .1 .0) .kind) (4)) h₁ _ (no (eqb ((a .1 .0) .kind) (16)) h₂ _ (no (eqb ((a .1 .0) .kind) (17)) h₃ _ (no (eqb ((a .1 .0) .kind) (18)) h₄ _ (no (eqb ((a .1 .0) .kind) (19)) h₅ _ (no (eqb ((a .1 .0) .kind) (20)) h₆ _ (no (eqb ((a .1 .0) .kind) (21)) h₇ _ (yes (eqb ((a .1 .0) .kind) (22)) h₈ _ (refl))))))))))) $
           leaves3 ! Answered° Ds a (V₁₀ .answer) are (is₄₈))))
           (λ h₈.
           assigns ! (bin ! (load ! (from ! (stop !)) (look ! 100 refl)) (lit ! tt) tt) (from ! (stop !)) (store ! 98 refl (tt, tt)) $
@@ -414,14 +414,14 @@ module _ {M : Type 1} (𝓤 : URA M) (H : Heap 𝓤) (𝓜 : Model 𝓤 H) (𝓖
           returns-within ! Post refl (look ! 112 refl) $
           move ! (112 ∷ 113 ∷ 110 ∷ 111 ∷ 108 ∷ 109 ∷ 106 ∷ 107 ∷ 104 ∷ 105 ∷ 102 ∷ 103 ∷ 100 ∷ 101 ∷ 98 ∷ 99 ∷ 96 ∷ 97 ∷ 94 ∷ 95 ∷ 92 ∷ 93 ∷ 90 ∷ 91 ∷ 88 ∷ 89 ∷ 86 ∷ 87 ∷ 84 ∷ 85 ∷ 82 ∷ 83 ∷ 80 ∷ 81 ∷ 78 ∷ 79 ∷ 76 ∷ 77 ∷ 74 ∷ 75 ∷ 72 ∷ 73 ∷ 70 ∷ 71 ∷ 68 ∷ 69 ∷ 66 ∷ 67 ∷ 64 ∷ 65 ∷ 62 ∷ 63 ∷ 60 ∷ 61 ∷ 58 ∷ 59 ∷ 56 ∷ 57 ∷ 54 ∷ 55 ∷ 52 ∷ 53 ∷ 50 ∷ 51 ∷ 48 ∷ 49 ∷ 46 ∷ 47 ∷ 44 ∷ 45 ∷ 42 ∷ 43 ∷ 40 ∷ 41 ∷ 38 ∷ 39 ∷ 36 ∷ 37 ∷ 34 ∷ 35 ∷ 32 ∷ 33 ∷ 30 ∷ 31 ∷ 28 ∷ 29 ∷ 26 ∷ 27 ∷ 24 ∷ 25 ∷ 22 ∷ 23 ∷ 20 ∷ 21 ∷ 18 ∷ 19 ∷ 16 ∷ 17 ∷ 14 ∷ 15 ∷ 12 ∷ 13 ∷ 10 ∷ 11 ∷ 8 ∷ 9 ∷ 6 ∷ 7 ∷ []) $
           all-freed ! mir.locals (l₀ ∷ l₁ ∷ l₂ ∷ l₃ ∷ l₄ ∷ l₅ ∷ l₆ ∷ l₇ ∷ l₈ ∷ l₉ ∷ l₁₀ ∷ l₁₁ ∷ l₁₂ ∷ l₁₃ ∷ l₁₄ ∷ l₁₅ ∷ l₁₆ ∷ l₁₇ ∷ l₁₈ ∷ l₁₉ ∷ l₂₀ ∷ l₂₁ ∷ l₂₂ ∷ l₂₃ ∷ l₂₄ ∷ l₂₅ ∷ l₂₆ ∷ l₂₇ ∷ l₂₈ ∷ l₂₉ ∷ l₃₀ ∷ l₃₁ ∷ l₃₂ ∷ l₃₃ ∷ l₃₄ ∷ l₃₅ ∷ l₃₆ ∷ l₃₇ ∷ l₃₈ ∷ l₃₉ ∷ l₄₀ ∷ l₄₁ ∷ l₄₂ ∷ l₄₃ ∷ l₄₄ ∷ l₄₅ ∷ l₄₆ ∷ l₄₇ ∷ l₄₈ ∷ l₄₉ ∷ l₅₀ ∷ l₅₁ ∷ l₅₂ ∷ l₅₃ ∷ []) (full _ ∷ full _ ∷ full _ ∷ full _ ∷ full _ ∷ full _ ∷ full _ ∷ full _ ∷ bare ∷ bare ∷ bare ∷ bare ∷ bare ∷ bare ∷ bare ∷ bare ∷ bare ∷ bare ∷ bare ∷ bare ∷ bare ∷ bare ∷ bare ∷ bare ∷ bare ∷ bare ∷ bare ∷ bare ∷ bare ∷ bare ∷ bare ∷ bare ∷ bare ∷ bare ∷ bare ∷ bare ∷ bare ∷ bare ∷ bare ∷ bare ∷ full _ ∷ full _ ∷ full _ ∷ full _ ∷ full _ ∷ full _ ∷ bare ∷ bare ∷ bare ∷ bare ∷ bare ∷ bare ∷ bare ∷ bare ∷ []) tt $
-          suffices ! _ (ends-at 𝓤 H A obey.ended stayed c W y _ (V₁₁ .answer) (V₁₁ .memory .threads, (V₁₁ .memory .cpus, (ys″, (tt, (tt, tt))))) (sym ((refl ∙ sym (subst (λ (us : List Thread). length us ≡ length ys) (e₅₃ .1 .0) (ls₅₂ .0)))), (sym ((refl ∙ sym (subst (λ (us : List (List ℕ)). length us ≡ length ys′) (e₅₃ .1 .1) (ls₅₂ .1 .0)))), (sym refl, (tt, (tt, tt)))))) $ says ! (so {X = Left Answered Lent} (record { answer = (V₁₁ .answer); memory = record { threads = (V₁₁ .memory .threads); cpus = (V₁₁ .memory .cpus); nodes = ys″ } }) (obeyDef (a .0) (a .1 .0) (record { threads = ys; cpus = ys′; nodes = ys″ })) ((no (leb ((a .1 .0) .kind) (4)) h₁ _ (no (eqb ((a .1 .0) .kind) (16)) h₂ _ (no (eqb ((a .1 .0) .kind) (17)) h₃ _ (no (eqb ((a .1 .0) .kind) (18)) h₄ _ (no (eqb ((a .1 .0) .kind) (19)) h₅ _ (no (eqb ((a .1 .0) .kind) (20)) h₆ _ (no (eqb ((a .1 .0) .kind) (21)) h₇ _ (no (eqb ((a .1 .0) .kind) (22)) h₈ _ (yes (eqb ((a .1 .0) .kind) (23)) h₉ _ (refl)))))))))))) $
+          suffices ! _ (ends-at 𝓤 H A obey.ended stayed c W y _ (V₁₁ .answer) (V₁₁ .memory .threads, (V₁₁ .memory .cpus, (ys″, (tt, (tt, tt))))) (sym ((refl ∙ sym (subst (λ (us : List Thread). length us ≡ length ys) (e₅₃ .1 .0) (ls₅₂ .0)))), (sym ((refl ∙ sym (subst (λ (us : List (List ℕ)). length us ≡ length ys′) (e₅₃ .1 .1) (ls₅₂ .1 .0)))), (sym refl, (tt, (tt, tt)))))) $ says ! (so {X = Left Answered Lent} (record { answer = (V₁₁ .answer); memory = record { threads = (V₁₁ .memory .threads); cpus = (V₁₁ .memory .cpus); nodes = ys″ } }) (obey-def (a .0) (a .1 .0) (record { threads = ys; cpus = ys′; nodes = ys″ })) ((no (leb ((a .1 .0) .kind) (4)) h₁ _ (no (eqb ((a .1 .0) .kind) (16)) h₂ _ (no (eqb ((a .1 .0) .kind) (17)) h₃ _ (no (eqb ((a .1 .0) .kind) (18)) h₄ _ (no (eqb ((a .1 .0) .kind) (19)) h₅ _ (no (eqb ((a .1 .0) .kind) (20)) h₆ _ (no (eqb ((a .1 .0) .kind) (21)) h₇ _ (no (eqb ((a .1 .0) .kind) (22)) h₈ _ (yes (eqb ((a .1 .0) .kind) (23)) h₉ _ (refl)))))))))))) $
           leaves3 ! Answered° Ds a (V₁₁ .answer) are (is₅₄))))
           (λ h₉.
           forget ! 98 refl $
           part-20 c₆ h₁ h₂ h₃ h₄ h₅ h₆ h₇ h₈ h₉)))
 
       part-8 : (c₆ : Is u64 ((a .1 .0) .kind) ((number w64) .val ((a .1 .0) .kind) ∷ [])) (h₁ : Holds (not (leb ((a .1 .0) .kind) (4)))) (h₂ : Holds (not (eqb ((a .1 .0) .kind) (16)))) (h₃ : Holds (not (eqb ((a .1 .0) .kind) (17)))) → Sq W (‵ (row Thread·.the-row fullShare (ys) b o) ∷ ‵ (kept Thread·.the-row κ q γ b o ys) ∷ ‵ (row (Array u64 96) fullShare (ys′) b′ o′) ∷ ‵ (kept (Array u64 96) κ′ q′ γ′ b′ o′ ys′) ∷ ‵ (row (Array u64 32) fullShare (ys″) b″ o″) ∷ ‵ (kept (Array u64 32) κ″ q″ γ″ b″ o″ ys″) ∷ standing 𝓤 mir.locals (l₀ ∷ l₁ ∷ l₂ ∷ l₃ ∷ l₄ ∷ l₅ ∷ l₆ ∷ l₇ ∷ l₈ ∷ l₉ ∷ l₁₀ ∷ l₁₁ ∷ l₁₂ ∷ l₁₃ ∷ l₁₄ ∷ l₁₅ ∷ l₁₆ ∷ l₁₇ ∷ l₁₈ ∷ l₁₉ ∷ l₂₀ ∷ l₂₁ ∷ l₂₂ ∷ l₂₃ ∷ l₂₄ ∷ l₂₅ ∷ l₂₆ ∷ l₂₇ ∷ l₂₈ ∷ l₂₉ ∷ l₃₀ ∷ l₃₁ ∷ l₃₂ ∷ l₃₃ ∷ l₃₄ ∷ l₃₅ ∷ l₃₆ ∷ l₃₇ ∷ l₃₈ ∷ l₃₉ ∷ l₄₀ ∷ l₄₁ ∷ l₄₂ ∷ l₄₃ ∷ l₄₄ ∷ l₄₅ ∷ l₄₆ ∷ l₄₇ ∷ l₄₈ ∷ l₄₉ ∷ l₅₀ ∷ l₅₁ ∷ l₅₂ ∷ l₅₃ ∷ []) (bare ∷ full s ∷ full s′ ∷ full s″ ∷ full (State° .val (a .0)) ∷ full (Call° .val (a .1 .0)) ∷ full ((number w64) .val ((a .1 .0) .kind)) ∷ bare ∷ bare ∷ bare ∷ bare ∷ bare ∷ bare ∷ bare ∷ bare ∷ bare ∷ bare ∷ bare ∷ bare ∷ bare ∷ bare ∷ bare ∷ bare ∷ bare ∷ bare ∷ bare ∷ bare ∷ bare ∷ bare ∷ bare ∷ bare ∷ bare ∷ bare ∷ bare ∷ bare ∷ bare ∷ bare ∷ bare ∷ bare ∷ bare ∷ bare ∷ bare ∷ bare ∷ bare ∷ bare ∷ bare ∷ bare ∷ bare ∷ bare ∷ bare ∷ bare ∷ bare ∷ bare ∷ bare ∷ []) []) (runs C Λ En mir.t-8 (atRet En Post))
-      unfolding obeyDef
+      unfolding obey-def
       part-8 c₆ h₁ h₂ h₃ =
           assigns ! (bin ! (load ! (from ! (stop !)) (look ! 100 refl)) (lit ! tt) tt) (from ! (stop !)) (init ! 98 refl (tt, tt)) $
           guards ! (load ! (from ! (stop !)) (look ! 98 refl))
@@ -462,7 +462,7 @@ module _ {M : Type 1} (𝓤 : URA M) (H : Heap 𝓤) (𝓜 : Model 𝓤 H) (𝓖
           returns-within ! Post refl (look ! 112 refl) $
           move ! (112 ∷ 113 ∷ 110 ∷ 111 ∷ 108 ∷ 109 ∷ 106 ∷ 107 ∷ 104 ∷ 105 ∷ 102 ∷ 103 ∷ 100 ∷ 101 ∷ 98 ∷ 99 ∷ 96 ∷ 97 ∷ 94 ∷ 95 ∷ 92 ∷ 93 ∷ 90 ∷ 91 ∷ 88 ∷ 89 ∷ 86 ∷ 87 ∷ 84 ∷ 85 ∷ 82 ∷ 83 ∷ 80 ∷ 81 ∷ 78 ∷ 79 ∷ 76 ∷ 77 ∷ 74 ∷ 75 ∷ 72 ∷ 73 ∷ 70 ∷ 71 ∷ 68 ∷ 69 ∷ 66 ∷ 67 ∷ 64 ∷ 65 ∷ 62 ∷ 63 ∷ 60 ∷ 61 ∷ 58 ∷ 59 ∷ 56 ∷ 57 ∷ 54 ∷ 55 ∷ 52 ∷ 53 ∷ 50 ∷ 51 ∷ 48 ∷ 49 ∷ 46 ∷ 47 ∷ 44 ∷ 45 ∷ 42 ∷ 43 ∷ 40 ∷ 41 ∷ 38 ∷ 39 ∷ 36 ∷ 37 ∷ 34 ∷ 35 ∷ 32 ∷ 33 ∷ 30 ∷ 31 ∷ 28 ∷ 29 ∷ 26 ∷ 27 ∷ 24 ∷ 25 ∷ 22 ∷ 23 ∷ 20 ∷ 21 ∷ 18 ∷ 19 ∷ 16 ∷ 17 ∷ 14 ∷ 15 ∷ 12 ∷ 13 ∷ 10 ∷ 11 ∷ 8 ∷ 9 ∷ 6 ∷ 7 ∷ []) $
           all-freed ! mir.locals (l₀ ∷ l₁ ∷ l₂ ∷ l₃ ∷ l₄ ∷ l₅ ∷ l₆ ∷ l₇ ∷ l₈ ∷ l₉ ∷ l₁₀ ∷ l₁₁ ∷ l₁₂ ∷ l₁₃ ∷ l₁₄ ∷ l₁₅ ∷ l₁₆ ∷ l₁₇ ∷ l₁₈ ∷ l₁₉ ∷ l₂₀ ∷ l₂₁ ∷ l₂₂ ∷ l₂₃ ∷ l₂₄ ∷ l₂₅ ∷ l₂₆ ∷ l₂₇ ∷ l₂₈ ∷ l₂₉ ∷ l₃₀ ∷ l₃₁ ∷ l₃₂ ∷ l₃₃ ∷ l₃₄ ∷ l₃₅ ∷ l₃₆ ∷ l₃₇ ∷ l₃₈ ∷ l₃₉ ∷ l₄₀ ∷ l₄₁ ∷ l₄₂ ∷ l₄₃ ∷ l₄₄ ∷ l₄₅ ∷ l₄₆ ∷ l₄₇ ∷ l₄₈ ∷ l₄₉ ∷ l₅₀ ∷ l₅₁ ∷ l₅₂ ∷ l₅₃ ∷ []) (full _ ∷ full _ ∷ full _ ∷ full _ ∷ full _ ∷ full _ ∷ full _ ∷ full _ ∷ bare ∷ bare ∷ bare ∷ bare ∷ bare ∷ bare ∷ full _ ∷ full _ ∷ full _ ∷ full _ ∷ full _ ∷ full _ ∷ bare ∷ bare ∷ bare ∷ bare ∷ bare ∷ bare ∷ bare ∷ bare ∷ bare ∷ bare ∷ bare ∷ bare ∷ bare ∷ bare ∷ bare ∷ bare ∷ bare ∷ bare ∷ bare ∷ bare ∷ bare ∷ bare ∷ bare ∷ bare ∷ bare ∷ bare ∷ bare ∷ bare ∷ bare ∷ bare ∷ bare ∷ bare ∷ bare ∷ bare ∷ []) tt $
-          suffices ! _ (ends-at 𝓤 H A obey.ended stayed c W y _ (V₆ .answer) (V₆ .memory .threads, (V₆ .memory .cpus, (ys″, (tt, (tt, tt))))) (sym ((refl ∙ sym (subst (λ (us : List Thread). length us ≡ length ys) (e₂₃ .1 .0) (ls₂₂ .0)))), (sym ((refl ∙ sym (subst (λ (us : List (List ℕ)). length us ≡ length ys′) (e₂₃ .1 .1) (ls₂₂ .1 .0)))), (sym refl, (tt, (tt, tt)))))) $ says ! (so {X = Left Answered Lent} (record { answer = (V₆ .answer); memory = record { threads = (V₆ .memory .threads); cpus = (V₆ .memory .cpus); nodes = ys″ } }) (obeyDef (a .0) (a .1 .0) (record { threads = ys; cpus = ys′; nodes = ys″ })) ((no (leb ((a .1 .0) .kind) (4)) h₁ _ (no (eqb ((a .1 .0) .kind) (16)) h₂ _ (no (eqb ((a .1 .0) .kind) (17)) h₃ _ (yes (eqb ((a .1 .0) .kind) (18)) h₄ _ (refl))))))) $
+          suffices ! _ (ends-at 𝓤 H A obey.ended stayed c W y _ (V₆ .answer) (V₆ .memory .threads, (V₆ .memory .cpus, (ys″, (tt, (tt, tt))))) (sym ((refl ∙ sym (subst (λ (us : List Thread). length us ≡ length ys) (e₂₃ .1 .0) (ls₂₂ .0)))), (sym ((refl ∙ sym (subst (λ (us : List (List ℕ)). length us ≡ length ys′) (e₂₃ .1 .1) (ls₂₂ .1 .0)))), (sym refl, (tt, (tt, tt)))))) $ says ! (so {X = Left Answered Lent} (record { answer = (V₆ .answer); memory = record { threads = (V₆ .memory .threads); cpus = (V₆ .memory .cpus); nodes = ys″ } }) (obey-def (a .0) (a .1 .0) (record { threads = ys; cpus = ys′; nodes = ys″ })) ((no (leb ((a .1 .0) .kind) (4)) h₁ _ (no (eqb ((a .1 .0) .kind) (16)) h₂ _ (no (eqb ((a .1 .0) .kind) (17)) h₃ _ (yes (eqb ((a .1 .0) .kind) (18)) h₄ _ (refl))))))) $
           leaves3 ! Answered° Ds a (V₆ .answer) are (is₂₄))))
           (λ h₄.
           assigns ! (bin ! (load ! (from ! (stop !)) (look ! 100 refl)) (lit ! tt) tt) (from ! (stop !)) (store ! 98 refl (tt, tt)) $
@@ -504,7 +504,7 @@ module _ {M : Type 1} (𝓤 : URA M) (H : Heap 𝓤) (𝓜 : Model 𝓤 H) (𝓖
           returns-within ! Post refl (look ! 112 refl) $
           move ! (112 ∷ 113 ∷ 110 ∷ 111 ∷ 108 ∷ 109 ∷ 106 ∷ 107 ∷ 104 ∷ 105 ∷ 102 ∷ 103 ∷ 100 ∷ 101 ∷ 98 ∷ 99 ∷ 96 ∷ 97 ∷ 94 ∷ 95 ∷ 92 ∷ 93 ∷ 90 ∷ 91 ∷ 88 ∷ 89 ∷ 86 ∷ 87 ∷ 84 ∷ 85 ∷ 82 ∷ 83 ∷ 80 ∷ 81 ∷ 78 ∷ 79 ∷ 76 ∷ 77 ∷ 74 ∷ 75 ∷ 72 ∷ 73 ∷ 70 ∷ 71 ∷ 68 ∷ 69 ∷ 66 ∷ 67 ∷ 64 ∷ 65 ∷ 62 ∷ 63 ∷ 60 ∷ 61 ∷ 58 ∷ 59 ∷ 56 ∷ 57 ∷ 54 ∷ 55 ∷ 52 ∷ 53 ∷ 50 ∷ 51 ∷ 48 ∷ 49 ∷ 46 ∷ 47 ∷ 44 ∷ 45 ∷ 42 ∷ 43 ∷ 40 ∷ 41 ∷ 38 ∷ 39 ∷ 36 ∷ 37 ∷ 34 ∷ 35 ∷ 32 ∷ 33 ∷ 30 ∷ 31 ∷ 28 ∷ 29 ∷ 26 ∷ 27 ∷ 24 ∷ 25 ∷ 22 ∷ 23 ∷ 20 ∷ 21 ∷ 18 ∷ 19 ∷ 16 ∷ 17 ∷ 14 ∷ 15 ∷ 12 ∷ 13 ∷ 10 ∷ 11 ∷ 8 ∷ 9 ∷ 6 ∷ 7 ∷ []) $
           all-freed ! mir.locals (l₀ ∷ l₁ ∷ l₂ ∷ l₃ ∷ l₄ ∷ l₅ ∷ l₆ ∷ l₇ ∷ l₈ ∷ l₉ ∷ l₁₀ ∷ l₁₁ ∷ l₁₂ ∷ l₁₃ ∷ l₁₄ ∷ l₁₅ ∷ l₁₆ ∷ l₁₇ ∷ l₁₈ ∷ l₁₉ ∷ l₂₀ ∷ l₂₁ ∷ l₂₂ ∷ l₂₃ ∷ l₂₄ ∷ l₂₅ ∷ l₂₆ ∷ l₂₇ ∷ l₂₈ ∷ l₂₉ ∷ l₃₀ ∷ l₃₁ ∷ l₃₂ ∷ l₃₃ ∷ l₃₄ ∷ l₃₅ ∷ l₃₆ ∷ l₃₇ ∷ l₃₈ ∷ l₃₉ ∷ l₄₀ ∷ l₄₁ ∷ l₄₂ ∷ l₄₃ ∷ l₄₄ ∷ l₄₅ ∷ l₄₆ ∷ l₄₇ ∷ l₄₈ ∷ l₄₉ ∷ l₅₀ ∷ l₅₁ ∷ l₅₂ ∷ l₅₃ ∷ []) (full _ ∷ full _ ∷ full _ ∷ full _ ∷ full _ ∷ full _ ∷ full _ ∷ full _ ∷ bare ∷ bare ∷ bare ∷ bare ∷ bare ∷ bare ∷ bare ∷ bare ∷ bare ∷ bare ∷ bare ∷ bare ∷ full _ ∷ full _ ∷ full _ ∷ full _ ∷ full _ ∷ full _ ∷ bare ∷ bare ∷ bare ∷ bare ∷ bare ∷ bare ∷ bare ∷ bare ∷ bare ∷ bare ∷ bare ∷ bare ∷ bare ∷ bare ∷ bare ∷ bare ∷ bare ∷ bare ∷ bare ∷ bare ∷ bare ∷ bare ∷ bare ∷ bare ∷ bare ∷ bare ∷ bare ∷ bare ∷ []) tt $
-          suffices ! _ (ends-at 𝓤 H A obey.ended stayed c W y _ (V₇ .answer) (V₇ .memory .threads, (V₇ .memory .cpus, (ys″, (tt, (tt, tt))))) (sym ((refl ∙ sym (subst (λ (us : List Thread). length us ≡ length ys) (e₂₉ .1 .0) (ls₂₈ .0)))), (sym ((refl ∙ sym (subst (λ (us : List (List ℕ)). length us ≡ length ys′) (e₂₉ .1 .1) (ls₂₈ .1 .0)))), (sym refl, (tt, (tt, tt)))))) $ says ! (so {X = Left Answered Lent} (record { answer = (V₇ .answer); memory = record { threads = (V₇ .memory .threads); cpus = (V₇ .memory .cpus); nodes = ys″ } }) (obeyDef (a .0) (a .1 .0) (record { threads = ys; cpus = ys′; nodes = ys″ })) ((no (leb ((a .1 .0) .kind) (4)) h₁ _ (no (eqb ((a .1 .0) .kind) (16)) h₂ _ (no (eqb ((a .1 .0) .kind) (17)) h₃ _ (no (eqb ((a .1 .0) .kind) (18)) h₄ _ (yes (eqb ((a .1 .0) .kind) (19)) h₅ _ (refl)))))))) $
+          suffices ! _ (ends-at 𝓤 H A obey.ended stayed c W y _ (V₇ .answer) (V₇ .memory .threads, (V₇ .memory .cpus, (ys″, (tt, (tt, tt))))) (sym ((refl ∙ sym (subst (λ (us : List Thread). length us ≡ length ys) (e₂₉ .1 .0) (ls₂₈ .0)))), (sym ((refl ∙ sym (subst (λ (us : List (List ℕ)). length us ≡ length ys′) (e₂₉ .1 .1) (ls₂₈ .1 .0)))), (sym refl, (tt, (tt, tt)))))) $ says ! (so {X = Left Answered Lent} (record { answer = (V₇ .answer); memory = record { threads = (V₇ .memory .threads); cpus = (V₇ .memory .cpus); nodes = ys″ } }) (obey-def (a .0) (a .1 .0) (record { threads = ys; cpus = ys′; nodes = ys″ })) ((no (leb ((a .1 .0) .kind) (4)) h₁ _ (no (eqb ((a .1 .0) .kind) (16)) h₂ _ (no (eqb ((a .1 .0) .kind) (17)) h₃ _ (no (eqb ((a .1 .0) .kind) (18)) h₄ _ (yes (eqb ((a .1 .0) .kind) (19)) h₅ _ (refl)))))))) $
           leaves3 ! Answered° Ds a (V₇ .answer) are (is₃₀))))
           (λ h₅.
           assigns ! (bin ! (load ! (from ! (stop !)) (look ! 100 refl)) (lit ! tt) tt) (from ! (stop !)) (store ! 98 refl (tt, tt)) $
@@ -540,14 +540,14 @@ module _ {M : Type 1} (𝓤 : URA M) (H : Heap 𝓤) (𝓜 : Model 𝓤 H) (𝓖
           returns-within ! Post refl (look ! 112 refl) $
           move ! (112 ∷ 113 ∷ 110 ∷ 111 ∷ 108 ∷ 109 ∷ 106 ∷ 107 ∷ 104 ∷ 105 ∷ 102 ∷ 103 ∷ 100 ∷ 101 ∷ 98 ∷ 99 ∷ 96 ∷ 97 ∷ 94 ∷ 95 ∷ 92 ∷ 93 ∷ 90 ∷ 91 ∷ 88 ∷ 89 ∷ 86 ∷ 87 ∷ 84 ∷ 85 ∷ 82 ∷ 83 ∷ 80 ∷ 81 ∷ 78 ∷ 79 ∷ 76 ∷ 77 ∷ 74 ∷ 75 ∷ 72 ∷ 73 ∷ 70 ∷ 71 ∷ 68 ∷ 69 ∷ 66 ∷ 67 ∷ 64 ∷ 65 ∷ 62 ∷ 63 ∷ 60 ∷ 61 ∷ 58 ∷ 59 ∷ 56 ∷ 57 ∷ 54 ∷ 55 ∷ 52 ∷ 53 ∷ 50 ∷ 51 ∷ 48 ∷ 49 ∷ 46 ∷ 47 ∷ 44 ∷ 45 ∷ 42 ∷ 43 ∷ 40 ∷ 41 ∷ 38 ∷ 39 ∷ 36 ∷ 37 ∷ 34 ∷ 35 ∷ 32 ∷ 33 ∷ 30 ∷ 31 ∷ 28 ∷ 29 ∷ 26 ∷ 27 ∷ 24 ∷ 25 ∷ 22 ∷ 23 ∷ 20 ∷ 21 ∷ 18 ∷ 19 ∷ 16 ∷ 17 ∷ 14 ∷ 15 ∷ 12 ∷ 13 ∷ 10 ∷ 11 ∷ 8 ∷ 9 ∷ 6 ∷ 7 ∷ []) $
           all-freed ! mir.locals (l₀ ∷ l₁ ∷ l₂ ∷ l₃ ∷ l₄ ∷ l₅ ∷ l₆ ∷ l₇ ∷ l₈ ∷ l₉ ∷ l₁₀ ∷ l₁₁ ∷ l₁₂ ∷ l₁₃ ∷ l₁₄ ∷ l₁₅ ∷ l₁₆ ∷ l₁₇ ∷ l₁₈ ∷ l₁₉ ∷ l₂₀ ∷ l₂₁ ∷ l₂₂ ∷ l₂₃ ∷ l₂₄ ∷ l₂₅ ∷ l₂₆ ∷ l₂₇ ∷ l₂₈ ∷ l₂₉ ∷ l₃₀ ∷ l₃₁ ∷ l₃₂ ∷ l₃₃ ∷ l₃₄ ∷ l₃₅ ∷ l₃₆ ∷ l₃₇ ∷ l₃₈ ∷ l₃₉ ∷ l₄₀ ∷ l₄₁ ∷ l₄₂ ∷ l₄₃ ∷ l₄₄ ∷ l₄₅ ∷ l₄₆ ∷ l₄₇ ∷ l₄₈ ∷ l₄₉ ∷ l₅₀ ∷ l₅₁ ∷ l₅₂ ∷ l₅₃ ∷ []) (full _ ∷ full _ ∷ full _ ∷ full _ ∷ full _ ∷ full _ ∷ full _ ∷ full _ ∷ bare ∷ bare ∷ bare ∷ bare ∷ bare ∷ bare ∷ bare ∷ bare ∷ bare ∷ bare ∷ bare ∷ bare ∷ bare ∷ bare ∷ bare ∷ bare ∷ bare ∷ bare ∷ full _ ∷ full _ ∷ full _ ∷ full _ ∷ bare ∷ bare ∷ bare ∷ bare ∷ bare ∷ bare ∷ bare ∷ bare ∷ bare ∷ bare ∷ bare ∷ bare ∷ bare ∷ bare ∷ bare ∷ bare ∷ bare ∷ bare ∷ bare ∷ bare ∷ bare ∷ bare ∷ bare ∷ bare ∷ []) tt $
-          suffices ! _ (ends-at 𝓤 H A obey.ended stayed c W y _ (V₈ .answer) (V₈ .memory .threads, (V₈ .memory .cpus, (ys″, (tt, (tt, tt))))) (sym ((refl ∙ sym (subst (λ (us : List Thread). length us ≡ length ys) (e₃₅ .1 .0) (ls₃₄ .0)))), (sym ((refl ∙ sym (subst (λ (us : List (List ℕ)). length us ≡ length ys′) (e₃₅ .1 .1) (ls₃₄ .1 .0)))), (sym refl, (tt, (tt, tt)))))) $ says ! (so {X = Left Answered Lent} (record { answer = (V₈ .answer); memory = record { threads = (V₈ .memory .threads); cpus = (V₈ .memory .cpus); nodes = ys″ } }) (obeyDef (a .0) (a .1 .0) (record { threads = ys; cpus = ys′; nodes = ys″ })) ((no (leb ((a .1 .0) .kind) (4)) h₁ _ (no (eqb ((a .1 .0) .kind) (16)) h₂ _ (no (eqb ((a .1 .0) .kind) (17)) h₃ _ (no (eqb ((a .1 .0) .kind) (18)) h₄ _ (no (eqb ((a .1 .0) .kind) (19)) h₅ _ (yes (eqb ((a .1 .0) .kind) (20)) h₆ _ (refl))))))))) $
+          suffices ! _ (ends-at 𝓤 H A obey.ended stayed c W y _ (V₈ .answer) (V₈ .memory .threads, (V₈ .memory .cpus, (ys″, (tt, (tt, tt))))) (sym ((refl ∙ sym (subst (λ (us : List Thread). length us ≡ length ys) (e₃₅ .1 .0) (ls₃₄ .0)))), (sym ((refl ∙ sym (subst (λ (us : List (List ℕ)). length us ≡ length ys′) (e₃₅ .1 .1) (ls₃₄ .1 .0)))), (sym refl, (tt, (tt, tt)))))) $ says ! (so {X = Left Answered Lent} (record { answer = (V₈ .answer); memory = record { threads = (V₈ .memory .threads); cpus = (V₈ .memory .cpus); nodes = ys″ } }) (obey-def (a .0) (a .1 .0) (record { threads = ys; cpus = ys′; nodes = ys″ })) ((no (leb ((a .1 .0) .kind) (4)) h₁ _ (no (eqb ((a .1 .0) .kind) (16)) h₂ _ (no (eqb ((a .1 .0) .kind) (17)) h₃ _ (no (eqb ((a .1 .0) .kind) (18)) h₄ _ (no (eqb ((a .1 .0) .kind) (19)) h₅ _ (yes (eqb ((a .1 .0) .kind) (20)) h₆ _ (refl))))))))) $
           leaves3 ! Answered° Ds a (V₈ .answer) are (is₃₆))))
           (λ h₆.
           forget ! 98 refl $
           part-14 c₆ h₁ h₂ h₃ h₄ h₅ h₆)))
 
     walk : ent 𝓤 (onEntry 𝓤 H A obey.signature (κ, (κ′, (κ″, tt))) (q, (q′, (q″, tt))) ((lent-as b o γ ys, (lent-as b′ o′ γ′ ys′, (lent-as b″ o″ γ″ ys″, a)))) ((s ∷ [], (s′ ∷ [], (s″ ∷ [], spell Ds a))))) (WpFn 𝓤 H C Λ code.function (s ∷ s′ ∷ s″ ∷ listed Ds a) Post)
-    unfolding obeyDef
+    unfolding obey-def
     walk =
         qed W ((‵ (flft κ q) ⊛ (‵ (flft κ′ q′) ⊛ (‵ (flft κ″ q″) ⊛ (‵ ftrue)))) ∷ ‵ (owns (MutSlice (named 0) κ Thread·.the-row ∷ MutSlice (named 1) κ′ (Array u64 96) ∷ MutSlice (named 2) κ″ (Array u64 32) ∷ State·.the-row ∷ Call·.the-row ∷ []) ((lent-as b o γ ys, (lent-as b′ o′ γ′ ys′, (lent-as b″ o″ γ″ ys″, a)))) ((s ∷ [], (s′ ∷ [], (s″ ∷ [], spell Ds a))))) ∷ []) ∵ begins3 ! $ enter ! C _ code.function (s ∷ s′ ∷ s″ ∷ listed Ds a) _ $
         alloc1 ! (λ l₀. alloc1 ! (λ l₁. alloc1 ! (λ l₂. alloc1 ! (λ l₃. alloc1 ! (λ l₄. alloc1 ! (λ l₅. alloc1 ! (λ l₆. alloc1 ! (λ l₇. alloc1 ! (λ l₈. alloc1 ! (λ l₉. alloc1 ! (λ l₁₀. alloc1 ! (λ l₁₁. alloc1 ! (λ l₁₂. alloc1 ! (λ l₁₃. alloc1 ! (λ l₁₄. alloc1 ! (λ l₁₅. alloc1 ! (λ l₁₆. alloc1 ! (λ l₁₇. alloc1 ! (λ l₁₈. alloc1 ! (λ l₁₉. alloc1 ! (λ l₂₀. alloc1 ! (λ l₂₁. alloc1 ! (λ l₂₂. alloc1 ! (λ l₂₃. alloc1 ! (λ l₂₄. alloc1 ! (λ l₂₅. alloc1 ! (λ l₂₆. alloc1 ! (λ l₂₇. alloc1 ! (λ l₂₈. alloc1 ! (λ l₂₉. alloc1 ! (λ l₃₀. alloc1 ! (λ l₃₁. alloc1 ! (λ l₃₂. alloc1 ! (λ l₃₃. alloc1 ! (λ l₃₄. alloc1 ! (λ l₃₅. alloc1 ! (λ l₃₆. alloc1 ! (λ l₃₇. alloc1 ! (λ l₃₈. alloc1 ! (λ l₃₉. alloc1 ! (λ l₄₀. alloc1 ! (λ l₄₁. alloc1 ! (λ l₄₂. alloc1 ! (λ l₄₃. alloc1 ! (λ l₄₄. alloc1 ! (λ l₄₅. alloc1 ! (λ l₄₆. alloc1 ! (λ l₄₇. alloc1 ! (λ l₄₈. alloc1 ! (λ l₄₉. alloc1 ! (λ l₅₀. alloc1 ! (λ l₅₁. alloc1 ! (λ l₅₂. alloc1 ! (λ l₅₃. alloc0 ! $ params1 ! $
@@ -592,7 +592,7 @@ module _ {M : Type 1} (𝓤 : URA M) (H : Heap 𝓤) (𝓜 : Model 𝓤 H) (𝓖
         returns-within ! Post refl (look ! 112 refl) $
         move ! (112 ∷ 113 ∷ 110 ∷ 111 ∷ 108 ∷ 109 ∷ 106 ∷ 107 ∷ 104 ∷ 105 ∷ 102 ∷ 103 ∷ 100 ∷ 101 ∷ 98 ∷ 99 ∷ 96 ∷ 97 ∷ 94 ∷ 95 ∷ 92 ∷ 93 ∷ 90 ∷ 91 ∷ 88 ∷ 89 ∷ 86 ∷ 87 ∷ 84 ∷ 85 ∷ 82 ∷ 83 ∷ 80 ∷ 81 ∷ 78 ∷ 79 ∷ 76 ∷ 77 ∷ 74 ∷ 75 ∷ 72 ∷ 73 ∷ 70 ∷ 71 ∷ 68 ∷ 69 ∷ 66 ∷ 67 ∷ 64 ∷ 65 ∷ 62 ∷ 63 ∷ 60 ∷ 61 ∷ 58 ∷ 59 ∷ 56 ∷ 57 ∷ 54 ∷ 55 ∷ 52 ∷ 53 ∷ 50 ∷ 51 ∷ 48 ∷ 49 ∷ 46 ∷ 47 ∷ 44 ∷ 45 ∷ 42 ∷ 43 ∷ 40 ∷ 41 ∷ 38 ∷ 39 ∷ 36 ∷ 37 ∷ 34 ∷ 35 ∷ 32 ∷ 33 ∷ 30 ∷ 31 ∷ 28 ∷ 29 ∷ 26 ∷ 27 ∷ 24 ∷ 25 ∷ 22 ∷ 23 ∷ 20 ∷ 21 ∷ 18 ∷ 19 ∷ 16 ∷ 17 ∷ 14 ∷ 15 ∷ 12 ∷ 13 ∷ 10 ∷ 11 ∷ 8 ∷ 9 ∷ 6 ∷ 7 ∷ []) $
         all-freed ! mir.locals (l₀ ∷ l₁ ∷ l₂ ∷ l₃ ∷ l₄ ∷ l₅ ∷ l₆ ∷ l₇ ∷ l₈ ∷ l₉ ∷ l₁₀ ∷ l₁₁ ∷ l₁₂ ∷ l₁₃ ∷ l₁₄ ∷ l₁₅ ∷ l₁₆ ∷ l₁₇ ∷ l₁₈ ∷ l₁₉ ∷ l₂₀ ∷ l₂₁ ∷ l₂₂ ∷ l₂₃ ∷ l₂₄ ∷ l₂₅ ∷ l₂₆ ∷ l₂₇ ∷ l₂₈ ∷ l₂₉ ∷ l₃₀ ∷ l₃₁ ∷ l₃₂ ∷ l₃₃ ∷ l₃₄ ∷ l₃₅ ∷ l₃₆ ∷ l₃₇ ∷ l₃₈ ∷ l₃₉ ∷ l₄₀ ∷ l₄₁ ∷ l₄₂ ∷ l₄₃ ∷ l₄₄ ∷ l₄₅ ∷ l₄₆ ∷ l₄₇ ∷ l₄₈ ∷ l₄₉ ∷ l₅₀ ∷ l₅₁ ∷ l₅₂ ∷ l₅₃ ∷ []) (full _ ∷ full _ ∷ full _ ∷ full _ ∷ full _ ∷ full _ ∷ full _ ∷ full _ ∷ full _ ∷ full _ ∷ full _ ∷ full _ ∷ bare ∷ bare ∷ bare ∷ bare ∷ bare ∷ bare ∷ bare ∷ bare ∷ bare ∷ bare ∷ bare ∷ bare ∷ bare ∷ bare ∷ bare ∷ bare ∷ bare ∷ bare ∷ bare ∷ bare ∷ bare ∷ bare ∷ bare ∷ bare ∷ bare ∷ bare ∷ bare ∷ bare ∷ bare ∷ bare ∷ bare ∷ bare ∷ bare ∷ bare ∷ bare ∷ bare ∷ bare ∷ bare ∷ bare ∷ bare ∷ bare ∷ bare ∷ []) tt $
-        suffices ! _ (ends-at 𝓤 H A obey.ended stayed c W y _ (V₁) (ys, (V₂, (V₃, (tt, (tt, tt))))) (sym refl, (sym ((refl ∙ sym (subst (λ (us : List (List ℕ)). length us ≡ length ys′) (e₅ .1 .0) (ls₄ .0)))), (sym ((refl ∙ sym (subst (λ (us : List (List ℕ)). length us ≡ length ys″) (e₅ .1 .1) (ls₄ .1 .0)))), (tt, (tt, tt)))))) $ says ! (so {X = Left Answered Lent} (record { answer = V₁; memory = record { threads = ys; cpus = V₂; nodes = V₃ } }) (obeyDef (a .0) (a .1 .0) (record { threads = ys; cpus = ys′; nodes = ys″ })) ((yes (leb ((a .1 .0) .kind) (4)) h₁ _ (refl)))) $
+        suffices ! _ (ends-at 𝓤 H A obey.ended stayed c W y _ (V₁) (ys, (V₂, (V₃, (tt, (tt, tt))))) (sym refl, (sym ((refl ∙ sym (subst (λ (us : List (List ℕ)). length us ≡ length ys′) (e₅ .1 .0) (ls₄ .0)))), (sym ((refl ∙ sym (subst (λ (us : List (List ℕ)). length us ≡ length ys″) (e₅ .1 .1) (ls₄ .1 .0)))), (tt, (tt, tt)))))) $ says ! (so {X = Left Answered Lent} (record { answer = V₁; memory = record { threads = ys; cpus = V₂; nodes = V₃ } }) (obey-def (a .0) (a .1 .0) (record { threads = ys; cpus = ys′; nodes = ys″ })) ((yes (leb ((a .1 .0) .kind) (4)) h₁ _ (refl)))) $
         leaves3 ! Answered° Ds a (V₁) are (is₆))))
         (λ h₁.
         assigns ! (bin ! (load ! (from ! (stop !)) (look ! 100 refl)) (lit ! tt) tt) (from ! (stop !)) (store ! 98 refl (tt, tt)) $
@@ -621,7 +621,7 @@ module _ {M : Type 1} (𝓤 : URA M) (H : Heap 𝓤) (𝓜 : Model 𝓤 H) (𝓖
         returns-within ! Post refl (look ! 112 refl) $
         move ! (112 ∷ 113 ∷ 110 ∷ 111 ∷ 108 ∷ 109 ∷ 106 ∷ 107 ∷ 104 ∷ 105 ∷ 102 ∷ 103 ∷ 100 ∷ 101 ∷ 98 ∷ 99 ∷ 96 ∷ 97 ∷ 94 ∷ 95 ∷ 92 ∷ 93 ∷ 90 ∷ 91 ∷ 88 ∷ 89 ∷ 86 ∷ 87 ∷ 84 ∷ 85 ∷ 82 ∷ 83 ∷ 80 ∷ 81 ∷ 78 ∷ 79 ∷ 76 ∷ 77 ∷ 74 ∷ 75 ∷ 72 ∷ 73 ∷ 70 ∷ 71 ∷ 68 ∷ 69 ∷ 66 ∷ 67 ∷ 64 ∷ 65 ∷ 62 ∷ 63 ∷ 60 ∷ 61 ∷ 58 ∷ 59 ∷ 56 ∷ 57 ∷ 54 ∷ 55 ∷ 52 ∷ 53 ∷ 50 ∷ 51 ∷ 48 ∷ 49 ∷ 46 ∷ 47 ∷ 44 ∷ 45 ∷ 42 ∷ 43 ∷ 40 ∷ 41 ∷ 38 ∷ 39 ∷ 36 ∷ 37 ∷ 34 ∷ 35 ∷ 32 ∷ 33 ∷ 30 ∷ 31 ∷ 28 ∷ 29 ∷ 26 ∷ 27 ∷ 24 ∷ 25 ∷ 22 ∷ 23 ∷ 20 ∷ 21 ∷ 18 ∷ 19 ∷ 16 ∷ 17 ∷ 14 ∷ 15 ∷ 12 ∷ 13 ∷ 10 ∷ 11 ∷ 8 ∷ 9 ∷ 6 ∷ 7 ∷ []) $
         all-freed ! mir.locals (l₀ ∷ l₁ ∷ l₂ ∷ l₃ ∷ l₄ ∷ l₅ ∷ l₆ ∷ l₇ ∷ l₈ ∷ l₉ ∷ l₁₀ ∷ l₁₁ ∷ l₁₂ ∷ l₁₃ ∷ l₁₄ ∷ l₁₅ ∷ l₁₆ ∷ l₁₇ ∷ l₁₈ ∷ l₁₉ ∷ l₂₀ ∷ l₂₁ ∷ l₂₂ ∷ l₂₃ ∷ l₂₄ ∷ l₂₅ ∷ l₂₆ ∷ l₂₇ ∷ l₂₈ ∷ l₂₉ ∷ l₃₀ ∷ l₃₁ ∷ l₃₂ ∷ l₃₃ ∷ l₃₄ ∷ l₃₅ ∷ l₃₆ ∷ l₃₇ ∷ l₃₈ ∷ l₃₉ ∷ l₄₀ ∷ l₄₁ ∷ l₄₂ ∷ l₄₃ ∷ l₄₄ ∷ l₄₅ ∷ l₄₆ ∷ l₄₇ ∷ l₄₈ ∷ l₄₉ ∷ l₅₀ ∷ l₅₁ ∷ l₅₂ ∷ l₅₃ ∷ []) (full _ ∷ full _ ∷ full _ ∷ full _ ∷ full _ ∷ full _ ∷ full _ ∷ full _ ∷ bare ∷ bare ∷ bare ∷ bare ∷ full _ ∷ full _ ∷ bare ∷ bare ∷ bare ∷ bare ∷ bare ∷ bare ∷ bare ∷ bare ∷ bare ∷ bare ∷ bare ∷ bare ∷ bare ∷ bare ∷ bare ∷ bare ∷ bare ∷ bare ∷ bare ∷ bare ∷ bare ∷ bare ∷ bare ∷ bare ∷ bare ∷ bare ∷ bare ∷ bare ∷ bare ∷ bare ∷ bare ∷ bare ∷ bare ∷ bare ∷ bare ∷ bare ∷ bare ∷ bare ∷ bare ∷ bare ∷ []) tt $
-        suffices ! _ (ends-at 𝓤 H A obey.ended stayed c W y _ (V₄ .answer) (V₄ .memory, (ys′, (ys″, (tt, (tt, tt))))) (sym ((refl ∙ sym (subst (λ (us : List Thread). length us ≡ length ys) (e₁₁ .1) (ls₁₀ .0)))), (sym refl, (sym refl, (tt, (tt, tt)))))) $ says ! (so {X = Left Answered Lent} (record { answer = (V₄ .answer); memory = record { threads = (V₄ .memory); cpus = ys′; nodes = ys″ } }) (obeyDef (a .0) (a .1 .0) (record { threads = ys; cpus = ys′; nodes = ys″ })) ((no (leb ((a .1 .0) .kind) (4)) h₁ _ (yes (eqb ((a .1 .0) .kind) (16)) h₂ _ (refl))))) $
+        suffices ! _ (ends-at 𝓤 H A obey.ended stayed c W y _ (V₄ .answer) (V₄ .memory, (ys′, (ys″, (tt, (tt, tt))))) (sym ((refl ∙ sym (subst (λ (us : List Thread). length us ≡ length ys) (e₁₁ .1) (ls₁₀ .0)))), (sym refl, (sym refl, (tt, (tt, tt)))))) $ says ! (so {X = Left Answered Lent} (record { answer = (V₄ .answer); memory = record { threads = (V₄ .memory); cpus = ys′; nodes = ys″ } }) (obey-def (a .0) (a .1 .0) (record { threads = ys; cpus = ys′; nodes = ys″ })) ((no (leb ((a .1 .0) .kind) (4)) h₁ _ (yes (eqb ((a .1 .0) .kind) (16)) h₂ _ (refl))))) $
         leaves3 ! Answered° Ds a (V₄ .answer) are (is₁₂))))
         (λ h₂.
         assigns ! (bin ! (load ! (from ! (stop !)) (look ! 100 refl)) (lit ! tt) tt) (from ! (stop !)) (store ! 98 refl (tt, tt)) $
@@ -643,7 +643,7 @@ module _ {M : Type 1} (𝓤 : URA M) (H : Heap 𝓤) (𝓜 : Model 𝓤 H) (𝓖
         returns-within ! Post refl (look ! 112 refl) $
         move ! (112 ∷ 113 ∷ 110 ∷ 111 ∷ 108 ∷ 109 ∷ 106 ∷ 107 ∷ 104 ∷ 105 ∷ 102 ∷ 103 ∷ 100 ∷ 101 ∷ 98 ∷ 99 ∷ 96 ∷ 97 ∷ 94 ∷ 95 ∷ 92 ∷ 93 ∷ 90 ∷ 91 ∷ 88 ∷ 89 ∷ 86 ∷ 87 ∷ 84 ∷ 85 ∷ 82 ∷ 83 ∷ 80 ∷ 81 ∷ 78 ∷ 79 ∷ 76 ∷ 77 ∷ 74 ∷ 75 ∷ 72 ∷ 73 ∷ 70 ∷ 71 ∷ 68 ∷ 69 ∷ 66 ∷ 67 ∷ 64 ∷ 65 ∷ 62 ∷ 63 ∷ 60 ∷ 61 ∷ 58 ∷ 59 ∷ 56 ∷ 57 ∷ 54 ∷ 55 ∷ 52 ∷ 53 ∷ 50 ∷ 51 ∷ 48 ∷ 49 ∷ 46 ∷ 47 ∷ 44 ∷ 45 ∷ 42 ∷ 43 ∷ 40 ∷ 41 ∷ 38 ∷ 39 ∷ 36 ∷ 37 ∷ 34 ∷ 35 ∷ 32 ∷ 33 ∷ 30 ∷ 31 ∷ 28 ∷ 29 ∷ 26 ∷ 27 ∷ 24 ∷ 25 ∷ 22 ∷ 23 ∷ 20 ∷ 21 ∷ 18 ∷ 19 ∷ 16 ∷ 17 ∷ 14 ∷ 15 ∷ 12 ∷ 13 ∷ 10 ∷ 11 ∷ 8 ∷ 9 ∷ 6 ∷ 7 ∷ []) $
         all-freed ! mir.locals (l₀ ∷ l₁ ∷ l₂ ∷ l₃ ∷ l₄ ∷ l₅ ∷ l₆ ∷ l₇ ∷ l₈ ∷ l₉ ∷ l₁₀ ∷ l₁₁ ∷ l₁₂ ∷ l₁₃ ∷ l₁₄ ∷ l₁₅ ∷ l₁₆ ∷ l₁₇ ∷ l₁₈ ∷ l₁₉ ∷ l₂₀ ∷ l₂₁ ∷ l₂₂ ∷ l₂₃ ∷ l₂₄ ∷ l₂₅ ∷ l₂₆ ∷ l₂₇ ∷ l₂₈ ∷ l₂₉ ∷ l₃₀ ∷ l₃₁ ∷ l₃₂ ∷ l₃₃ ∷ l₃₄ ∷ l₃₅ ∷ l₃₆ ∷ l₃₇ ∷ l₃₈ ∷ l₃₉ ∷ l₄₀ ∷ l₄₁ ∷ l₄₂ ∷ l₄₃ ∷ l₄₄ ∷ l₄₅ ∷ l₄₆ ∷ l₄₇ ∷ l₄₈ ∷ l₄₉ ∷ l₅₀ ∷ l₅₁ ∷ l₅₂ ∷ l₅₃ ∷ []) (full _ ∷ full _ ∷ full _ ∷ full _ ∷ full _ ∷ full _ ∷ full _ ∷ full _ ∷ bare ∷ bare ∷ bare ∷ bare ∷ bare ∷ bare ∷ bare ∷ bare ∷ bare ∷ bare ∷ bare ∷ bare ∷ bare ∷ bare ∷ bare ∷ bare ∷ bare ∷ bare ∷ bare ∷ bare ∷ bare ∷ bare ∷ bare ∷ bare ∷ bare ∷ bare ∷ bare ∷ bare ∷ bare ∷ bare ∷ bare ∷ bare ∷ bare ∷ bare ∷ bare ∷ bare ∷ bare ∷ bare ∷ bare ∷ bare ∷ bare ∷ bare ∷ bare ∷ bare ∷ bare ∷ bare ∷ []) tt $
-        suffices ! _ (ends-at 𝓤 H A obey.ended stayed c W y _ (V₅) (ys, (ys′, (ys″, (tt, (tt, tt))))) (sym refl, (sym refl, (sym refl, (tt, (tt, tt)))))) $ says ! (so {X = Left Answered Lent} (record { answer = V₅; memory = record { threads = ys; cpus = ys′; nodes = ys″ } }) (obeyDef (a .0) (a .1 .0) (record { threads = ys; cpus = ys′; nodes = ys″ })) ((no (leb ((a .1 .0) .kind) (4)) h₁ _ (no (eqb ((a .1 .0) .kind) (16)) h₂ _ (yes (eqb ((a .1 .0) .kind) (17)) h₃ _ (refl)))))) $
+        suffices ! _ (ends-at 𝓤 H A obey.ended stayed c W y _ (V₅) (ys, (ys′, (ys″, (tt, (tt, tt))))) (sym refl, (sym refl, (sym refl, (tt, (tt, tt)))))) $ says ! (so {X = Left Answered Lent} (record { answer = V₅; memory = record { threads = ys; cpus = ys′; nodes = ys″ } }) (obey-def (a .0) (a .1 .0) (record { threads = ys; cpus = ys′; nodes = ys″ })) ((no (leb ((a .1 .0) .kind) (4)) h₁ _ (no (eqb ((a .1 .0) .kind) (16)) h₂ _ (yes (eqb ((a .1 .0) .kind) (17)) h₃ _ (refl)))))) $
         leaves3 ! Answered° Ds a (V₅) are (is₁₈))))
         (λ h₃.
         forget ! 98 refl $

@@ -32,12 +32,12 @@ use denote.Triple.Table.{cited}
 use denote.Triple.Clauses.{Clauses}
 use denote.Triple.Walked.{says, Stays, stay-none, stay-slice, stay-none-slice, walkOf, goes-none, goes-slice, goes-none-slice, ends-at}
 use denote.Exit.{yes as kept-yes}
-use Rattle.lent.proofs.Walk.{Datum, number, nil, struct, Dens, AreD, listed, spell, lent-as, slice-of, kept, opened, closed, full, told, proved}
-use Rattle.lent.proofs.Lent.{mutable, shared, passed, call-slices, call-left, all-freed, so, begins2, leaves2}
-use Rattle.command.specs.Command.{reschedDef}
-use Rattle.lent.specs.Left.{Left}
+use Rattle.records.proofs.Walk.{Datum, number, nil, struct, Dens, AreD, listed, spell, lent-as, slice-of, kept, opened, closed, full, told, proved}
+use Rattle.records.proofs.Lent.{mutable, shared, passed, call-slices, call-left, all-freed, so, begins2, leaves2}
+use Rattle.command.specs.Command.{resched-command}
 use Rattle.outcome.specs.Answer.{ran}
-use Rattle.sched_ticks.specs.Ticks.{scheduleResched}
+use Rattle.records.specs.Left.{Left}
+use Rattle.sched_ticks.specs.Ticks.{schedule-resched-def}
 use denote.Struct.Laws as LL
 use Rattle.outcome.specs.declared.answer.Answered.{Answered}
 use Rattle.outcome.proofs.answer.Answered as Answered·
@@ -117,13 +117,13 @@ module _ {M : Type 1} (𝓤 : URA M) (H : Heap 𝓤) (𝓜 : Model 𝓤 H) (𝓖
     Post = walkOf 𝓤 H A resched.ended stayed c .post y
 
     abbrev V₁ : List (List ℕ)
-    V₁ = scheduleResched ((a .1 .0) .cpu) ys ys′
+    V₁ = schedule-resched-def ((a .1 .0) .cpu) ys ys′
 
     abbrev V₂ : Answered
     V₂ = ran (V₁) (a .0) ((a .1 .0) .cpu) 0 ((a .1 .0) .used)
 
     walk : ent 𝓤 (onEntry 𝓤 H A resched.signature (κ, (κ′, tt)) (q, (q′, tt)) ((lent-as b o γ ys, (lent-as b′ o′ γ′ ys′, a))) ((s ∷ [], (s′ ∷ [], spell Ds a)))) (WpFn 𝓤 H C Λ code.function (s ∷ s′ ∷ listed Ds a) Post)
-    unfolding reschedDef
+    unfolding resched-command
     walk =
         qed W ((‵ (flft κ q) ⊛ (‵ (flft κ′ q′) ⊛ (‵ ftrue))) ∷ ‵ (owns (ShrSlice (named 0) κ Thread·.the-row ∷ MutSlice (named 1) κ′ (Array u64 96) ∷ State·.the-row ∷ Call·.the-row ∷ []) ((lent-as b o γ ys, (lent-as b′ o′ γ′ ys′, a))) ((s ∷ [], (s′ ∷ [], spell Ds a)))) ∷ []) ∵ begins2 ! $ enter ! C _ code.function (s ∷ s′ ∷ listed Ds a) _ $
         alloc1 ! (λ l₀. alloc1 ! (λ l₁. alloc1 ! (λ l₂. alloc1 ! (λ l₃. alloc1 ! (λ l₄. alloc1 ! (λ l₅. alloc1 ! (λ l₆. alloc1 ! (λ l₇. alloc1 ! (λ l₈. alloc1 ! (λ l₉. alloc1 ! (λ l₁₀. alloc0 ! $ params1 ! $
@@ -170,7 +170,7 @@ module _ {M : Type 1} (𝓤 : URA M) (H : Heap 𝓤) (𝓜 : Model 𝓤 H) (𝓖
         returns ! (look ! 24 refl) $
         move ! (24 ∷ 25 ∷ 22 ∷ 23 ∷ 20 ∷ 21 ∷ 18 ∷ 19 ∷ 16 ∷ 17 ∷ 14 ∷ 15 ∷ 12 ∷ 13 ∷ 10 ∷ 11 ∷ 8 ∷ 9 ∷ 6 ∷ 7 ∷ 4 ∷ 5 ∷ []) $
         all-freed ! mir.locals (l₀ ∷ l₁ ∷ l₂ ∷ l₃ ∷ l₄ ∷ l₅ ∷ l₆ ∷ l₇ ∷ l₈ ∷ l₉ ∷ l₁₀ ∷ []) (full _ ∷ full _ ∷ full _ ∷ full _ ∷ full _ ∷ full _ ∷ full _ ∷ full _ ∷ full _ ∷ full _ ∷ full _ ∷ []) tt $
-        suffices ! _ (ends-at 𝓤 H A resched.ended stayed c W y _ (V₂) (tt, (V₁, (tt, (tt, tt)))) (tt, (sym ((refl ∙ sym (subst (λ (us : List (List ℕ)). length us ≡ length ys′) (e₅) (ls₄ .1 .0)))), (tt, (tt, tt))))) $ says ! (so {X = Left Answered (List (List ℕ))} (record { answer = V₂; memory = (V₁) }) (reschedDef (a .0) (a .1 .0) ys ys′) (refl)) $
+        suffices ! _ (ends-at 𝓤 H A resched.ended stayed c W y _ (V₂) (tt, (V₁, (tt, (tt, tt)))) (tt, (sym ((refl ∙ sym (subst (λ (us : List (List ℕ)). length us ≡ length ys′) (e₅) (ls₄ .1 .0)))), (tt, (tt, tt))))) $ says ! (so {X = Left Answered (List (List ℕ))} (record { answer = V₂; memory = (V₁) }) (resched-command (a .0) (a .1 .0) ys ys′) (refl)) $
         leaves2 ! Answered° Ds a (V₂) are (is₁₁)))))))))))))))
 
 pub resched-spec : {M : Type 1} → stated.statement M

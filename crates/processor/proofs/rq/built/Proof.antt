@@ -1,4 +1,4 @@
-use Rattle.processor.specs.Queue.{builtOf}
+use Rattle.processor.specs.Queue.{built-of}
 use borrow.Author.Needs.{needs}
 use Rattle.processor.proofs.rq.built.Statement.{statement}
 use Rattle.processor.proofs.rq.built.Tie as tie
@@ -34,7 +34,7 @@ array-read-t36 : tie.Need-array-read-t36
 array-read-t36 c = search needs
 
 returns : tie.Need-returns
-unfolding builtOf
+unfolding built-of
 returns c = search needs
 
 pub built-spec : {M : Type 1} → statement M

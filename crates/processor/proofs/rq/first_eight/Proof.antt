@@ -1,10 +1,10 @@
 use borrow.Author.Needs.{needs}
-use Rattle.processor.specs.Queue.{firstEight}
+use Rattle.processor.specs.Queue.{first-eight}
 use Rattle.processor.proofs.rq.first_eight.Statement.{statement}
 use Rattle.processor.proofs.rq.first_eight.Tie as tie
 
 returns : tie.Need-returns
-unfolding firstEight
+unfolding first-eight
 returns c = search needs
 
 pub first-eight-spec : {M : Type 1} → statement M

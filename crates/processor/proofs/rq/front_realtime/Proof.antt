@@ -1,9 +1,9 @@
-use Rattle.queue.specs.PriorityQueue.{pqFront}
+use Rattle.queue.specs.PriorityQueue.{pq-front}
 use Rattle.runqueue.specs.declared.rq.RunQueue.{RunQueue}
-use Rattle.processor.specs.Queue.{queueAt}
+use Rattle.processor.specs.Queue.{queue-at}
 use Rattle.queue.specs.declared.lists.Found.{Found}
 use Rattle.rules.specs.declared.Part.the-variants as part
-use Rattle.runqueue.specs.RunQueue.{firstIn, rqFrontRealtime, rqFrontTimeshare}
+use Rattle.runqueue.specs.RunQueue.{first-in-def, rq-front-realtime, rq-front-timeshare}
 use mathlib.Core.Path.{_∙_, ap, sym}
 use borrow.Author.Needs.{needs}
 use Rattle.processor.proofs.rq.front_realtime.Statement.{statement}
@@ -25,12 +25,12 @@ front-timeshare-requires : tie.Need-front-timeshare-requires
 front-timeshare-requires c κs = search needs
 
 returns : tie.Need-returns
-unfolding rqFrontRealtime firstIn
-returns c = ap (λ (f : Found). firstIn part.Realtime f (rqFrontTimeshare (queueAt (c .before .before .before .before .before .before .args .cpus .now) (c .before .before .before .before .before .before .args .c)))) (sym (c .before .found .given .1) ∙ c .before .before .before .front .ensures ∙ ap (λ (q : RunQueue). pqFront (q .realtime)) (c .before .before .before .before .before .load-queue .ensures))
+unfolding rq-front-realtime first-in-def
+returns c = ap (λ (f : Found). first-in-def part.Realtime f (rq-front-timeshare (queue-at (c .before .before .before .before .before .before .args .cpus .now) (c .before .before .before .before .before .before .args .c)))) (sym (c .before .found .given .1) ∙ c .before .before .before .front .ensures ∙ ap (λ (q : RunQueue). pq-front (q .realtime)) (c .before .before .before .before .before .load-queue .ensures))
 
 returns-2 : tie.Need-returns-2
-unfolding rqFrontRealtime firstIn
-returns-2 c = c .front-timeshare .ensures ∙ ap (λ (f : Found). firstIn part.Realtime f (rqFrontTimeshare (queueAt (c .before .before .before .before .before .before .args .cpus .now) (c .before .before .before .before .before .before .args .c)))) (sym (c .before .enum-told .given .1) ∙ c .before .before .before .front .ensures ∙ ap (λ (q : RunQueue). pqFront (q .realtime)) (c .before .before .before .before .before .load-queue .ensures))
+unfolding rq-front-realtime first-in-def
+returns-2 c = c .front-timeshare .ensures ∙ ap (λ (f : Found). first-in-def part.Realtime f (rq-front-timeshare (queue-at (c .before .before .before .before .before .before .args .cpus .now) (c .before .before .before .before .before .before .args .c)))) (sym (c .before .enum-told .given .1) ∙ c .before .before .before .front .ensures ∙ ap (λ (q : RunQueue). pq-front (q .realtime)) (c .before .before .before .before .before .load-queue .ensures))
 
 pub front-realtime-spec : {M : Type 1} → statement M
 front-realtime-spec =

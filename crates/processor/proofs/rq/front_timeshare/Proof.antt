@@ -1,9 +1,9 @@
-use Rattle.queue.specs.Timeshare.{tsFront}
+use Rattle.queue.specs.Timeshare.{ts-front}
 use Rattle.runqueue.specs.declared.rq.RunQueue.{RunQueue}
-use Rattle.processor.specs.Queue.{queueAt}
+use Rattle.processor.specs.Queue.{queue-at}
 use Rattle.queue.specs.declared.lists.Found.{Found}
 use Rattle.rules.specs.declared.Part.the-variants as part
-use Rattle.runqueue.specs.RunQueue.{firstIn, rqFrontTimeshare, rqFrontIdle}
+use Rattle.runqueue.specs.RunQueue.{first-in-def, rq-front-timeshare, rq-front-idle}
 use mathlib.Core.Path.{_∙_, ap, sym}
 use borrow.Author.Needs.{needs}
 use Rattle.processor.proofs.rq.front_timeshare.Statement.{statement}
@@ -25,12 +25,12 @@ front-idle-requires : tie.Need-front-idle-requires
 front-idle-requires c κs = search needs
 
 returns : tie.Need-returns
-unfolding rqFrontTimeshare firstIn
-returns c = ap (λ (f : Found). firstIn part.Timeshare f (rqFrontIdle (queueAt (c .before .before .before .before .before .before .args .cpus .now) (c .before .before .before .before .before .before .args .c)))) (sym (c .before .found .given .1) ∙ c .before .before .before .front .ensures ∙ ap (λ (q : RunQueue). tsFront (q .timeshare)) (c .before .before .before .before .before .load-queue .ensures))
+unfolding rq-front-timeshare first-in-def
+returns c = ap (λ (f : Found). first-in-def part.Timeshare f (rq-front-idle (queue-at (c .before .before .before .before .before .before .args .cpus .now) (c .before .before .before .before .before .before .args .c)))) (sym (c .before .found .given .1) ∙ c .before .before .before .front .ensures ∙ ap (λ (q : RunQueue). ts-front (q .timeshare)) (c .before .before .before .before .before .load-queue .ensures))
 
 returns-2 : tie.Need-returns-2
-unfolding rqFrontTimeshare firstIn
-returns-2 c = c .front-idle .ensures ∙ ap (λ (f : Found). firstIn part.Timeshare f (rqFrontIdle (queueAt (c .before .before .before .before .before .before .args .cpus .now) (c .before .before .before .before .before .before .args .c)))) (sym (c .before .enum-told .given .1) ∙ c .before .before .before .front .ensures ∙ ap (λ (q : RunQueue). tsFront (q .timeshare)) (c .before .before .before .before .before .load-queue .ensures))
+unfolding rq-front-timeshare first-in-def
+returns-2 c = c .front-idle .ensures ∙ ap (λ (f : Found). first-in-def part.Timeshare f (rq-front-idle (queue-at (c .before .before .before .before .before .before .args .cpus .now) (c .before .before .before .before .before .before .args .c)))) (sym (c .before .enum-told .given .1) ∙ c .before .before .before .front .ensures ∙ ap (λ (q : RunQueue). ts-front (q .timeshare)) (c .before .before .before .before .before .load-queue .ensures))
 
 pub front-timeshare-spec : {M : Type 1} → statement M
 front-timeshare-spec =

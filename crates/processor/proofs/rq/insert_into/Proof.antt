@@ -1,4 +1,4 @@
-use Rattle.runqueue.specs.RunQueue.{rqInsertInto}
+use Rattle.runqueue.specs.RunQueue.{rq-insert-into}
 use borrow.Author.Needs.{needs}
 use Rattle.processor.proofs.rq.insert_into.Statement.{statement}
 use Rattle.processor.proofs.rq.insert_into.Tie as tie
@@ -25,21 +25,21 @@ same-length : tie.Need-same-length
 same-length c = search needs
 
 returns : tie.Need-returns
-unfolding rqInsertInto
+unfolding rq-insert-into
 returns c = rw (c .before .before .before .enum-told .given .1) (c .before .insert-realtime .ensures)
 
 same-length-2 : tie.Need-same-length-2
 same-length-2 c = search needs
 
 returns-2 : tie.Need-returns-2
-unfolding rqInsertInto
+unfolding rq-insert-into
 returns-2 c = rw (c .before .before .before .enum-told2 .given .1) (c .before .insert-timeshare .ensures)
 
 same-length-3 : tie.Need-same-length-3
 same-length-3 c = search needs
 
 returns-3 : tie.Need-returns-3
-unfolding rqInsertInto
+unfolding rq-insert-into
 returns-3 c = rw (c .before .before .before .enum-told3 .given .1) (c .before .insert-idle .ensures)
 
 pub insert-into-spec : {M : Type 1} → statement M

@@ -2,19 +2,19 @@ use native.Mathlib.Numerals.{add-one}
 use native.Mathlib.Omega.{arith}
 use mathlib.Core.Path.{_≡_, refl, _∙_, ap}
 use Prim.Native.Nat.{ℕ, _≤_, _-_, _+_}
-use Rattle.processor.specs.Window.{loadN}
+use Rattle.processor.specs.Window.{load-n}
 use borrow.Author.Needs.{needs}
 use Rattle.processor.proofs.rq.load.Statement.{statement}
 use Rattle.processor.proofs.rq.load.Tie as tie
 
 abbrev Inv-loop : tie.InvT-loop
-Inv-loop row at out₀ i₀ out i = (i ≤ 8) × (out ≡ loadN row at 8 i)
+Inv-loop row at out₀ i₀ out i = (i ≤ 8) × (out ≡ load-n row at 8 i)
 
 abbrev μ-loop : tie.MeasureT-loop
 μ-loop row at out₀ i₀ out i = 8 - i
 
 loop-holds : tie.Need-loop-holds Inv-loop μ-loop
-unfolding loadN
+unfolding load-n
 loop-holds c = (omega arith, refl)
 
 add-j : tie.Need-add-j Inv-loop μ-loop
@@ -39,11 +39,11 @@ loop-less : tie.Need-loop-less Inv-loop μ-loop
 loop-less c = search needs
 
 loop-again : tie.Need-loop-again Inv-loop μ-loop
-unfolding loadN
+unfolding load-n
 loop-again c = (omega arith, rw (add-one, ← c .before .before .loop .inv .1))
 
 returns : tie.Need-returns Inv-loop μ-loop
-returns c = let e : c .before .loop .i ≡ 8 = omega arith in c .before .loop .inv .1 ∙ ap (λ (k : ℕ). loadN (c .before .before .args .row .now) (c .before .before .args .at) 8 k) e
+returns c = let e : c .before .loop .i ≡ 8 = omega arith in c .before .loop .inv .1 ∙ ap (λ (k : ℕ). load-n (c .before .before .args .row .now) (c .before .before .args .at) 8 k) e
 
 pub load-spec : {M : Type 1} → statement M
 load-spec =

@@ -1,4 +1,4 @@
-use Rattle.processor.specs.Queue.{listsAt}
+use Rattle.processor.specs.Queue.{lists-at}
 use borrow.Author.Needs.{needs}
 use Rattle.processor.proofs.rq.load_lists.Statement.{statement}
 use Rattle.processor.proofs.rq.load_lists.Tie as tie
@@ -13,7 +13,7 @@ load-requires-2 : tie.Need-load-requires-2
 load-requires-2 c κs = search needs
 
 returns : tie.Need-returns
-unfolding listsAt
+unfolding lists-at
 returns c = rw (c .load2 .ensures, c .before .load .ensures)
 
 pub load-lists-spec : {M : Type 1} → statement M

@@ -1,7 +1,7 @@
 use mathlib.Core.Path.{sym, _∙_}
-use Rattle.processor.specs.Queue.{no-row, queue-out}
-use Rattle.processor.specs.Queue.{queueAt, queueIn}
-use Rattle.processor.specs.Queue.{queueAt}
+use Rattle.processor.specs.Laws.Queue.{no-row, queue-out}
+use Rattle.processor.specs.Queue.{queue-at, queue-in-def}
+use Rattle.processor.specs.Queue.{queue-at}
 use borrow.Author.Needs.{needs}
 use Rattle.processor.proofs.rq.load_queue.Statement.{statement}
 use Rattle.processor.proofs.rq.load_queue.Tie as tie
@@ -16,7 +16,7 @@ queue-in-requires : tie.Need-queue-in-requires
 queue-in-requires c κs = search needs
 
 returns : tie.Need-returns
-unfolding queueAt
+unfolding queue-at
 returns c = c .queue-in .ensures
 
 queue-in-requires-2 : tie.Need-queue-in-requires-2

@@ -1,4 +1,4 @@
-use Rattle.processor.specs.Parts.{numbersInto}
+use Rattle.processor.specs.Parts.{numbers-into}
 use borrow.Author.Needs.{needs}
 use Rattle.processor.proofs.rq.numbers_into.Statement.{statement}
 use Rattle.processor.proofs.rq.numbers_into.Tie as tie
@@ -16,7 +16,7 @@ store-requires-2 : tie.Need-store-requires-2
 store-requires-2 c κs = search needs
 
 returns : tie.Need-returns
-unfolding numbersInto
+unfolding numbers-into
 returns c = rw (c .store2 .ensures, c .before .last-two .ensures, c .before .before .before .store .ensures, c .before .before .before .before .first-eight .ensures)
 
 pub numbers-into-spec : {M : Type 1} → statement M

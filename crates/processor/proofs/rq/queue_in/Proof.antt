@@ -1,4 +1,4 @@
-use Rattle.processor.specs.Queue.{queueIn, queueFrom}
+use Rattle.processor.specs.Queue.{queue-in-def, queue-from}
 use borrow.Author.Needs.{needs}
 use Rattle.processor.proofs.rq.queue_in.Statement.{statement}
 use Rattle.processor.proofs.rq.queue_in.Tie as tie
@@ -25,7 +25,7 @@ built-requires : tie.Need-built-requires
 built-requires c κs = search needs
 
 returns : tie.Need-returns
-unfolding queueIn queueFrom
+unfolding queue-in-def queue-from
 returns c = rw (c .built .ensures, c .before .load3 .ensures, c .before .before .load2 .ensures, c .before .before .before .load-lists3 .ensures, c .before .before .before .before .load-lists2 .ensures, c .before .before .before .before .before .load .ensures, c .before .before .before .before .before .before .load-lists .ensures)
 
 pub queue-in-spec : {M : Type 1} → statement M

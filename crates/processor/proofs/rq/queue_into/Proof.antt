@@ -1,5 +1,5 @@
-use Rattle.processor.specs.Queue.{queueInto, storedFrom}
-use Rattle.processor.specs.Parts.{numbersInto}
+use Rattle.processor.specs.Queue.{queue-into, stored-from}
+use Rattle.processor.specs.Parts.{numbers-into}
 use borrow.Author.Needs.{needs}
 use Rattle.processor.proofs.rq.queue_into.Statement.{statement}
 use Rattle.processor.proofs.rq.queue_into.Tie as tie
@@ -20,7 +20,7 @@ numbers-into-requires : tie.Need-numbers-into-requires
 numbers-into-requires c κs = search needs
 
 returns : tie.Need-returns
-unfolding queueInto storedFrom numbersInto
+unfolding queue-into stored-from numbers-into
 returns c = rw (c .numbers-into .ensures, c .before .before .store-lists3 .ensures, c .before .before .before .before .store-lists2 .ensures, c .before .before .before .before .before .before .store .ensures, c .before .before .before .before .before .before .before .before .store-lists .ensures)
 
 pub queue-into-spec : {M : Type 1} → statement M

@@ -2,19 +2,19 @@ use native.Mathlib.Numerals.{add-one}
 use native.Mathlib.Omega.{arith}
 use mathlib.Core.Path.{_≡_, refl, _∙_, ap}
 use Prim.Native.Nat.{ℕ, _≤_, _-_, _+_}
-use Rattle.processor.specs.Window.{placeN, length-place}
+use Rattle.processor.specs.Window.{place-n, length-place}
 use borrow.Author.Needs.{needs}
 use Rattle.processor.proofs.rq.store.Statement.{statement}
 use Rattle.processor.proofs.rq.store.Tie as tie
 
 abbrev Inv-loop : tie.InvT-loop
-Inv-loop row₀ at v i₀ row i = (i ≤ 8) × (row ≡ placeN row₀ at v i)
+Inv-loop row₀ at v i₀ row i = (i ≤ 8) × (row ≡ place-n row₀ at v i)
 
 abbrev μ-loop : tie.MeasureT-loop
 μ-loop row₀ at v i₀ row i = 8 - i
 
 loop-holds : tie.Need-loop-holds Inv-loop μ-loop
-unfolding placeN
+unfolding place-n
 loop-holds c = (omega arith, refl)
 
 add-j : tie.Need-add-j Inv-loop μ-loop
@@ -39,7 +39,7 @@ loop-less : tie.Need-loop-less Inv-loop μ-loop
 loop-less c = search needs
 
 loop-again : tie.Need-loop-again Inv-loop μ-loop
-unfolding placeN
+unfolding place-n
 loop-again c = (omega arith, rw (add-one, ← c .before .loop .inv .1))
 
 returns : tie.Need-returns Inv-loop μ-loop

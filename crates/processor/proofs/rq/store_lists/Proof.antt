@@ -1,4 +1,4 @@
-use Rattle.processor.specs.Queue.{listsStored}
+use Rattle.processor.specs.Queue.{lists-stored-def}
 use borrow.Author.Needs.{needs}
 use Rattle.processor.proofs.rq.store_lists.Statement.{statement}
 use Rattle.processor.proofs.rq.store_lists.Tie as tie
@@ -13,7 +13,7 @@ store-requires-2 : tie.Need-store-requires-2
 store-requires-2 c κs = search needs
 
 returns : tie.Need-returns
-unfolding listsStored
+unfolding lists-stored-def
 returns c = rw (c .store2 .ensures, c .before .before .store .ensures)
 
 pub store-lists-spec : {M : Type 1} → statement M

@@ -1,6 +1,6 @@
 use mathlib.Core.Path.{sym}
 use lib.Seq.{set-out}
-use Rattle.processor.specs.Parts.{numbersStored}
+use Rattle.processor.specs.Parts.{numbers-stored}
 use borrow.Author.Needs.{needs}
 use Rattle.processor.proofs.rq.store_numbers.Statement.{statement}
 use Rattle.processor.proofs.rq.store_numbers.Tie as tie
@@ -18,11 +18,11 @@ same-length : tie.Need-same-length
 same-length c = search needs
 
 returns : tie.Need-returns
-unfolding numbersStored
+unfolding numbers-stored
 returns c = rw (c .numbers-into .ensures)
 
 returns-2 : tie.Need-returns-2
-unfolding numbersStored
+unfolding numbers-stored
 returns-2 c = sym (set-out _ _ _ (c .if1 .left))
 
 pub store-numbers-spec : {M : Type 1} → statement M

@@ -1,5 +1,6 @@
 use mathlib.Core.Path.{sym}
-use Rattle.processor.specs.Queue.{queueStored, stored-out}
+use Rattle.processor.specs.Queue.{queue-stored}
+use Rattle.processor.specs.Laws.Queue.{stored-out}
 use borrow.Author.Needs.{needs}
 use Rattle.processor.proofs.rq.store_queue.Statement.{statement}
 use Rattle.processor.proofs.rq.store_queue.Tie as tie
@@ -17,7 +18,7 @@ same-length : tie.Need-same-length
 same-length c = search needs
 
 returns : tie.Need-returns
-unfolding queueStored
+unfolding queue-stored
 returns c = rw (c .queue-into .ensures)
 
 returns-2 : tie.Need-returns-2

@@ -1,5 +1,5 @@
 use mathlib.Core.Path.{_∙_}
-use Rattle.runqueue.specs.RunQueue.{rqTakenFrom, rqTaken}
+use Rattle.runqueue.specs.RunQueue.{rq-taken-from, rq-taken}
 use Rattle.processor.specs.Parts.{took-stored}
 use borrow.Author.Needs.{needs}
 use Rattle.processor.proofs.rq.taken_front.Statement.{statement}
@@ -36,28 +36,28 @@ same-length : tie.Need-same-length
 same-length c = search needs
 
 returns : tie.Need-returns
-unfolding rqTakenFrom
+unfolding rq-taken-from
 returns c = c .before .taken-realtime .ensures ∙ took-stored _ _ _ _ _ _ _ _ _ _ _ (c .before .before .before .before .before .before .front .given .1) (c .before .before .before .enum-told .given .1)
 
 same-length-2 : tie.Need-same-length-2
 same-length-2 c = search needs
 
 returns-2 : tie.Need-returns-2
-unfolding rqTakenFrom
+unfolding rq-taken-from
 returns-2 c = c .before .taken-timeshare .ensures ∙ took-stored _ _ _ _ _ _ _ _ _ _ _ (c .before .before .before .before .before .before .front .given .1) (c .before .before .before .enum-told2 .given .1)
 
 same-length-3 : tie.Need-same-length-3
 same-length-3 c = search needs
 
 returns-3 : tie.Need-returns-3
-unfolding rqTakenFrom
+unfolding rq-taken-from
 returns-3 c = c .before .taken-idle .ensures ∙ took-stored _ _ _ _ _ _ _ _ _ _ _ (c .before .before .before .before .before .before .front .given .1) (c .before .before .before .enum-told3 .given .1)
 
 same-length-4 : tie.Need-same-length-4
 same-length-4 c = search needs
 
 returns-4 : tie.Need-returns-4
-unfolding rqTaken
+unfolding rq-taken
 returns-4 c = rw (c .before .before .before .enum-told4 .given .1) (c .before .taken-none .ensures)
 
 pub taken-front-spec : {M : Type 1} → statement M

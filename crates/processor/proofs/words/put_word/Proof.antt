@@ -1,4 +1,4 @@
-use Rattle.processor.specs.Words.{put-out}
+use Rattle.processor.specs.Laws.Words.{put-out}
 use mathlib.Core.Path.{sym}
 use Rattle.processor.specs.Words.{put-word}
 use borrow.Author.Needs.{needs}

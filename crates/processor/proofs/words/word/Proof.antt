@@ -1,4 +1,4 @@
-use Rattle.processor.specs.Words.{word-out}
+use Rattle.processor.specs.Laws.Words.{word-out}
 use mathlib.Core.Path.{sym}
 use Rattle.processor.specs.Words.{word}
 use borrow.Author.Needs.{needs}

@@ -1,4 +1,4 @@
-use Rattle.runqueue.specs.RunQueue.{saidRealtime}
+use Rattle.runqueue.specs.RunQueue.{said-realtime-def}
 use borrow.Author.Needs.{needs}
 use Rattle.runqueue.proofs.rq.said_realtime.Statement.{statement}
 use Rattle.runqueue.proofs.rq.said_realtime.Tie as tie
@@ -13,7 +13,7 @@ advertised-requires : tie.Need-advertised-requires
 advertised-requires c κs = search needs
 
 returns : tie.Need-returns
-unfolding saidRealtime
+unfolding said-realtime-def
 returns c = rw (← c .before .before .before .before .says .ensures, c .before .before .before .if1 .taken, ← c .before .before .is-empty .ensures, c .before .if2 .taken) (c .advertised .ensures)
 
 highest-priority-requires : tie.Need-highest-priority-requires
@@ -23,11 +23,11 @@ advertised-requires-2 : tie.Need-advertised-requires-2
 advertised-requires-2 c κs = search needs
 
 returns-2 : tie.Need-returns-2
-unfolding saidRealtime
+unfolding said-realtime-def
 returns-2 c = rw (← c .before .before .before .before .before .says .ensures, c .before .before .before .before .if1 .taken, ← c .before .before .before .is-empty .ensures, c .before .before .if2 .left, ← c .before .highest-priority .ensures) (c .advertised2 .ensures)
 
 returns-3 : tie.Need-returns-3
-unfolding saidRealtime
+unfolding said-realtime-def
 returns-3 c = rw (← c .before .says .ensures, c .if1 .left)
 
 pub said-realtime-spec : {M : Type 1} → statement M

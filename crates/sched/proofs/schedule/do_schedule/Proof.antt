@@ -34,26 +34,26 @@ use denote.Triple.Table.{cited}
 use denote.Triple.Clauses.{Clauses}
 use denote.Triple.Walked.{says, Stays, stay-none, stay-slice, stay-none-slice, walkOf, goes-none, goes-slice, goes-none-slice, ends-at}
 use denote.Exit.{yes as kept-yes}
-use Rattle.lent.proofs.Walk.{Datum, number, truth, nil, struct, Dens, AreD, listed, spell, lent-as, slice-of, shared-as, kept, opened, closed, guards, env-of, standing, bare, full, told, proved}
-use Rattle.lent.proofs.Lent.{mutable, shared, passed, call-slices, call-left, all-freed, no, yes, so, begins3, leaves3}
-use Rattle.lent.specs.Left.{Memory, Left}
-use Rattle.sched.specs.Schedule.{doSchedule, pickNext, reinsertDef}
-use Rattle.sched_queues.specs.Queues.{blockDef}
-use Rattle.step.specs.Running.{runningAt}
+use Rattle.records.proofs.Walk.{Datum, number, truth, nil, struct, Dens, AreD, listed, spell, lent-as, slice-of, shared-as, kept, opened, closed, guards, env-of, standing, bare, full, told, proved}
+use Rattle.records.proofs.Lent.{mutable, shared, passed, call-slices, call-left, all-freed, no, yes, so, begins3, leaves3}
+use Rattle.records.specs.Left.{Memory, Left}
+use Rattle.sched.specs.Schedule.{do-schedule-def, pick-next-def, reinsert-def}
+use Rattle.sched_queues.specs.Queues.{block-def}
+use Rattle.sched_words.specs.Running.{running-at}
 use Rattle.thread.specs.Thread.{NONE}
 use denote.Struct.Laws as LL
-use Rattle.step.specs.declared.context.Context.{Context}
-use Rattle.step.proofs.context.Context as Context·
-use Rattle.step.proofs.context.Context.Laws as Context·laws
-use Rattle.step.specs.declared.context.SchedFlags.{SchedFlags}
-use Rattle.step.proofs.context.SchedFlags as SchedFlags·
-use Rattle.step.proofs.context.SchedFlags.Laws as SchedFlags·laws
+use Rattle.sched_words.specs.declared.context.Context.{Context}
+use Rattle.sched_words.proofs.context.Context as Context·
+use Rattle.sched_words.proofs.context.Context.Laws as Context·laws
+use Rattle.sched_words.specs.declared.context.SchedFlags.{SchedFlags}
+use Rattle.sched_words.proofs.context.SchedFlags as SchedFlags·
+use Rattle.sched_words.proofs.context.SchedFlags.Laws as SchedFlags·laws
 use Rattle.thread.specs.declared.Thread.{Thread}
 use Rattle.thread.proofs.Thread as Thread·
 use Rattle.thread.proofs.Thread.Laws as Thread·laws
-use Rattle.step.proofs.running.running as fn-step-running-running
-use Rattle.step.proofs.running.running.Symbol as fn-step-running-running-def
-use Rattle.step.proofs.running.running.Met as fn-step-running-running-thm
+use Rattle.sched_words.proofs.running.running as fn-sched-words-running-running
+use Rattle.sched_words.proofs.running.running.Symbol as fn-sched-words-running-running-def
+use Rattle.sched_words.proofs.running.running.Met as fn-sched-words-running-running-thm
 use Rattle.sched_queues.proofs.queues.is_idle as fn-sched-queues-queues-is-idle
 use Rattle.sched_queues.proofs.queues.is_idle.Symbol as fn-sched-queues-queues-is-idle-def
 use Rattle.sched_queues.proofs.queues.is_idle.Met as fn-sched-queues-queues-is-idle-thm
@@ -129,30 +129,30 @@ module _ {M : Type 1} (𝓤 : URA M) (H : Heap 𝓤) (𝓜 : Model 𝓤 H) (𝓖
     Post = walkOf 𝓤 H A do-schedule.ended stayed c .post y
 
     abbrev V₁ : ℕ
-    V₁ = runningAt ys′ ((a .0) .us)
+    V₁ = running-at ys′ ((a .0) .us)
 
     abbrev V₂ : Memory
-    V₂ = pickNext (a .0) V₁ ys″ (record { threads = ys; cpus = ys′ })
+    V₂ = pick-next-def (a .0) V₁ ys″ (record { threads = ys; cpus = ys′ })
 
     abbrev V₃ : Left ℕ Memory
-    V₃ = reinsertDef (a .0) V₁ (a .1 .0) (a .1 .1 .0) ys″ (record { threads = ys; cpus = ys′ })
+    V₃ = reinsert-def (a .0) V₁ (a .1 .0) (a .1 .1 .0) ys″ (record { threads = ys; cpus = ys′ })
 
     abbrev V₄ : Memory
-    V₄ = pickNext (a .0) V₁ ys″ (record { threads = (blockDef V₁ ys); cpus = ys′ })
+    V₄ = pick-next-def (a .0) V₁ ys″ (record { threads = (block-def V₁ ys); cpus = ys′ })
 
     module _ (l₀ l₁ l₂ l₃ l₄ l₅ l₆ l₇ l₈ l₉ l₁₀ l₁₁ l₁₂ l₁₃ l₁₄ l₁₅ l₁₆ l₁₇ l₁₈ l₁₉ l₂₀ l₂₁ l₂₂ l₂₃ l₂₄ l₂₅ l₂₆ l₂₇ l₂₈ l₂₉ : ℕ) where
       abbrev En : Env 𝓤 H
       En = env-of mir.locals (l₀ ∷ l₁ ∷ l₂ ∷ l₃ ∷ l₄ ∷ l₅ ∷ l₆ ∷ l₇ ∷ l₈ ∷ l₉ ∷ l₁₀ ∷ l₁₁ ∷ l₁₂ ∷ l₁₃ ∷ l₁₄ ∷ l₁₅ ∷ l₁₆ ∷ l₁₇ ∷ l₁₈ ∷ l₁₉ ∷ l₂₀ ∷ l₂₁ ∷ l₂₂ ∷ l₂₃ ∷ l₂₄ ∷ l₂₅ ∷ l₂₆ ∷ l₂₇ ∷ l₂₈ ∷ l₂₉ ∷ [])
 
       part-10 : (c₈ : Is u64 (V₁) ((number w64) .val (V₁) ∷ [])) (h₁ : Holds (not (eqb V₁ NONE))) (h₂ : Holds (not ((a .1 .0) .reinsert))) → Sq W (‵ (row Thread·.the-row fullShare (ys) b o) ∷ ‵ (kept Thread·.the-row κ q γ b o ys) ∷ ‵ (row (Array u64 96) fullShare (ys′) b′ o′) ∷ ‵ (kept (Array u64 96) κ′ q′ γ′ b′ o′ ys′) ∷ ‵ (shared-as (Array u64 32) κ″ γ″ b″ o″ ys″) ∷ ‵ (flft κ″ q″) ∷ standing 𝓤 mir.locals (l₀ ∷ l₁ ∷ l₂ ∷ l₃ ∷ l₄ ∷ l₅ ∷ l₆ ∷ l₇ ∷ l₈ ∷ l₉ ∷ l₁₀ ∷ l₁₁ ∷ l₁₂ ∷ l₁₃ ∷ l₁₄ ∷ l₁₅ ∷ l₁₆ ∷ l₁₇ ∷ l₁₈ ∷ l₁₉ ∷ l₂₀ ∷ l₂₁ ∷ l₂₂ ∷ l₂₃ ∷ l₂₄ ∷ l₂₅ ∷ l₂₆ ∷ l₂₇ ∷ l₂₈ ∷ l₂₉ ∷ []) (bare ∷ full s ∷ full s′ ∷ full s″ ∷ full (Context° .val (a .0)) ∷ full (SchedFlags° .val (a .1 .0)) ∷ full ((number w64) .val (a .1 .1 .0)) ∷ bare ∷ full ((number w64) .val (V₁)) ∷ bare ∷ bare ∷ bare ∷ bare ∷ bare ∷ bare ∷ bare ∷ bare ∷ bare ∷ bare ∷ bare ∷ bare ∷ bare ∷ bare ∷ bare ∷ bare ∷ bare ∷ bare ∷ bare ∷ bare ∷ bare ∷ []) []) (runs C Λ En mir.t-10 (atRet En Post))
-      unfolding doSchedule
+      unfolding do-schedule-def
       part-10 c₈ h₁ h₂ =
           assigns ! (addr ! (from ! (fld ! refl (hop ! (look-in ! 62 (sub ! 0 refl (whole !))) (stop !))))) (from ! (stop !)) (init ! 16 refl (tt, tt)) $
           assigns ! (agg ! (and-then ! (load ! (from ! (stop !)) (look ! 16 refl)) (and-then ! (load ! (from ! (fld ! refl (stop !))) (look-in ! 62 (sub ! 1 refl (whole !)))) (no-more !)))) (from ! (stop !)) (init ! 14 refl (tt, (tt, (record { fits = room .0 }, tt)))) $
           nothing ! $
           move ! (1 ∷ 0 ∷ []) $
           join ! $
-          call-left nil (number w64 ∷ []) ((V₁, tt)) (emp 𝓤) ((mutable Thread·.the-row ys b o n refl room) ∷ []) ! fm (λ r ws. ws .0 ≡ ((blockDef V₁ ys))) (λ r ws. _≡_ {A = List Thread} (ws .0) (blockDef V₁ ys)) (λ r ws e. e) ((c₈, tt)) (id⊢ 𝓤 (emp 𝓤))
+          call-left nil (number w64 ∷ []) ((V₁, tt)) (emp 𝓤) ((mutable Thread·.the-row ys b o n refl room) ∷ []) ! fm (λ r ws. ws .0 ≡ ((block-def V₁ ys))) (λ r ws. _≡_ {A = List Thread} (ws .0) (block-def V₁ ys)) (λ r ws e. e) ((c₈, tt)) (id⊢ 𝓤 (emp 𝓤))
           (λ νs. cited 𝓤 H (tripleOf 𝓤 H A fn-sched-queues-queues-block.signature (fn-sched-queues-queues-block.spec 𝓤 H A (𝓜 .mem) (𝓡 .run))) 𝓜 𝓡 code.env fn-sched-queues-queues-block-def.name fn-sched-queues-queues-block-def.routine code.calls-sched-queues·queues·block (fn-sched-queues-queues-block-thm.met 𝓤 H 𝓜 𝓖 𝓡) (((νs .0 .0 ∷ [], tt), (fullShare, tt), tt, (lent-as b o (νs .0 .1) ys, (V₁, tt)), (slice-of b o ys ∷ [], spell (number w64 ∷ []) ((V₁, tt)))), tt))
           (λ k. and-then ! (load ! (from ! (stop !)) (look ! 14 refl)) (and-then ! (load ! (from ! (stop !)) (look ! 48 refl)) (no-more !))) (λ r₂₄ ws₂₅ is₂₆ ls₂₇ e₂₈.
           split ! $
@@ -172,8 +172,8 @@ module _ {M : Type 1} (𝓤 : URA M) (H : Heap 𝓤) (𝓜 : Model 𝓤 H) (𝓖
           join ! $
           move ! (1 ∷ 0 ∷ []) $
           join ! $
-          call-left nil (Context° ∷ number w64 ∷ []) ((a .0, (V₁, tt))) (emp 𝓤) ((mutable Thread·.the-row ((blockDef V₁ ys)) b o n ((refl ∙ sym (subst (λ (us : List Thread). length us ≡ length ys) (e₂₈) (ls₂₇ .0)))) room) ∷ (mutable (Array u64 96) ys′ b′ o′ n′ refl room′) ∷ (passed (Array u64 32) ys″ b″ o″ κ″ q″ γ″) ∷ []) ! fm (λ r ws. (ws .0 ≡ (V₄ .threads)) × (ws .1 .0 ≡ (V₄ .cpus))) (λ r ws. _≡_ {A = Memory} (record { threads = ws .0; cpus = ws .1 .0 }) V₄) (λ r ws e. (ap (λ (z : Memory). z .threads) e, ap (λ (z : Memory). z .cpus) e)) ((are .0, (c₈, tt))) (id⊢ 𝓤 (emp 𝓤))
-          (λ νs. cited 𝓤 H (tripleOf 𝓤 H A fn-sched-schedule-pick-next.signature (fn-sched-schedule-pick-next.spec 𝓤 H A (𝓜 .mem) (𝓡 .run))) 𝓜 𝓡 code.env fn-sched-schedule-pick-next-def.name fn-sched-schedule-pick-next-def.routine code.calls-sched·schedule·pick-next (fn-sched-schedule-pick-next-thm.met 𝓤 H 𝓜 𝓖 𝓡) (((νs .0 .0 ∷ [], (νs .1 .0 .0 ∷ [], (κ″, tt))), (fullShare, (fullShare, (q″, tt))), tt, (lent-as b o (νs .0 .1) ((blockDef V₁ ys)), (lent-as b′ o′ (νs .1 .0 .1) ys′, (lent-as b″ o″ γ″ ys″, (a .0, (V₁, tt))))), (slice-of b o ((blockDef V₁ ys)) ∷ [], (slice-of b′ o′ ys′ ∷ [], (slice-of b″ o″ ys″ ∷ [], spell (Context° ∷ number w64 ∷ []) ((a .0, (V₁, tt))))))), tt))
+          call-left nil (Context° ∷ number w64 ∷ []) ((a .0, (V₁, tt))) (emp 𝓤) ((mutable Thread·.the-row ((block-def V₁ ys)) b o n ((refl ∙ sym (subst (λ (us : List Thread). length us ≡ length ys) (e₂₈) (ls₂₇ .0)))) room) ∷ (mutable (Array u64 96) ys′ b′ o′ n′ refl room′) ∷ (passed (Array u64 32) ys″ b″ o″ κ″ q″ γ″) ∷ []) ! fm (λ r ws. (ws .0 ≡ (V₄ .threads)) × (ws .1 .0 ≡ (V₄ .cpus))) (λ r ws. _≡_ {A = Memory} (record { threads = ws .0; cpus = ws .1 .0 }) V₄) (λ r ws e. (ap (λ (z : Memory). z .threads) e, ap (λ (z : Memory). z .cpus) e)) ((are .0, (c₈, tt))) (id⊢ 𝓤 (emp 𝓤))
+          (λ νs. cited 𝓤 H (tripleOf 𝓤 H A fn-sched-schedule-pick-next.signature (fn-sched-schedule-pick-next.spec 𝓤 H A (𝓜 .mem) (𝓡 .run))) 𝓜 𝓡 code.env fn-sched-schedule-pick-next-def.name fn-sched-schedule-pick-next-def.routine code.calls-sched·schedule·pick-next (fn-sched-schedule-pick-next-thm.met 𝓤 H 𝓜 𝓖 𝓡) (((νs .0 .0 ∷ [], (νs .1 .0 .0 ∷ [], (κ″, tt))), (fullShare, (fullShare, (q″, tt))), tt, (lent-as b o (νs .0 .1) ((block-def V₁ ys)), (lent-as b′ o′ (νs .1 .0 .1) ys′, (lent-as b″ o″ γ″ ys″, (a .0, (V₁, tt))))), (slice-of b o ((block-def V₁ ys)) ∷ [], (slice-of b′ o′ ys′ ∷ [], (slice-of b″ o″ ys″ ∷ [], spell (Context° ∷ number w64 ∷ []) ((a .0, (V₁, tt))))))), tt))
           (λ k. and-then ! (load ! (from ! (stop !)) (look ! 7 refl)) (and-then ! (load ! (from ! (stop !)) (look ! 3 refl)) (and-then ! (load ! (from ! (stop !)) (look ! 55 refl)) (and-then ! (load ! (from ! (stop !)) (look ! 53 refl)) (and-then ! (load ! (from ! (stop !)) (look ! 45 refl)) (no-more !)))))) (λ r₂₉ ws₃₀ is₃₁ ls₃₂ e₃₃.
           split ! $
           move ! (1 ∷ []) $
@@ -190,15 +190,15 @@ module _ {M : Type 1} (𝓤 : URA M) (H : Heap 𝓤) (𝓜 : Model 𝓤 H) (𝓖
           move ! (2 ∷ 5 ∷ []) $
           closed ! tt (Array u64 96) ys′ (V₄ .cpus) b′ o′ room′ (sym ((refl ∙ sym (subst (λ (us : List (List ℕ)). length us ≡ length ys′) (e₃₃ .1) (ls₃₂ .1 .0))))) $
           move ! (4 ∷ 5 ∷ []) $
-          closed ! tt Thread·.the-row ys (V₄ .threads) b o room (sym (((refl ∙ sym (subst (λ (us : List Thread). length us ≡ length ys) (e₂₈) (ls₂₇ .0))) ∙ sym (subst (λ (us : List Thread). length us ≡ length ((blockDef V₁ ys))) (e₃₃ .0) (ls₃₂ .0))))) $
+          closed ! tt Thread·.the-row ys (V₄ .threads) b o room (sym (((refl ∙ sym (subst (λ (us : List Thread). length us ≡ length ys) (e₂₈) (ls₂₇ .0))) ∙ sym (subst (λ (us : List Thread). length us ≡ length ((block-def V₁ ys))) (e₃₃ .0) (ls₃₂ .0))))) $
           returns ! (look ! 64 refl) $
           move ! (64 ∷ 65 ∷ 62 ∷ 63 ∷ 60 ∷ 61 ∷ 58 ∷ 59 ∷ 56 ∷ 57 ∷ 54 ∷ 55 ∷ 52 ∷ 53 ∷ 50 ∷ 51 ∷ 48 ∷ 49 ∷ 46 ∷ 47 ∷ 44 ∷ 45 ∷ 42 ∷ 43 ∷ 40 ∷ 41 ∷ 38 ∷ 39 ∷ 36 ∷ 37 ∷ 34 ∷ 35 ∷ 32 ∷ 33 ∷ 30 ∷ 31 ∷ 28 ∷ 29 ∷ 26 ∷ 27 ∷ 24 ∷ 25 ∷ 22 ∷ 23 ∷ 20 ∷ 21 ∷ 18 ∷ 19 ∷ 16 ∷ 17 ∷ 14 ∷ 15 ∷ 12 ∷ 13 ∷ 10 ∷ 11 ∷ 8 ∷ 9 ∷ 6 ∷ 7 ∷ []) $
           all-freed ! mir.locals (l₀ ∷ l₁ ∷ l₂ ∷ l₃ ∷ l₄ ∷ l₅ ∷ l₆ ∷ l₇ ∷ l₈ ∷ l₉ ∷ l₁₀ ∷ l₁₁ ∷ l₁₂ ∷ l₁₃ ∷ l₁₄ ∷ l₁₅ ∷ l₁₆ ∷ l₁₇ ∷ l₁₈ ∷ l₁₉ ∷ l₂₀ ∷ l₂₁ ∷ l₂₂ ∷ l₂₃ ∷ l₂₄ ∷ l₂₅ ∷ l₂₆ ∷ l₂₇ ∷ l₂₈ ∷ l₂₉ ∷ []) (full _ ∷ full _ ∷ full _ ∷ full _ ∷ full _ ∷ full _ ∷ full _ ∷ bare ∷ full _ ∷ bare ∷ bare ∷ bare ∷ bare ∷ bare ∷ bare ∷ bare ∷ bare ∷ bare ∷ bare ∷ bare ∷ bare ∷ bare ∷ bare ∷ full _ ∷ full _ ∷ full _ ∷ full _ ∷ full _ ∷ full _ ∷ full _ ∷ []) tt $
-          suffices ! _ (ends-at 𝓤 H A do-schedule.ended stayed c W y _ (a .1 .1 .0) (V₄ .threads, (V₄ .cpus, (tt, (tt, (tt, (tt, tt)))))) (sym (((refl ∙ sym (subst (λ (us : List Thread). length us ≡ length ys) (e₂₈) (ls₂₇ .0))) ∙ sym (subst (λ (us : List Thread). length us ≡ length ((blockDef V₁ ys))) (e₃₃ .0) (ls₃₂ .0)))), (sym ((refl ∙ sym (subst (λ (us : List (List ℕ)). length us ≡ length ys′) (e₃₃ .1) (ls₃₂ .1 .0)))), (tt, (tt, (tt, (tt, tt))))))) $ says ! (so {X = Left ℕ Memory} (record { answer = (a .1 .1 .0); memory = record { threads = (V₄ .threads); cpus = (V₄ .cpus) } }) (doSchedule (a .0) (a .1 .0) (a .1 .1 .0) ys″ (record { threads = ys; cpus = ys′ })) ((no (eqb V₁ NONE) h₁ _ (no ((a .1 .0) .reinsert) h₂ _ (refl))))) $
+          suffices ! _ (ends-at 𝓤 H A do-schedule.ended stayed c W y _ (a .1 .1 .0) (V₄ .threads, (V₄ .cpus, (tt, (tt, (tt, (tt, tt)))))) (sym (((refl ∙ sym (subst (λ (us : List Thread). length us ≡ length ys) (e₂₈) (ls₂₇ .0))) ∙ sym (subst (λ (us : List Thread). length us ≡ length ((block-def V₁ ys))) (e₃₃ .0) (ls₃₂ .0)))), (sym ((refl ∙ sym (subst (λ (us : List (List ℕ)). length us ≡ length ys′) (e₃₃ .1) (ls₃₂ .1 .0)))), (tt, (tt, (tt, (tt, tt))))))) $ says ! (so {X = Left ℕ Memory} (record { answer = (a .1 .1 .0); memory = record { threads = (V₄ .threads); cpus = (V₄ .cpus) } }) (do-schedule-def (a .0) (a .1 .0) (a .1 .1 .0) ys″ (record { threads = ys; cpus = ys′ })) ((no (eqb V₁ NONE) h₁ _ (no ((a .1 .0) .reinsert) h₂ _ (refl))))) $
           leaves3 ! (number w64) Ds a (a .1 .1 .0) are (are .1 .1 .0)))
 
     walk : ent 𝓤 (onEntry 𝓤 H A do-schedule.signature (κ, (κ′, (κ″, tt))) (q, (q′, (q″, tt))) ((lent-as b o γ ys, (lent-as b′ o′ γ′ ys′, (lent-as b″ o″ γ″ ys″, a)))) ((s ∷ [], (s′ ∷ [], (s″ ∷ [], spell Ds a))))) (WpFn 𝓤 H C Λ code.function (s ∷ s′ ∷ s″ ∷ listed Ds a) Post)
-    unfolding doSchedule
+    unfolding do-schedule-def
     walk =
         qed W ((‵ (flft κ q) ⊛ (‵ (flft κ′ q′) ⊛ (‵ (flft κ″ q″) ⊛ (‵ ftrue)))) ∷ ‵ (owns (MutSlice (named 0) κ Thread·.the-row ∷ MutSlice (named 1) κ′ (Array u64 96) ∷ ShrSlice (named 2) κ″ (Array u64 32) ∷ Context·.the-row ∷ SchedFlags·.the-row ∷ u64 ∷ []) ((lent-as b o γ ys, (lent-as b′ o′ γ′ ys′, (lent-as b″ o″ γ″ ys″, a)))) ((s ∷ [], (s′ ∷ [], (s″ ∷ [], spell Ds a))))) ∷ []) ∵ begins3 ! $ enter ! C _ code.function (s ∷ s′ ∷ s″ ∷ listed Ds a) _ $
         alloc1 ! (λ l₀. alloc1 ! (λ l₁. alloc1 ! (λ l₂. alloc1 ! (λ l₃. alloc1 ! (λ l₄. alloc1 ! (λ l₅. alloc1 ! (λ l₆. alloc1 ! (λ l₇. alloc1 ! (λ l₈. alloc1 ! (λ l₉. alloc1 ! (λ l₁₀. alloc1 ! (λ l₁₁. alloc1 ! (λ l₁₂. alloc1 ! (λ l₁₃. alloc1 ! (λ l₁₄. alloc1 ! (λ l₁₅. alloc1 ! (λ l₁₆. alloc1 ! (λ l₁₇. alloc1 ! (λ l₁₈. alloc1 ! (λ l₁₉. alloc1 ! (λ l₂₀. alloc1 ! (λ l₂₁. alloc1 ! (λ l₂₂. alloc1 ! (λ l₂₃. alloc1 ! (λ l₂₄. alloc1 ! (λ l₂₅. alloc1 ! (λ l₂₆. alloc1 ! (λ l₂₇. alloc1 ! (λ l₂₈. alloc1 ! (λ l₂₉. alloc0 ! $ params1 ! $
@@ -215,7 +215,7 @@ module _ {M : Type 1} (𝓤 : URA M) (H : Heap 𝓤) (𝓜 : Model 𝓤 H) (𝓖
         move ! (3 ∷ 0 ∷ []) $
         join ! $
         call-slices (number w64) (number w64 ∷ []) (((a .0) .us, tt)) (emp 𝓤) ((shared (Array u64 96) ys′ b′ o′ n′ refl room′) ∷ []) ! fm (λ r ws. r ≡ V₁) ((LL.owed Context·.the-type Context·laws.the-laws (a .0) _ (are .0) .0, tt)) (id⊢ 𝓤 (emp 𝓤))
-        (λ νs. cited 𝓤 H (tripleOf 𝓤 H A fn-step-running-running.signature (fn-step-running-running.spec 𝓤 H A (𝓜 .mem) (𝓡 .run))) 𝓜 𝓡 code.env fn-step-running-running-def.name fn-step-running-running-def.routine code.calls-step·running·running (fn-step-running-running-thm.met 𝓤 H 𝓜 𝓖 𝓡) (((νs .0 .0 ∷ [], tt), (fullShare, tt), tt, (lent-as b′ o′ (νs .0 .1) ys′, ((a .0) .us, tt)), (slice-of b′ o′ ys′ ∷ [], spell (number w64 ∷ []) (((a .0) .us, tt)))), tt))
+        (λ νs. cited 𝓤 H (tripleOf 𝓤 H A fn-sched-words-running-running.signature (fn-sched-words-running-running.spec 𝓤 H A (𝓜 .mem) (𝓡 .run))) 𝓜 𝓡 code.env fn-sched-words-running-running-def.name fn-sched-words-running-running-def.routine code.calls-sched-words·running·running (fn-sched-words-running-running-thm.met 𝓤 H 𝓜 𝓖 𝓡) (((νs .0 .0 ∷ [], tt), (fullShare, tt), tt, (lent-as b′ o′ (νs .0 .1) ys′, ((a .0) .us, tt)), (slice-of b′ o′ ys′ ∷ [], spell (number w64 ∷ []) (((a .0) .us, tt)))), tt))
         (λ k. and-then ! (load ! (from ! (stop !)) (look ! 42 refl)) (and-then ! (load ! (from ! (stop !)) (look ! 50 refl)) (no-more !))) (λ r₁ ws₂ is₃ ls₄ e₅.
         split ! $
         move ! (1 ∷ []) $
@@ -265,7 +265,7 @@ module _ {M : Type 1} (𝓤 : URA M) (H : Heap 𝓤) (𝓜 : Model 𝓤 H) (𝓖
         returns-within ! Post refl (look ! 64 refl) $
         move ! (64 ∷ 65 ∷ 62 ∷ 63 ∷ 60 ∷ 61 ∷ 58 ∷ 59 ∷ 56 ∷ 57 ∷ 54 ∷ 55 ∷ 52 ∷ 53 ∷ 50 ∷ 51 ∷ 48 ∷ 49 ∷ 46 ∷ 47 ∷ 44 ∷ 45 ∷ 42 ∷ 43 ∷ 40 ∷ 41 ∷ 38 ∷ 39 ∷ 36 ∷ 37 ∷ 34 ∷ 35 ∷ 32 ∷ 33 ∷ 30 ∷ 31 ∷ 28 ∷ 29 ∷ 26 ∷ 27 ∷ 24 ∷ 25 ∷ 22 ∷ 23 ∷ 20 ∷ 21 ∷ 18 ∷ 19 ∷ 16 ∷ 17 ∷ 14 ∷ 15 ∷ 12 ∷ 13 ∷ 10 ∷ 11 ∷ 8 ∷ 9 ∷ 6 ∷ 7 ∷ []) $
         all-freed ! mir.locals (l₀ ∷ l₁ ∷ l₂ ∷ l₃ ∷ l₄ ∷ l₅ ∷ l₆ ∷ l₇ ∷ l₈ ∷ l₉ ∷ l₁₀ ∷ l₁₁ ∷ l₁₂ ∷ l₁₃ ∷ l₁₄ ∷ l₁₅ ∷ l₁₆ ∷ l₁₇ ∷ l₁₈ ∷ l₁₉ ∷ l₂₀ ∷ l₂₁ ∷ l₂₂ ∷ l₂₃ ∷ l₂₄ ∷ l₂₅ ∷ l₂₆ ∷ l₂₇ ∷ l₂₈ ∷ l₂₉ ∷ []) (full _ ∷ full _ ∷ full _ ∷ full _ ∷ full _ ∷ full _ ∷ full _ ∷ full _ ∷ full _ ∷ bare ∷ full _ ∷ full _ ∷ full _ ∷ full _ ∷ full _ ∷ full _ ∷ full _ ∷ full _ ∷ bare ∷ bare ∷ bare ∷ bare ∷ bare ∷ bare ∷ bare ∷ bare ∷ bare ∷ bare ∷ bare ∷ bare ∷ []) tt $
-        suffices ! _ (ends-at 𝓤 H A do-schedule.ended stayed c W y _ (a .1 .1 .0) (V₂ .threads, (V₂ .cpus, (tt, (tt, (tt, (tt, tt)))))) (sym ((refl ∙ sym (subst (λ (us : List Thread). length us ≡ length ys) (e₁₇ .0) (ls₁₆ .0)))), (sym ((refl ∙ sym (subst (λ (us : List (List ℕ)). length us ≡ length ys′) (e₁₇ .1) (ls₁₆ .1 .0)))), (tt, (tt, (tt, (tt, tt))))))) $ says ! (so {X = Left ℕ Memory} (record { answer = (a .1 .1 .0); memory = record { threads = (V₂ .threads); cpus = (V₂ .cpus) } }) (doSchedule (a .0) (a .1 .0) (a .1 .1 .0) ys″ (record { threads = ys; cpus = ys′ })) ((yes (eqb V₁ NONE) h₁ _ (refl)))) $
+        suffices ! _ (ends-at 𝓤 H A do-schedule.ended stayed c W y _ (a .1 .1 .0) (V₂ .threads, (V₂ .cpus, (tt, (tt, (tt, (tt, tt)))))) (sym ((refl ∙ sym (subst (λ (us : List Thread). length us ≡ length ys) (e₁₇ .0) (ls₁₆ .0)))), (sym ((refl ∙ sym (subst (λ (us : List (List ℕ)). length us ≡ length ys′) (e₁₇ .1) (ls₁₆ .1 .0)))), (tt, (tt, (tt, (tt, tt))))))) $ says ! (so {X = Left ℕ Memory} (record { answer = (a .1 .1 .0); memory = record { threads = (V₂ .threads); cpus = (V₂ .cpus) } }) (do-schedule-def (a .0) (a .1 .0) (a .1 .1 .0) ys″ (record { threads = ys; cpus = ys′ })) ((yes (eqb V₁ NONE) h₁ _ (refl)))) $
         leaves3 ! (number w64) Ds a (a .1 .1 .0) are (are .1 .1 .0)))
         (λ h₁.
         assigns ! (of-opd ! (load ! (from ! (fld ! refl (stop !))) (look-in ! 54 (sub ! 2 refl (whole !))))) (from ! (stop !)) (init ! 46 refl (tt, tt)) $
@@ -306,7 +306,7 @@ module _ {M : Type 1} (𝓤 : URA M) (H : Heap 𝓤) (𝓜 : Model 𝓤 H) (𝓖
         returns-within ! Post refl (look ! 64 refl) $
         move ! (64 ∷ 65 ∷ 62 ∷ 63 ∷ 60 ∷ 61 ∷ 58 ∷ 59 ∷ 56 ∷ 57 ∷ 54 ∷ 55 ∷ 52 ∷ 53 ∷ 50 ∷ 51 ∷ 48 ∷ 49 ∷ 46 ∷ 47 ∷ 44 ∷ 45 ∷ 42 ∷ 43 ∷ 40 ∷ 41 ∷ 38 ∷ 39 ∷ 36 ∷ 37 ∷ 34 ∷ 35 ∷ 32 ∷ 33 ∷ 30 ∷ 31 ∷ 28 ∷ 29 ∷ 26 ∷ 27 ∷ 24 ∷ 25 ∷ 22 ∷ 23 ∷ 20 ∷ 21 ∷ 18 ∷ 19 ∷ 16 ∷ 17 ∷ 14 ∷ 15 ∷ 12 ∷ 13 ∷ 10 ∷ 11 ∷ 8 ∷ 9 ∷ 6 ∷ 7 ∷ []) $
         all-freed ! mir.locals (l₀ ∷ l₁ ∷ l₂ ∷ l₃ ∷ l₄ ∷ l₅ ∷ l₆ ∷ l₇ ∷ l₈ ∷ l₉ ∷ l₁₀ ∷ l₁₁ ∷ l₁₂ ∷ l₁₃ ∷ l₁₄ ∷ l₁₅ ∷ l₁₆ ∷ l₁₇ ∷ l₁₈ ∷ l₁₉ ∷ l₂₀ ∷ l₂₁ ∷ l₂₂ ∷ l₂₃ ∷ l₂₄ ∷ l₂₅ ∷ l₂₆ ∷ l₂₇ ∷ l₂₈ ∷ l₂₉ ∷ []) (full _ ∷ full _ ∷ full _ ∷ full _ ∷ full _ ∷ full _ ∷ full _ ∷ full _ ∷ full _ ∷ full _ ∷ full _ ∷ full _ ∷ full _ ∷ bare ∷ bare ∷ bare ∷ bare ∷ bare ∷ full _ ∷ full _ ∷ full _ ∷ full _ ∷ full _ ∷ bare ∷ bare ∷ bare ∷ bare ∷ bare ∷ bare ∷ bare ∷ []) tt $
-        suffices ! _ (ends-at 𝓤 H A do-schedule.ended stayed c W y _ (V₃ .answer) (V₃ .memory .threads, (V₃ .memory .cpus, (tt, (tt, (tt, (tt, tt)))))) (sym ((refl ∙ sym (subst (λ (us : List Thread). length us ≡ length ys) (e₂₂ .1 .0) (ls₂₁ .0)))), (sym ((refl ∙ sym (subst (λ (us : List (List ℕ)). length us ≡ length ys′) (e₂₂ .1 .1) (ls₂₁ .1 .0)))), (tt, (tt, (tt, (tt, tt))))))) $ says ! (so {X = Left ℕ Memory} (record { answer = (V₃ .answer); memory = record { threads = (V₃ .memory .threads); cpus = (V₃ .memory .cpus) } }) (doSchedule (a .0) (a .1 .0) (a .1 .1 .0) ys″ (record { threads = ys; cpus = ys′ })) ((no (eqb V₁ NONE) h₁ _ (yes ((a .1 .0) .reinsert) h₂ _ (refl))))) $
+        suffices ! _ (ends-at 𝓤 H A do-schedule.ended stayed c W y _ (V₃ .answer) (V₃ .memory .threads, (V₃ .memory .cpus, (tt, (tt, (tt, (tt, tt)))))) (sym ((refl ∙ sym (subst (λ (us : List Thread). length us ≡ length ys) (e₂₂ .1 .0) (ls₂₁ .0)))), (sym ((refl ∙ sym (subst (λ (us : List (List ℕ)). length us ≡ length ys′) (e₂₂ .1 .1) (ls₂₁ .1 .0)))), (tt, (tt, (tt, (tt, tt))))))) $ says ! (so {X = Left ℕ Memory} (record { answer = (V₃ .answer); memory = record { threads = (V₃ .memory .threads); cpus = (V₃ .memory .cpus) } }) (do-schedule-def (a .0) (a .1 .0) (a .1 .1 .0) ys″ (record { threads = ys; cpus = ys′ })) ((no (eqb V₁ NONE) h₁ _ (yes ((a .1 .0) .reinsert) h₂ _ (refl))))) $
         leaves3 ! (number w64) Ds a (V₃ .answer) are (is₂₃))))
         (λ h₂.
         forget ! 50 refl $

@@ -1,11 +1,11 @@
 use borrow.Author.Tests.{ne-eqb, eq-eqb}
-use Rattle.sched.specs.Schedule.{idleUnless}
+use Rattle.sched.specs.Schedule.{idle-unless}
 use borrow.Author.Needs.{needs}
 use Rattle.sched.proofs.schedule.idle_unless.Statement.{statement}
 use Rattle.sched.proofs.schedule.idle_unless.Tie as tie
 
 returns : tie.Need-returns
-unfolding idleUnless
+unfolding idle-unless
 returns c = rw (eq-eqb _ _ (c .if1 .taken))
 
 run-idle-requires : tie.Need-run-idle-requires
@@ -15,7 +15,7 @@ same-length : tie.Need-same-length
 same-length c = search needs
 
 returns-2 : tie.Need-returns-2
-unfolding idleUnless
+unfolding idle-unless
 returns-2 c = rw (ne-eqb _ _ (c .before .before .before .if1 .left)) (c .before .run-idle .ensures)
 
 pub idle-unless-spec : {M : Type 1} → statement M

@@ -33,25 +33,25 @@ use denote.Triple.Table.{cited}
 use denote.Triple.Clauses.{Clauses}
 use denote.Triple.Walked.{says, Stays, stay-none, stay-slice, stay-none-slice, walkOf, goes-none, goes-slice, goes-none-slice, ends-at}
 use denote.Exit.{yes as kept-yes}
-use Rattle.lent.proofs.Walk.{Datum, number, truth, nil, struct, Dens, AreD, listed, spell, lent-as, slice-of, shared-as, kept, opened, closed, guards, env-of, standing, bare, full, told, proved}
-use Rattle.lent.proofs.Lent.{mutable, passed, choice, call-slices, call-left, all-freed, no, yes, so, begins3, leaves3}
-use Rattle.lent.specs.Left.{Memory, Left}
-use Rattle.lent.specs.Rq.{takeDef}
-use Rattle.sched.specs.Schedule.{pickNext, runStolen, runTaken, pickStolen, pickTaken}
-use Rattle.sched_queues.specs.Queues.{isNobody, trySteal, threadOf}
+use Rattle.records.proofs.Walk.{Datum, number, truth, nil, struct, Dens, AreD, listed, spell, lent-as, slice-of, shared-as, kept, opened, closed, guards, env-of, standing, bare, full, told, proved}
+use Rattle.records.proofs.Lent.{mutable, passed, choice, call-slices, call-left, all-freed, no, yes, so, begins3, leaves3}
+use Rattle.records.specs.Left.{Memory, Left}
+use Rattle.records.specs.Rq.{take-def}
+use Rattle.sched.specs.Schedule.{pick-next-def, run-stolen-def, run-taken-def, pick-stolen, pick-taken}
+use Rattle.sched_queues.specs.Queues.{is-nobody, try-steal-def, thread-of}
 use denote.Struct.Laws as LL
-use Rattle.step.specs.declared.context.Context.{Context}
-use Rattle.step.proofs.context.Context as Context·
-use Rattle.step.proofs.context.Context.Laws as Context·laws
-use Rattle.lent.specs.declared.rq.Taken.{Taken}
-use Rattle.lent.proofs.rq.Taken as Taken·
-use Rattle.lent.proofs.rq.Taken.Laws as Taken·laws
+use Rattle.sched_words.specs.declared.context.Context.{Context}
+use Rattle.sched_words.proofs.context.Context as Context·
+use Rattle.sched_words.proofs.context.Context.Laws as Context·laws
+use Rattle.records.specs.declared.rq.Taken.{Taken}
+use Rattle.records.proofs.rq.Taken as Taken·
+use Rattle.records.proofs.rq.Taken.Laws as Taken·laws
 use Rattle.thread.specs.declared.Thread.{Thread}
 use Rattle.thread.proofs.Thread as Thread·
 use Rattle.thread.proofs.Thread.Laws as Thread·laws
-use Rattle.lent.proofs.rq.take as fn-lent-rq-take
-use Rattle.lent.proofs.rq.take.Symbol as fn-lent-rq-take-def
-use Rattle.lent.proofs.rq.take.Met as fn-lent-rq-take-thm
+use Rattle.records.proofs.rq.take as fn-records-rq-take
+use Rattle.records.proofs.rq.take.Symbol as fn-records-rq-take-def
+use Rattle.records.proofs.rq.take.Met as fn-records-rq-take-thm
 use Rattle.sched_queues.proofs.queues.is_nobody as fn-sched-queues-queues-is-nobody
 use Rattle.sched_queues.proofs.queues.is_nobody.Symbol as fn-sched-queues-queues-is-nobody-def
 use Rattle.sched_queues.proofs.queues.is_nobody.Met as fn-sched-queues-queues-is-nobody-thm
@@ -130,23 +130,23 @@ module _ {M : Type 1} (𝓤 : URA M) (H : Heap 𝓤) (𝓜 : Model 𝓤 H) (𝓖
     Post = walkOf 𝓤 H A pick-next.ended stayed c .post y
 
     abbrev V₁ : Left Taken Memory
-    V₁ = takeDef ((a .0) .us) false (record { threads = ys; cpus = ys′ })
+    V₁ = take-def ((a .0) .us) false (record { threads = ys; cpus = ys′ })
 
     abbrev V₂ : Left Taken Memory
-    V₂ = trySteal (a .0) ys″ (record { threads = V₁ .memory .threads; cpus = V₁ .memory .cpus })
+    V₂ = try-steal-def (a .0) ys″ (record { threads = V₁ .memory .threads; cpus = V₁ .memory .cpus })
 
     abbrev V₃ : Memory
-    V₃ = runStolen ((a .0) .us) (a .1 .0) (V₂ .answer) (record { threads = V₂ .memory .threads; cpus = V₂ .memory .cpus })
+    V₃ = run-stolen-def ((a .0) .us) (a .1 .0) (V₂ .answer) (record { threads = V₂ .memory .threads; cpus = V₂ .memory .cpus })
 
     abbrev V₄ : Memory
-    V₄ = runTaken ((a .0) .us) (a .1 .0) (threadOf (V₁ .answer)) (record { threads = V₁ .memory .threads; cpus = V₁ .memory .cpus })
+    V₄ = run-taken-def ((a .0) .us) (a .1 .0) (thread-of (V₁ .answer)) (record { threads = V₁ .memory .threads; cpus = V₁ .memory .cpus })
 
     module _ (l₀ l₁ l₂ l₃ l₄ l₅ l₆ l₇ l₈ l₉ l₁₀ l₁₁ l₁₂ l₁₃ l₁₄ l₁₅ l₁₆ l₁₇ l₁₈ l₁₉ l₂₀ l₂₁ l₂₂ l₂₃ l₂₄ l₂₅ l₂₆ l₂₇ l₂₈ : ℕ) where
       abbrev En : Env 𝓤 H
       En = env-of mir.locals (l₀ ∷ l₁ ∷ l₂ ∷ l₃ ∷ l₄ ∷ l₅ ∷ l₆ ∷ l₇ ∷ l₈ ∷ l₉ ∷ l₁₀ ∷ l₁₁ ∷ l₁₂ ∷ l₁₃ ∷ l₁₄ ∷ l₁₅ ∷ l₁₆ ∷ l₁₇ ∷ l₁₈ ∷ l₁₉ ∷ l₂₀ ∷ l₂₁ ∷ l₂₂ ∷ l₂₃ ∷ l₂₄ ∷ l₂₅ ∷ l₂₆ ∷ l₂₇ ∷ l₂₈ ∷ [])
 
-      part-15 : (e₁₀₀ : n ≡ length (V₄ .threads)) (e₁₀₁ : n′ ≡ length (V₄ .cpus)) (h₁ : Holds (not (isNobody (V₁ .answer)))) → Sq W (‵ (row Thread·.the-row fullShare (V₄ .threads) b o) ∷ ‵ (kept Thread·.the-row κ q γ b o ys) ∷ ‵ (row (Array u64 96) fullShare (V₄ .cpus) b′ o′) ∷ ‵ (kept (Array u64 96) κ′ q′ γ′ b′ o′ ys′) ∷ ‵ (shared-as (Array u64 32) κ″ γ″ b″ o″ ys″) ∷ ‵ (flft κ″ q″) ∷ standing 𝓤 mir.locals (l₀ ∷ l₁ ∷ l₂ ∷ l₃ ∷ l₄ ∷ l₅ ∷ l₆ ∷ l₇ ∷ l₈ ∷ l₉ ∷ l₁₀ ∷ l₁₁ ∷ l₁₂ ∷ l₁₃ ∷ l₁₄ ∷ l₁₅ ∷ l₁₆ ∷ l₁₇ ∷ l₁₈ ∷ l₁₉ ∷ l₂₀ ∷ l₂₁ ∷ l₂₂ ∷ l₂₃ ∷ l₂₄ ∷ l₂₅ ∷ l₂₆ ∷ l₂₇ ∷ l₂₈ ∷ []) (bare ∷ full s ∷ full s′ ∷ full s″ ∷ full (Context° .val (a .0)) ∷ full ((number w64) .val (a .1 .0)) ∷ bare ∷ bare ∷ bare ∷ bare ∷ bare ∷ bare ∷ bare ∷ bare ∷ bare ∷ bare ∷ bare ∷ bare ∷ bare ∷ bare ∷ bare ∷ bare ∷ bare ∷ bare ∷ bare ∷ bare ∷ bare ∷ bare ∷ bare ∷ []) []) (runs C Λ En mir.t-15 (atRet En Post))
-      unfolding pickNext pickTaken pickStolen
+      part-15 : (e₁₀₀ : n ≡ length (V₄ .threads)) (e₁₀₁ : n′ ≡ length (V₄ .cpus)) (h₁ : Holds (not (is-nobody (V₁ .answer)))) → Sq W (‵ (row Thread·.the-row fullShare (V₄ .threads) b o) ∷ ‵ (kept Thread·.the-row κ q γ b o ys) ∷ ‵ (row (Array u64 96) fullShare (V₄ .cpus) b′ o′) ∷ ‵ (kept (Array u64 96) κ′ q′ γ′ b′ o′ ys′) ∷ ‵ (shared-as (Array u64 32) κ″ γ″ b″ o″ ys″) ∷ ‵ (flft κ″ q″) ∷ standing 𝓤 mir.locals (l₀ ∷ l₁ ∷ l₂ ∷ l₃ ∷ l₄ ∷ l₅ ∷ l₆ ∷ l₇ ∷ l₈ ∷ l₉ ∷ l₁₀ ∷ l₁₁ ∷ l₁₂ ∷ l₁₃ ∷ l₁₄ ∷ l₁₅ ∷ l₁₆ ∷ l₁₇ ∷ l₁₈ ∷ l₁₉ ∷ l₂₀ ∷ l₂₁ ∷ l₂₂ ∷ l₂₃ ∷ l₂₄ ∷ l₂₅ ∷ l₂₆ ∷ l₂₇ ∷ l₂₈ ∷ []) (bare ∷ full s ∷ full s′ ∷ full s″ ∷ full (Context° .val (a .0)) ∷ full ((number w64) .val (a .1 .0)) ∷ bare ∷ bare ∷ bare ∷ bare ∷ bare ∷ bare ∷ bare ∷ bare ∷ bare ∷ bare ∷ bare ∷ bare ∷ bare ∷ bare ∷ bare ∷ bare ∷ bare ∷ bare ∷ bare ∷ bare ∷ bare ∷ bare ∷ bare ∷ []) []) (runs C Λ En mir.t-15 (atRet En Post))
+      unfolding pick-next-def pick-taken pick-stolen
       part-15 e₁₀₀ e₁₀₁ h₁ =
           assigns ! (of-opd ! (unit-lit !)) (from ! (stop !)) (init ! 62 refl (tt, tt)) $
           move ! (4 ∷ 5 ∷ []) $
@@ -157,11 +157,11 @@ module _ {M : Type 1} (𝓤 : URA M) (H : Heap 𝓤) (𝓜 : Model 𝓤 H) (𝓖
           returns ! (look ! 62 refl) $
           move ! (62 ∷ 63 ∷ 60 ∷ 61 ∷ 58 ∷ 59 ∷ 56 ∷ 57 ∷ 54 ∷ 55 ∷ 52 ∷ 53 ∷ 50 ∷ 51 ∷ 48 ∷ 49 ∷ 46 ∷ 47 ∷ 44 ∷ 45 ∷ 42 ∷ 43 ∷ 40 ∷ 41 ∷ 38 ∷ 39 ∷ 36 ∷ 37 ∷ 34 ∷ 35 ∷ 32 ∷ 33 ∷ 30 ∷ 31 ∷ 28 ∷ 29 ∷ 26 ∷ 27 ∷ 24 ∷ 25 ∷ 22 ∷ 23 ∷ 20 ∷ 21 ∷ 18 ∷ 19 ∷ 16 ∷ 17 ∷ 14 ∷ 15 ∷ 12 ∷ 13 ∷ 10 ∷ 11 ∷ 8 ∷ 9 ∷ 6 ∷ 7 ∷ []) $
           all-freed ! mir.locals (l₀ ∷ l₁ ∷ l₂ ∷ l₃ ∷ l₄ ∷ l₅ ∷ l₆ ∷ l₇ ∷ l₈ ∷ l₉ ∷ l₁₀ ∷ l₁₁ ∷ l₁₂ ∷ l₁₃ ∷ l₁₄ ∷ l₁₅ ∷ l₁₆ ∷ l₁₇ ∷ l₁₈ ∷ l₁₉ ∷ l₂₀ ∷ l₂₁ ∷ l₂₂ ∷ l₂₃ ∷ l₂₄ ∷ l₂₅ ∷ l₂₆ ∷ l₂₇ ∷ l₂₈ ∷ []) (full _ ∷ full _ ∷ full _ ∷ full _ ∷ full _ ∷ full _ ∷ bare ∷ bare ∷ bare ∷ bare ∷ bare ∷ bare ∷ bare ∷ bare ∷ bare ∷ bare ∷ bare ∷ bare ∷ bare ∷ bare ∷ bare ∷ bare ∷ bare ∷ bare ∷ bare ∷ bare ∷ bare ∷ bare ∷ bare ∷ []) tt $
-          suffices ! _ (ends-at 𝓤 H A pick-next.ended stayed c W y _ (tt) (V₄ .threads, (V₄ .cpus, (tt, (tt, (tt, tt))))) (sym e₁₀₀, (sym e₁₀₁, (tt, (tt, (tt, tt)))))) $ says ! (so {X = Memory} (record { threads = (V₄ .threads); cpus = (V₄ .cpus) }) (pickNext (a .0) (a .1 .0) ys″ (record { threads = ys; cpus = ys′ })) ((no (isNobody (V₁ .answer)) h₁ _ (refl)))) $
+          suffices ! _ (ends-at 𝓤 H A pick-next.ended stayed c W y _ (tt) (V₄ .threads, (V₄ .cpus, (tt, (tt, (tt, tt))))) (sym e₁₀₀, (sym e₁₀₁, (tt, (tt, (tt, tt)))))) $ says ! (so {X = Memory} (record { threads = (V₄ .threads); cpus = (V₄ .cpus) }) (pick-next-def (a .0) (a .1 .0) ys″ (record { threads = ys; cpus = ys′ })) ((no (is-nobody (V₁ .answer)) h₁ _ (refl)))) $
           leaves3 ! nil Ds a (tt) are (refl)
 
     walk : ent 𝓤 (onEntry 𝓤 H A pick-next.signature (κ, (κ′, (κ″, tt))) (q, (q′, (q″, tt))) ((lent-as b o γ ys, (lent-as b′ o′ γ′ ys′, (lent-as b″ o″ γ″ ys″, a)))) ((s ∷ [], (s′ ∷ [], (s″ ∷ [], spell Ds a))))) (WpFn 𝓤 H C Λ code.function (s ∷ s′ ∷ s″ ∷ listed Ds a) Post)
-    unfolding pickNext pickTaken pickStolen
+    unfolding pick-next-def pick-taken pick-stolen
     walk =
         qed W ((‵ (flft κ q) ⊛ (‵ (flft κ′ q′) ⊛ (‵ (flft κ″ q″) ⊛ (‵ ftrue)))) ∷ ‵ (owns (MutSlice (named 0) κ Thread·.the-row ∷ MutSlice (named 1) κ′ (Array u64 96) ∷ ShrSlice (named 2) κ″ (Array u64 32) ∷ Context·.the-row ∷ u64 ∷ []) ((lent-as b o γ ys, (lent-as b′ o′ γ′ ys′, (lent-as b″ o″ γ″ ys″, a)))) ((s ∷ [], (s′ ∷ [], (s″ ∷ [], spell Ds a))))) ∷ []) ∵ begins3 ! $ enter ! C _ code.function (s ∷ s′ ∷ s″ ∷ listed Ds a) _ $
         alloc1 ! (λ l₀. alloc1 ! (λ l₁. alloc1 ! (λ l₂. alloc1 ! (λ l₃. alloc1 ! (λ l₄. alloc1 ! (λ l₅. alloc1 ! (λ l₆. alloc1 ! (λ l₇. alloc1 ! (λ l₈. alloc1 ! (λ l₉. alloc1 ! (λ l₁₀. alloc1 ! (λ l₁₁. alloc1 ! (λ l₁₂. alloc1 ! (λ l₁₃. alloc1 ! (λ l₁₄. alloc1 ! (λ l₁₅. alloc1 ! (λ l₁₆. alloc1 ! (λ l₁₇. alloc1 ! (λ l₁₈. alloc1 ! (λ l₁₉. alloc1 ! (λ l₂₀. alloc1 ! (λ l₂₁. alloc1 ! (λ l₂₂. alloc1 ! (λ l₂₃. alloc1 ! (λ l₂₄. alloc1 ! (λ l₂₅. alloc1 ! (λ l₂₆. alloc1 ! (λ l₂₇. alloc1 ! (λ l₂₈. alloc0 ! $ params1 ! $
@@ -182,7 +182,7 @@ module _ {M : Type 1} (𝓤 : URA M) (H : Heap 𝓤) (𝓜 : Model 𝓤 H) (𝓖
         move ! (1 ∷ 0 ∷ []) $
         join ! $
         call-left Taken° (number w64 ∷ truth ∷ []) (((a .0) .us, (false, tt))) (emp 𝓤) ((mutable Thread·.the-row ys b o n refl room) ∷ (mutable (Array u64 96) ys′ b′ o′ n′ refl room′) ∷ []) ! fm (λ r ws. (r ≡ (V₁ .answer)) × ((ws .0 ≡ (V₁ .memory .threads)) × (ws .1 .0 ≡ (V₁ .memory .cpus)))) (λ r ws. _≡_ {A = Left Taken Memory} (record { answer = r; memory = record { threads = ws .0; cpus = ws .1 .0 } }) V₁) (λ r ws e. (ap (λ (z : Left Taken Memory). z .answer) e, (ap (λ (z : Left Taken Memory). z .memory .threads) e, ap (λ (z : Left Taken Memory). z .memory .cpus) e))) ((LL.owed Context·.the-type Context·laws.the-laws (a .0) _ (are .0) .0, (refl, tt))) (id⊢ 𝓤 (emp 𝓤))
-        (λ νs. cited 𝓤 H (tripleOf 𝓤 H A fn-lent-rq-take.signature (fn-lent-rq-take.spec 𝓤 H A (𝓜 .mem) (𝓡 .run))) 𝓜 𝓡 code.env fn-lent-rq-take-def.name fn-lent-rq-take-def.routine code.calls-lent·rq·take (fn-lent-rq-take-thm.met 𝓤 H 𝓜 𝓖 𝓡) (((νs .0 .0 ∷ [], (νs .1 .0 .0 ∷ [], tt)), (fullShare, (fullShare, tt)), tt, (lent-as b o (νs .0 .1) ys, (lent-as b′ o′ (νs .1 .0 .1) ys′, ((a .0) .us, (false, tt)))), (slice-of b o ys ∷ [], (slice-of b′ o′ ys′ ∷ [], spell (number w64 ∷ truth ∷ []) (((a .0) .us, (false, tt)))))), tt))
+        (λ νs. cited 𝓤 H (tripleOf 𝓤 H A fn-records-rq-take.signature (fn-records-rq-take.spec 𝓤 H A (𝓜 .mem) (𝓡 .run))) 𝓜 𝓡 code.env fn-records-rq-take-def.name fn-records-rq-take-def.routine code.calls-records·rq·take (fn-records-rq-take-thm.met 𝓤 H 𝓜 𝓖 𝓡) (((νs .0 .0 ∷ [], (νs .1 .0 .0 ∷ [], tt)), (fullShare, (fullShare, tt)), tt, (lent-as b o (νs .0 .1) ys, (lent-as b′ o′ (νs .1 .0 .1) ys′, ((a .0) .us, (false, tt)))), (slice-of b o ys ∷ [], (slice-of b′ o′ ys′ ∷ [], spell (number w64 ∷ truth ∷ []) (((a .0) .us, (false, tt)))))), tt))
         (λ k. and-then ! (load ! (from ! (stop !)) (look ! 39 refl)) (and-then ! (load ! (from ! (stop !)) (look ! 35 refl)) (and-then ! (load ! (from ! (stop !)) (look ! 49 refl)) (and-then ! (false-lit !) (no-more !))))) (λ r₁ ws₂ is₃ ls₄ e₅.
         split ! $
         move ! (1 ∷ []) $
@@ -194,7 +194,7 @@ module _ {M : Type 1} (𝓤 : URA M) (H : Heap 𝓤) (𝓜 : Model 𝓤 H) (𝓖
         told ! Taken° (e₅ .0) is₃ (λ is₆.
         land ! (from ! (stop !)) (init ! 48 refl (Taken° .typed 𝓤 H A W (V₁ .answer) (is₆) .0)) $
         nothing ! $
-        call-slices truth (Taken° ∷ []) ((V₁ .answer, tt)) (emp 𝓤) ([]) ! fm (λ r ws. r ≡ (isNobody (V₁ .answer))) ((is₆, tt)) (id⊢ 𝓤 (emp 𝓤))
+        call-slices truth (Taken° ∷ []) ((V₁ .answer, tt)) (emp 𝓤) ([]) ! fm (λ r ws. r ≡ (is-nobody (V₁ .answer))) ((is₆, tt)) (id⊢ 𝓤 (emp 𝓤))
         (λ νs. cited 𝓤 H (tripleOf 𝓤 H A fn-sched-queues-queues-is-nobody.signature (fn-sched-queues-queues-is-nobody.spec 𝓤 H A (𝓜 .mem) (𝓡 .run))) 𝓜 𝓡 code.env fn-sched-queues-queues-is-nobody-def.name fn-sched-queues-queues-is-nobody-def.routine code.calls-sched-queues·queues·is-nobody (fn-sched-queues-queues-is-nobody-thm.met 𝓤 H 𝓜 𝓖 𝓡) ((tt, tt, tt, (V₁ .answer, tt), spell (Taken° ∷ []) ((V₁ .answer, tt))), tt))
         (λ k. and-then ! (load ! (from ! (stop !)) (look ! 49 refl)) (no-more !)) (λ r₇ ws₈ is₉ ls₁₀ e₁₁.
         drop ! $
@@ -258,16 +258,16 @@ module _ {M : Type 1} (𝓤 : URA M) (H : Heap 𝓤) (𝓜 : Model 𝓤 H) (𝓖
         returns-within ! Post refl (look ! 62 refl) $
         move ! (62 ∷ 63 ∷ 60 ∷ 61 ∷ 58 ∷ 59 ∷ 56 ∷ 57 ∷ 54 ∷ 55 ∷ 52 ∷ 53 ∷ 50 ∷ 51 ∷ 48 ∷ 49 ∷ 46 ∷ 47 ∷ 44 ∷ 45 ∷ 42 ∷ 43 ∷ 40 ∷ 41 ∷ 38 ∷ 39 ∷ 36 ∷ 37 ∷ 34 ∷ 35 ∷ 32 ∷ 33 ∷ 30 ∷ 31 ∷ 28 ∷ 29 ∷ 26 ∷ 27 ∷ 24 ∷ 25 ∷ 22 ∷ 23 ∷ 20 ∷ 21 ∷ 18 ∷ 19 ∷ 16 ∷ 17 ∷ 14 ∷ 15 ∷ 12 ∷ 13 ∷ 10 ∷ 11 ∷ 8 ∷ 9 ∷ 6 ∷ 7 ∷ []) $
         all-freed ! mir.locals (l₀ ∷ l₁ ∷ l₂ ∷ l₃ ∷ l₄ ∷ l₅ ∷ l₆ ∷ l₇ ∷ l₈ ∷ l₉ ∷ l₁₀ ∷ l₁₁ ∷ l₁₂ ∷ l₁₃ ∷ l₁₄ ∷ l₁₅ ∷ l₁₆ ∷ l₁₇ ∷ l₁₈ ∷ l₁₉ ∷ l₂₀ ∷ l₂₁ ∷ l₂₂ ∷ l₂₃ ∷ l₂₄ ∷ l₂₅ ∷ l₂₆ ∷ l₂₇ ∷ l₂₈ ∷ []) (full _ ∷ full _ ∷ full _ ∷ full _ ∷ full _ ∷ full _ ∷ full _ ∷ full _ ∷ full _ ∷ bare ∷ full _ ∷ full _ ∷ full _ ∷ full _ ∷ full _ ∷ full _ ∷ full _ ∷ full _ ∷ full _ ∷ full _ ∷ full _ ∷ full _ ∷ full _ ∷ full _ ∷ bare ∷ bare ∷ bare ∷ bare ∷ bare ∷ []) tt $
-        suffices ! _ (ends-at 𝓤 H A pick-next.ended stayed c W y _ (tt) (V₃ .threads, (V₃ .cpus, (tt, (tt, (tt, tt))))) (sym ((((refl ∙ sym (subst (λ (us : List Thread). length us ≡ length ys) (e₅ .1 .0) (ls₄ .0))) ∙ sym (subst (λ (us : List Thread). length us ≡ length (V₁ .memory .threads)) (e₁₇ .1 .0) (ls₁₆ .0))) ∙ sym (subst (λ (us : List Thread). length us ≡ length (V₂ .memory .threads)) (e₂₃ .0) (ls₂₂ .0)))), (sym ((((refl ∙ sym (subst (λ (us : List (List ℕ)). length us ≡ length ys′) (e₅ .1 .1) (ls₄ .1 .0))) ∙ sym (subst (λ (us : List (List ℕ)). length us ≡ length (V₁ .memory .cpus)) (e₁₇ .1 .1) (ls₁₆ .1 .0))) ∙ sym (subst (λ (us : List (List ℕ)). length us ≡ length (V₂ .memory .cpus)) (e₂₃ .1) (ls₂₂ .1 .0)))), (tt, (tt, (tt, tt)))))) $ says ! (so {X = Memory} (record { threads = (V₃ .threads); cpus = (V₃ .cpus) }) (pickNext (a .0) (a .1 .0) ys″ (record { threads = ys; cpus = ys′ })) ((yes (isNobody (V₁ .answer)) h₁ _ (refl)))) $
+        suffices ! _ (ends-at 𝓤 H A pick-next.ended stayed c W y _ (tt) (V₃ .threads, (V₃ .cpus, (tt, (tt, (tt, tt))))) (sym ((((refl ∙ sym (subst (λ (us : List Thread). length us ≡ length ys) (e₅ .1 .0) (ls₄ .0))) ∙ sym (subst (λ (us : List Thread). length us ≡ length (V₁ .memory .threads)) (e₁₇ .1 .0) (ls₁₆ .0))) ∙ sym (subst (λ (us : List Thread). length us ≡ length (V₂ .memory .threads)) (e₂₃ .0) (ls₂₂ .0)))), (sym ((((refl ∙ sym (subst (λ (us : List (List ℕ)). length us ≡ length ys′) (e₅ .1 .1) (ls₄ .1 .0))) ∙ sym (subst (λ (us : List (List ℕ)). length us ≡ length (V₁ .memory .cpus)) (e₁₇ .1 .1) (ls₁₆ .1 .0))) ∙ sym (subst (λ (us : List (List ℕ)). length us ≡ length (V₂ .memory .cpus)) (e₂₃ .1) (ls₂₂ .1 .0)))), (tt, (tt, (tt, tt)))))) $ says ! (so {X = Memory} (record { threads = (V₃ .threads); cpus = (V₃ .cpus) }) (pick-next-def (a .0) (a .1 .0) ys″ (record { threads = ys; cpus = ys′ })) ((yes (is-nobody (V₁ .answer)) h₁ _ (refl)))) $
         leaves3 ! nil Ds a (tt) are (refl)))))
         (λ h₁.
         nothing ! $
-        call-slices (number w64) (Taken° ∷ []) ((V₁ .answer, tt)) (emp 𝓤) ([]) ! fm (λ r ws. r ≡ (threadOf (V₁ .answer))) ((is₆, tt)) (id⊢ 𝓤 (emp 𝓤))
+        call-slices (number w64) (Taken° ∷ []) ((V₁ .answer, tt)) (emp 𝓤) ([]) ! fm (λ r ws. r ≡ (thread-of (V₁ .answer))) ((is₆, tt)) (id⊢ 𝓤 (emp 𝓤))
         (λ νs. cited 𝓤 H (tripleOf 𝓤 H A fn-sched-queues-queues-thread-of.signature (fn-sched-queues-queues-thread-of.spec 𝓤 H A (𝓜 .mem) (𝓡 .run))) 𝓜 𝓡 code.env fn-sched-queues-queues-thread-of-def.name fn-sched-queues-queues-thread-of-def.routine code.calls-sched-queues·queues·thread-of (fn-sched-queues-queues-thread-of-thm.met 𝓤 H 𝓜 𝓖 𝓡) ((tt, tt, tt, (V₁ .answer, tt), spell (Taken° ∷ []) ((V₁ .answer, tt))), tt))
         (λ k. and-then ! (load ! (from ! (stop !)) (look ! 49 refl)) (no-more !)) (λ r₂₄ ws₂₅ is₂₆ ls₂₇ e₂₈.
         drop ! $
         told ! (number w64) (e₂₈) is₂₆ (λ is₂₉.
-        land ! (from ! (stop !)) (init ! 44 refl ((number w64) .typed 𝓤 H A W (threadOf (V₁ .answer)) (is₂₉) .0)) $
+        land ! (from ! (stop !)) (init ! 44 refl ((number w64) .typed 𝓤 H A W (thread-of (V₁ .answer)) (is₂₉) .0)) $
         assigns ! (addr ! (from ! (fld ! refl (hop ! (look-in ! 60 (sub ! 0 refl (whole !))) (stop !))))) (from ! (stop !)) (init ! 12 refl (tt, tt)) $
         assigns ! (agg ! (and-then ! (load ! (from ! (stop !)) (look ! 12 refl)) (and-then ! (load ! (from ! (fld ! refl (stop !))) (look-in ! 60 (sub ! 1 refl (whole !)))) (no-more !)))) (from ! (stop !)) (init ! 10 refl (tt, (tt, (record { fits = room .0 }, tt)))) $
         assigns ! (addr ! (from ! (fld ! refl (hop ! (look-in ! 58 (sub ! 0 refl (whole !))) (stop !))))) (from ! (stop !)) (init ! 8 refl (tt, tt)) $
@@ -277,8 +277,8 @@ module _ {M : Type 1} (𝓤 : URA M) (H : Heap 𝓤) (𝓜 : Model 𝓤 H) (𝓖
         join ! $
         move ! (1 ∷ 0 ∷ []) $
         join ! $
-        call-left nil (number w64 ∷ number w64 ∷ number w64 ∷ []) (((a .0) .us, (a .1 .0, (threadOf (V₁ .answer), tt)))) (emp 𝓤) ((mutable Thread·.the-row (V₁ .memory .threads) b o n ((refl ∙ sym (subst (λ (us : List Thread). length us ≡ length ys) (e₅ .1 .0) (ls₄ .0)))) room) ∷ (mutable (Array u64 96) (V₁ .memory .cpus) b′ o′ n′ ((refl ∙ sym (subst (λ (us : List (List ℕ)). length us ≡ length ys′) (e₅ .1 .1) (ls₄ .1 .0)))) room′) ∷ []) ! fm (λ r ws. (ws .0 ≡ (V₄ .threads)) × (ws .1 .0 ≡ (V₄ .cpus))) (λ r ws. _≡_ {A = Memory} (record { threads = ws .0; cpus = ws .1 .0 }) V₄) (λ r ws e. (ap (λ (z : Memory). z .threads) e, ap (λ (z : Memory). z .cpus) e)) ((LL.owed Context·.the-type Context·laws.the-laws (a .0) _ (are .0) .0, (are .1 .0, (is₂₉, tt)))) (id⊢ 𝓤 (emp 𝓤))
-        (λ νs. cited 𝓤 H (tripleOf 𝓤 H A fn-sched-schedule-run-taken.signature (fn-sched-schedule-run-taken.spec 𝓤 H A (𝓜 .mem) (𝓡 .run))) 𝓜 𝓡 code.env fn-sched-schedule-run-taken-def.name fn-sched-schedule-run-taken-def.routine code.calls-sched·schedule·run-taken (fn-sched-schedule-run-taken-thm.met 𝓤 H 𝓜 𝓖 𝓡) (((νs .0 .0 ∷ [], (νs .1 .0 .0 ∷ [], tt)), (fullShare, (fullShare, tt)), tt, (lent-as b o (νs .0 .1) (V₁ .memory .threads), (lent-as b′ o′ (νs .1 .0 .1) (V₁ .memory .cpus), ((a .0) .us, (a .1 .0, (threadOf (V₁ .answer), tt))))), (slice-of b o (V₁ .memory .threads) ∷ [], (slice-of b′ o′ (V₁ .memory .cpus) ∷ [], spell (number w64 ∷ number w64 ∷ number w64 ∷ []) (((a .0) .us, (a .1 .0, (threadOf (V₁ .answer), tt))))))), tt))
+        call-left nil (number w64 ∷ number w64 ∷ number w64 ∷ []) (((a .0) .us, (a .1 .0, (thread-of (V₁ .answer), tt)))) (emp 𝓤) ((mutable Thread·.the-row (V₁ .memory .threads) b o n ((refl ∙ sym (subst (λ (us : List Thread). length us ≡ length ys) (e₅ .1 .0) (ls₄ .0)))) room) ∷ (mutable (Array u64 96) (V₁ .memory .cpus) b′ o′ n′ ((refl ∙ sym (subst (λ (us : List (List ℕ)). length us ≡ length ys′) (e₅ .1 .1) (ls₄ .1 .0)))) room′) ∷ []) ! fm (λ r ws. (ws .0 ≡ (V₄ .threads)) × (ws .1 .0 ≡ (V₄ .cpus))) (λ r ws. _≡_ {A = Memory} (record { threads = ws .0; cpus = ws .1 .0 }) V₄) (λ r ws e. (ap (λ (z : Memory). z .threads) e, ap (λ (z : Memory). z .cpus) e)) ((LL.owed Context·.the-type Context·laws.the-laws (a .0) _ (are .0) .0, (are .1 .0, (is₂₉, tt)))) (id⊢ 𝓤 (emp 𝓤))
+        (λ νs. cited 𝓤 H (tripleOf 𝓤 H A fn-sched-schedule-run-taken.signature (fn-sched-schedule-run-taken.spec 𝓤 H A (𝓜 .mem) (𝓡 .run))) 𝓜 𝓡 code.env fn-sched-schedule-run-taken-def.name fn-sched-schedule-run-taken-def.routine code.calls-sched·schedule·run-taken (fn-sched-schedule-run-taken-thm.met 𝓤 H 𝓜 𝓖 𝓡) (((νs .0 .0 ∷ [], (νs .1 .0 .0 ∷ [], tt)), (fullShare, (fullShare, tt)), tt, (lent-as b o (νs .0 .1) (V₁ .memory .threads), (lent-as b′ o′ (νs .1 .0 .1) (V₁ .memory .cpus), ((a .0) .us, (a .1 .0, (thread-of (V₁ .answer), tt))))), (slice-of b o (V₁ .memory .threads) ∷ [], (slice-of b′ o′ (V₁ .memory .cpus) ∷ [], spell (number w64 ∷ number w64 ∷ number w64 ∷ []) (((a .0) .us, (a .1 .0, (thread-of (V₁ .answer), tt))))))), tt))
         (λ k. and-then ! (load ! (from ! (stop !)) (look ! 9 refl)) (and-then ! (load ! (from ! (stop !)) (look ! 5 refl)) (and-then ! (load ! (from ! (stop !)) (look ! 49 refl)) (and-then ! (load ! (from ! (stop !)) (look ! 51 refl)) (and-then ! (load ! (from ! (stop !)) (look ! 43 refl)) (no-more !)))))) (λ r₃₀ ws₃₁ is₃₂ ls₃₃ e₃₄.
         split ! $
         move ! (1 ∷ []) $

@@ -33,35 +33,35 @@ use denote.Triple.Table.{cited}
 use denote.Triple.Clauses.{Clauses}
 use denote.Triple.Walked.{says, Stays, stay-none, stay-slice, stay-none-slice, walkOf, goes-none, goes-slice, goes-none-slice, ends-at}
 use denote.Exit.{yes as kept-yes}
-use Rattle.lent.proofs.Walk.{Datum, number, truth, nil, struct, Dens, AreD, listed, spell, lent-as, slice-of, shared-as, kept, opened, closed, guards, env-of, standing, bare, full, told, proved}
-use Rattle.lent.proofs.Lent.{mutable, shared, passed, choice, call-slices, call-left, all-freed, no, yes, so, begins3, leaves3}
-use Rattle.lent.specs.Left.{Memory, Left}
-use Rattle.sched.specs.Schedule.{reinsertDef, mustMove, reinsertedDef, pickNext, resetThreadTime, thenNext}
-use Rattle.sched_queues.specs.Queues.{scheduleThreadOnCpu}
-use Rattle.step.specs.Choose.{reinsertAt}
+use Rattle.records.proofs.Walk.{Datum, number, truth, nil, struct, Dens, AreD, listed, spell, lent-as, slice-of, shared-as, kept, opened, closed, guards, env-of, standing, bare, full, told, proved}
+use Rattle.records.proofs.Lent.{mutable, shared, passed, choice, call-slices, call-left, all-freed, no, yes, so, begins3, leaves3}
+use Rattle.records.specs.Left.{Memory, Left}
+use Rattle.sched.specs.Schedule.{reinsert-def, must-move-def, reinserted-def, pick-next-def, reset-thread-time-def, then-next-def}
+use Rattle.sched_queues.specs.Queues.{schedule-thread-on-cpu-def}
+use Rattle.sched_words.specs.Choose.{reinsert-at-def}
 use Rattle.thread.specs.Thread.{blank}
 use denote.Struct.Laws as LL
-use Rattle.step.specs.declared.context.Context.{Context}
-use Rattle.step.proofs.context.Context as Context·
-use Rattle.step.proofs.context.Context.Laws as Context·laws
+use Rattle.sched_words.specs.declared.context.Context.{Context}
+use Rattle.sched_words.proofs.context.Context as Context·
+use Rattle.sched_words.proofs.context.Context.Laws as Context·laws
 use Rattle.thread.specs.declared.time.OptionCpu.{OptionCpu}
 use Rattle.thread.proofs.time.OptionCpu as OptionCpu·
 use Rattle.thread.proofs.time.OptionCpu.Laws as OptionCpu·laws
-use Rattle.step.specs.declared.context.SchedFlags.{SchedFlags}
-use Rattle.step.proofs.context.SchedFlags as SchedFlags·
-use Rattle.step.proofs.context.SchedFlags.Laws as SchedFlags·laws
+use Rattle.sched_words.specs.declared.context.SchedFlags.{SchedFlags}
+use Rattle.sched_words.proofs.context.SchedFlags as SchedFlags·
+use Rattle.sched_words.proofs.context.SchedFlags.Laws as SchedFlags·laws
 use Rattle.thread.specs.declared.Thread.{Thread}
 use Rattle.thread.proofs.Thread as Thread·
 use Rattle.thread.proofs.Thread.Laws as Thread·laws
-use Rattle.lent.proofs.records.get as fn-lent-records-get
-use Rattle.lent.proofs.records.get.Symbol as fn-lent-records-get-def
-use Rattle.lent.proofs.records.get.Met as fn-lent-records-get-thm
+use Rattle.records.proofs.record.get as fn-records-record-get
+use Rattle.records.proofs.record.get.Symbol as fn-records-record-get-def
+use Rattle.records.proofs.record.get.Met as fn-records-record-get-thm
 use Rattle.sched.proofs.schedule.must_move as fn-sched-schedule-must-move
 use Rattle.sched.proofs.schedule.must_move.Symbol as fn-sched-schedule-must-move-def
 use Rattle.sched.proofs.schedule.must_move.Met as fn-sched-schedule-must-move-thm
-use Rattle.step.proofs.choose.reinsert_at as fn-step-choose-reinsert-at
-use Rattle.step.proofs.choose.reinsert_at.Symbol as fn-step-choose-reinsert-at-def
-use Rattle.step.proofs.choose.reinsert_at.Met as fn-step-choose-reinsert-at-thm
+use Rattle.sched_words.proofs.choose.reinsert_at as fn-sched-words-choose-reinsert-at
+use Rattle.sched_words.proofs.choose.reinsert_at.Symbol as fn-sched-words-choose-reinsert-at-def
+use Rattle.sched_words.proofs.choose.reinsert_at.Met as fn-sched-words-choose-reinsert-at-thm
 use Rattle.sched.proofs.schedule.reinserted as fn-sched-schedule-reinserted
 use Rattle.sched.proofs.schedule.reinserted.Symbol as fn-sched-schedule-reinserted-def
 use Rattle.sched.proofs.schedule.reinserted.Met as fn-sched-schedule-reinserted-thm
@@ -140,35 +140,35 @@ module _ {M : Type 1} (𝓤 : URA M) (H : Heap 𝓤) (𝓜 : Model 𝓤 H) (𝓖
     Post = walkOf 𝓤 H A reinsert.ended stayed c .post y
 
     abbrev V₁ : Bool
-    V₁ = mustMove ys′ ((a .0) .us) (getD ys (a .1 .0) blank) (a .1 .1 .0)
+    V₁ = must-move-def ys′ ((a .0) .us) (getD ys (a .1 .0) blank) (a .1 .1 .0)
 
     abbrev V₂ : OptionCpu
-    V₂ = reinsertAt ys′ ys″ ((a .0) .us) ((a .0) .limit) (getD ys (a .1 .0) blank) .chosen
+    V₂ = reinsert-at-def ys′ ys″ ((a .0) .us) ((a .0) .limit) (getD ys (a .1 .0) blank) .chosen
 
     abbrev V₃ : List (List ℕ)
-    V₃ = reinsertAt ys′ ys″ ((a .0) .us) ((a .0) .limit) (getD ys (a .1 .0) blank) .cpus
+    V₃ = reinsert-at-def ys′ ys″ ((a .0) .us) ((a .0) .limit) (getD ys (a .1 .0) blank) .cpus
 
     abbrev V₄ : Left ℕ Memory
-    V₄ = reinsertedDef (a .0) V₂ (a .1 .0) (a .1 .1 .1 .0) (record { threads = ys; cpus = V₃ })
+    V₄ = reinserted-def (a .0) V₂ (a .1 .0) (a .1 .1 .1 .0) (record { threads = ys; cpus = V₃ })
 
     abbrev V₅ : Memory
-    V₅ = pickNext (a .0) (a .1 .0) ys″ (record { threads = V₄ .memory .threads; cpus = V₄ .memory .cpus })
+    V₅ = pick-next-def (a .0) (a .1 .0) ys″ (record { threads = V₄ .memory .threads; cpus = V₄ .memory .cpus })
 
     abbrev V₆ : Left ℕ Memory
-    V₆ = scheduleThreadOnCpu (a .0) ((a .0) .us) (a .1 .0) (a .1 .1 .1 .0) (record { threads = ys; cpus = ys′ })
+    V₆ = schedule-thread-on-cpu-def (a .0) ((a .0) .us) (a .1 .0) (a .1 .1 .1 .0) (record { threads = ys; cpus = ys′ })
 
     abbrev V₇ : Memory
-    V₇ = pickNext (a .0) (a .1 .0) ys″ (record { threads = V₆ .memory .threads; cpus = V₆ .memory .cpus })
+    V₇ = pick-next-def (a .0) (a .1 .0) ys″ (record { threads = V₆ .memory .threads; cpus = V₆ .memory .cpus })
 
     abbrev V₈ : List Thread
-    V₈ = resetThreadTime (a .0) (a .1 .0) ys′ ys
+    V₈ = reset-thread-time-def (a .0) (a .1 .0) ys′ ys
 
     module _ (l₀ l₁ l₂ l₃ l₄ l₅ l₆ l₇ l₈ l₉ l₁₀ l₁₁ l₁₂ l₁₃ l₁₄ l₁₅ l₁₆ l₁₇ l₁₈ l₁₉ l₂₀ l₂₁ l₂₂ l₂₃ l₂₄ l₂₅ l₂₆ l₂₇ l₂₈ l₂₉ l₃₀ l₃₁ l₃₂ l₃₃ l₃₄ l₃₅ l₃₆ l₃₇ l₃₈ l₃₉ l₄₀ l₄₁ l₄₂ l₄₃ l₄₄ l₄₅ : ℕ) where
       abbrev En : Env 𝓤 H
       En = env-of mir.locals (l₀ ∷ l₁ ∷ l₂ ∷ l₃ ∷ l₄ ∷ l₅ ∷ l₆ ∷ l₇ ∷ l₈ ∷ l₉ ∷ l₁₀ ∷ l₁₁ ∷ l₁₂ ∷ l₁₃ ∷ l₁₄ ∷ l₁₅ ∷ l₁₆ ∷ l₁₇ ∷ l₁₈ ∷ l₁₉ ∷ l₂₀ ∷ l₂₁ ∷ l₂₂ ∷ l₂₃ ∷ l₂₄ ∷ l₂₅ ∷ l₂₆ ∷ l₂₇ ∷ l₂₈ ∷ l₂₉ ∷ l₃₀ ∷ l₃₁ ∷ l₃₂ ∷ l₃₃ ∷ l₃₄ ∷ l₃₅ ∷ l₃₆ ∷ l₃₇ ∷ l₃₈ ∷ l₃₉ ∷ l₄₀ ∷ l₄₁ ∷ l₄₂ ∷ l₄₃ ∷ l₄₄ ∷ l₄₅ ∷ [])
 
       part-13 : (h₁ : Holds (not (V₁))) (h₂ : Holds (not ((a .1 .1 .0) .yields))) → Sq W (‵ (row Thread·.the-row fullShare (ys) b o) ∷ ‵ (kept Thread·.the-row κ q γ b o ys) ∷ ‵ (row (Array u64 96) fullShare (ys′) b′ o′) ∷ ‵ (kept (Array u64 96) κ′ q′ γ′ b′ o′ ys′) ∷ ‵ (shared-as (Array u64 32) κ″ γ″ b″ o″ ys″) ∷ ‵ (flft κ″ q″) ∷ standing 𝓤 mir.locals (l₀ ∷ l₁ ∷ l₂ ∷ l₃ ∷ l₄ ∷ l₅ ∷ l₆ ∷ l₇ ∷ l₈ ∷ l₉ ∷ l₁₀ ∷ l₁₁ ∷ l₁₂ ∷ l₁₃ ∷ l₁₄ ∷ l₁₅ ∷ l₁₆ ∷ l₁₇ ∷ l₁₈ ∷ l₁₉ ∷ l₂₀ ∷ l₂₁ ∷ l₂₂ ∷ l₂₃ ∷ l₂₄ ∷ l₂₅ ∷ l₂₆ ∷ l₂₇ ∷ l₂₈ ∷ l₂₉ ∷ l₃₀ ∷ l₃₁ ∷ l₃₂ ∷ l₃₃ ∷ l₃₄ ∷ l₃₅ ∷ l₃₆ ∷ l₃₇ ∷ l₃₈ ∷ l₃₉ ∷ l₄₀ ∷ l₄₁ ∷ l₄₂ ∷ l₄₃ ∷ l₄₄ ∷ l₄₅ ∷ []) (bare ∷ full s ∷ full s′ ∷ full s″ ∷ full (Context° .val (a .0)) ∷ full ((number w64) .val (a .1 .0)) ∷ full (SchedFlags° .val (a .1 .1 .0)) ∷ full ((number w64) .val (a .1 .1 .1 .0)) ∷ bare ∷ bare ∷ bare ∷ bare ∷ bare ∷ bare ∷ bare ∷ bare ∷ bare ∷ bare ∷ bare ∷ bare ∷ bare ∷ bare ∷ bare ∷ bare ∷ bare ∷ bare ∷ bare ∷ bare ∷ bare ∷ bare ∷ bare ∷ bare ∷ bare ∷ bare ∷ bare ∷ bare ∷ bare ∷ bare ∷ bare ∷ bare ∷ bare ∷ bare ∷ bare ∷ bare ∷ bare ∷ bare ∷ []) []) (runs C Λ En mir.t-13 (atRet En Post))
-      unfolding reinsertDef thenNext
+      unfolding reinsert-def then-next-def
       part-13 h₁ h₂ =
           assigns ! (addr ! (from ! (fld ! refl (hop ! (look-in ! 94 (sub ! 0 refl (whole !))) (stop !))))) (from ! (stop !)) (init ! 12 refl (tt, tt)) $
           assigns ! (agg ! (and-then ! (load ! (from ! (stop !)) (look ! 12 refl)) (and-then ! (load ! (from ! (fld ! refl (stop !))) (look-in ! 94 (sub ! 1 refl (whole !)))) (no-more !)))) (from ! (stop !)) (init ! 10 refl (tt, (tt, (record { fits = room .0 }, tt)))) $
@@ -198,11 +198,11 @@ module _ {M : Type 1} (𝓤 : URA M) (H : Heap 𝓤) (𝓜 : Model 𝓤 H) (𝓖
           returns ! (look ! 96 refl) $
           move ! (96 ∷ 97 ∷ 94 ∷ 95 ∷ 92 ∷ 93 ∷ 90 ∷ 91 ∷ 88 ∷ 89 ∷ 86 ∷ 87 ∷ 84 ∷ 85 ∷ 82 ∷ 83 ∷ 80 ∷ 81 ∷ 78 ∷ 79 ∷ 76 ∷ 77 ∷ 74 ∷ 75 ∷ 72 ∷ 73 ∷ 70 ∷ 71 ∷ 68 ∷ 69 ∷ 66 ∷ 67 ∷ 64 ∷ 65 ∷ 62 ∷ 63 ∷ 60 ∷ 61 ∷ 58 ∷ 59 ∷ 56 ∷ 57 ∷ 54 ∷ 55 ∷ 52 ∷ 53 ∷ 50 ∷ 51 ∷ 48 ∷ 49 ∷ 46 ∷ 47 ∷ 44 ∷ 45 ∷ 42 ∷ 43 ∷ 40 ∷ 41 ∷ 38 ∷ 39 ∷ 36 ∷ 37 ∷ 34 ∷ 35 ∷ 32 ∷ 33 ∷ 30 ∷ 31 ∷ 28 ∷ 29 ∷ 26 ∷ 27 ∷ 24 ∷ 25 ∷ 22 ∷ 23 ∷ 20 ∷ 21 ∷ 18 ∷ 19 ∷ 16 ∷ 17 ∷ 14 ∷ 15 ∷ 12 ∷ 13 ∷ 10 ∷ 11 ∷ 8 ∷ 9 ∷ 6 ∷ 7 ∷ []) $
           all-freed ! mir.locals (l₀ ∷ l₁ ∷ l₂ ∷ l₃ ∷ l₄ ∷ l₅ ∷ l₆ ∷ l₇ ∷ l₈ ∷ l₉ ∷ l₁₀ ∷ l₁₁ ∷ l₁₂ ∷ l₁₃ ∷ l₁₄ ∷ l₁₅ ∷ l₁₆ ∷ l₁₇ ∷ l₁₈ ∷ l₁₉ ∷ l₂₀ ∷ l₂₁ ∷ l₂₂ ∷ l₂₃ ∷ l₂₄ ∷ l₂₅ ∷ l₂₆ ∷ l₂₇ ∷ l₂₈ ∷ l₂₉ ∷ l₃₀ ∷ l₃₁ ∷ l₃₂ ∷ l₃₃ ∷ l₃₄ ∷ l₃₅ ∷ l₃₆ ∷ l₃₇ ∷ l₃₈ ∷ l₃₉ ∷ l₄₀ ∷ l₄₁ ∷ l₄₂ ∷ l₄₃ ∷ l₄₄ ∷ l₄₅ ∷ []) (full _ ∷ full _ ∷ full _ ∷ full _ ∷ full _ ∷ full _ ∷ full _ ∷ full _ ∷ bare ∷ bare ∷ bare ∷ bare ∷ bare ∷ bare ∷ bare ∷ bare ∷ bare ∷ bare ∷ bare ∷ bare ∷ bare ∷ bare ∷ bare ∷ bare ∷ bare ∷ bare ∷ bare ∷ bare ∷ bare ∷ bare ∷ bare ∷ bare ∷ bare ∷ bare ∷ bare ∷ bare ∷ bare ∷ bare ∷ bare ∷ bare ∷ bare ∷ full _ ∷ full _ ∷ full _ ∷ full _ ∷ full _ ∷ []) tt $
-          suffices ! _ (ends-at 𝓤 H A reinsert.ended stayed c W y _ (a .1 .1 .1 .0) (V₈, (ys′, (tt, (tt, (tt, (tt, (tt, tt))))))) (sym ((refl ∙ sym (subst (λ (us : List Thread). length us ≡ length ys) (e₄₅) (ls₄₄ .0)))), (sym refl, (tt, (tt, (tt, (tt, (tt, tt)))))))) $ says ! (so {X = Left ℕ Memory} (record { answer = (a .1 .1 .1 .0); memory = record { threads = (V₈); cpus = ys′ } }) (reinsertDef (a .0) (a .1 .0) (a .1 .1 .0) (a .1 .1 .1 .0) ys″ (record { threads = ys; cpus = ys′ })) ((no (V₁) h₁ _ (no ((a .1 .1 .0) .yields) h₂ _ (refl))))) $
+          suffices ! _ (ends-at 𝓤 H A reinsert.ended stayed c W y _ (a .1 .1 .1 .0) (V₈, (ys′, (tt, (tt, (tt, (tt, (tt, tt))))))) (sym ((refl ∙ sym (subst (λ (us : List Thread). length us ≡ length ys) (e₄₅) (ls₄₄ .0)))), (sym refl, (tt, (tt, (tt, (tt, (tt, tt)))))))) $ says ! (so {X = Left ℕ Memory} (record { answer = (a .1 .1 .1 .0); memory = record { threads = (V₈); cpus = ys′ } }) (reinsert-def (a .0) (a .1 .0) (a .1 .1 .0) (a .1 .1 .1 .0) ys″ (record { threads = ys; cpus = ys′ })) ((no (V₁) h₁ _ (no ((a .1 .1 .0) .yields) h₂ _ (refl))))) $
           leaves3 ! (number w64) Ds a (a .1 .1 .1 .0) are (are .1 .1 .1 .0))
 
     walk : ent 𝓤 (onEntry 𝓤 H A reinsert.signature (κ, (κ′, (κ″, tt))) (q, (q′, (q″, tt))) ((lent-as b o γ ys, (lent-as b′ o′ γ′ ys′, (lent-as b″ o″ γ″ ys″, a)))) ((s ∷ [], (s′ ∷ [], (s″ ∷ [], spell Ds a))))) (WpFn 𝓤 H C Λ code.function (s ∷ s′ ∷ s″ ∷ listed Ds a) Post)
-    unfolding reinsertDef thenNext
+    unfolding reinsert-def then-next-def
     walk =
         qed W ((‵ (flft κ q) ⊛ (‵ (flft κ′ q′) ⊛ (‵ (flft κ″ q″) ⊛ (‵ ftrue)))) ∷ ‵ (owns (MutSlice (named 0) κ Thread·.the-row ∷ MutSlice (named 1) κ′ (Array u64 96) ∷ ShrSlice (named 2) κ″ (Array u64 32) ∷ Context·.the-row ∷ u64 ∷ SchedFlags·.the-row ∷ u64 ∷ []) ((lent-as b o γ ys, (lent-as b′ o′ γ′ ys′, (lent-as b″ o″ γ″ ys″, a)))) ((s ∷ [], (s′ ∷ [], (s″ ∷ [], spell Ds a))))) ∷ []) ∵ begins3 ! $ enter ! C _ code.function (s ∷ s′ ∷ s″ ∷ listed Ds a) _ $
         alloc1 ! (λ l₀. alloc1 ! (λ l₁. alloc1 ! (λ l₂. alloc1 ! (λ l₃. alloc1 ! (λ l₄. alloc1 ! (λ l₅. alloc1 ! (λ l₆. alloc1 ! (λ l₇. alloc1 ! (λ l₈. alloc1 ! (λ l₉. alloc1 ! (λ l₁₀. alloc1 ! (λ l₁₁. alloc1 ! (λ l₁₂. alloc1 ! (λ l₁₃. alloc1 ! (λ l₁₄. alloc1 ! (λ l₁₅. alloc1 ! (λ l₁₆. alloc1 ! (λ l₁₇. alloc1 ! (λ l₁₈. alloc1 ! (λ l₁₉. alloc1 ! (λ l₂₀. alloc1 ! (λ l₂₁. alloc1 ! (λ l₂₂. alloc1 ! (λ l₂₃. alloc1 ! (λ l₂₄. alloc1 ! (λ l₂₅. alloc1 ! (λ l₂₆. alloc1 ! (λ l₂₇. alloc1 ! (λ l₂₈. alloc1 ! (λ l₂₉. alloc1 ! (λ l₃₀. alloc1 ! (λ l₃₁. alloc1 ! (λ l₃₂. alloc1 ! (λ l₃₃. alloc1 ! (λ l₃₄. alloc1 ! (λ l₃₅. alloc1 ! (λ l₃₆. alloc1 ! (λ l₃₇. alloc1 ! (λ l₃₈. alloc1 ! (λ l₃₉. alloc1 ! (λ l₄₀. alloc1 ! (λ l₄₁. alloc1 ! (λ l₄₂. alloc1 ! (λ l₄₃. alloc1 ! (λ l₄₄. alloc1 ! (λ l₄₅. alloc0 ! $ params1 ! $
@@ -220,7 +220,7 @@ module _ {M : Type 1} (𝓤 : URA M) (H : Heap 𝓤) (𝓜 : Model 𝓤 H) (𝓖
         move ! (1 ∷ 0 ∷ []) $
         join ! $
         call-slices Thread° (number w64 ∷ []) ((a .1 .0, tt)) (emp 𝓤) ((shared Thread·.the-row ys b o n refl room) ∷ []) ! fm (λ r ws. r ≡ (getD ys (a .1 .0) blank)) ((are .1 .0, tt)) (id⊢ 𝓤 (emp 𝓤))
-        (λ νs. cited 𝓤 H (tripleOf 𝓤 H A fn-lent-records-get.signature (fn-lent-records-get.spec 𝓤 H A (𝓜 .mem) (𝓡 .run))) 𝓜 𝓡 code.env fn-lent-records-get-def.name fn-lent-records-get-def.routine code.calls-lent·records·get (fn-lent-records-get-thm.met 𝓤 H 𝓜 𝓖 𝓡) (((νs .0 .0 ∷ [], tt), (fullShare, tt), tt, (lent-as b o (νs .0 .1) ys, (a .1 .0, tt)), (slice-of b o ys ∷ [], spell (number w64 ∷ []) ((a .1 .0, tt)))), tt))
+        (λ νs. cited 𝓤 H (tripleOf 𝓤 H A fn-records-record-get.signature (fn-records-record-get.spec 𝓤 H A (𝓜 .mem) (𝓡 .run))) 𝓜 𝓡 code.env fn-records-record-get-def.name fn-records-record-get-def.routine code.calls-records·record·get (fn-records-record-get-thm.met 𝓤 H 𝓜 𝓖 𝓡) (((νs .0 .0 ∷ [], tt), (fullShare, tt), tt, (lent-as b o (νs .0 .1) ys, (a .1 .0, tt)), (slice-of b o ys ∷ [], spell (number w64 ∷ []) ((a .1 .0, tt)))), tt))
         (λ k. and-then ! (load ! (from ! (stop !)) (look ! 64 refl)) (and-then ! (load ! (from ! (stop !)) (look ! 86 refl)) (no-more !))) (λ r₁ ws₂ is₃ ls₄ e₅.
         split ! $
         move ! (1 ∷ []) $
@@ -251,7 +251,7 @@ module _ {M : Type 1} (𝓤 : URA M) (H : Heap 𝓤) (𝓜 : Model 𝓤 H) (𝓖
         move ! (1 ∷ 0 ∷ []) $
         join ! $
         call-slices OptionCpu° (number w64 ∷ number w64 ∷ Thread° ∷ []) (((a .0) .us, ((a .0) .limit, (getD ys (a .1 .0) blank, tt)))) (emp 𝓤) ((mutable (Array u64 96) ys′ b′ o′ n′ refl room′) ∷ (passed (Array u64 32) ys″ b″ o″ κ″ q″ γ″) ∷ []) ! fm (λ r ws. (r ≡ V₂) × (ws .0 ≡ V₃)) ((LL.owed Context·.the-type Context·laws.the-laws (a .0) _ (are .0) .0, (LL.owed Context·.the-type Context·laws.the-laws (a .0) _ (are .0) .1 .1 .1 .0, (is₆, tt)))) (id⊢ 𝓤 (emp 𝓤))
-        (λ νs. cited 𝓤 H (tripleOf 𝓤 H A fn-step-choose-reinsert-at.signature (fn-step-choose-reinsert-at.spec 𝓤 H A (𝓜 .mem) (𝓡 .run))) 𝓜 𝓡 code.env fn-step-choose-reinsert-at-def.name fn-step-choose-reinsert-at-def.routine code.calls-step·choose·reinsert-at (fn-step-choose-reinsert-at-thm.met 𝓤 H 𝓜 𝓖 𝓡) (((νs .0 .0 ∷ [], (κ″, tt)), (fullShare, (q″, tt)), tt, (lent-as b′ o′ (νs .0 .1) ys′, (lent-as b″ o″ γ″ ys″, ((a .0) .us, ((a .0) .limit, (getD ys (a .1 .0) blank, tt))))), (slice-of b′ o′ ys′ ∷ [], (slice-of b″ o″ ys″ ∷ [], spell (number w64 ∷ number w64 ∷ Thread° ∷ []) (((a .0) .us, ((a .0) .limit, (getD ys (a .1 .0) blank, tt))))))), tt))
+        (λ νs. cited 𝓤 H (tripleOf 𝓤 H A fn-sched-words-choose-reinsert-at.signature (fn-sched-words-choose-reinsert-at.spec 𝓤 H A (𝓜 .mem) (𝓡 .run))) 𝓜 𝓡 code.env fn-sched-words-choose-reinsert-at-def.name fn-sched-words-choose-reinsert-at-def.routine code.calls-sched-words·choose·reinsert-at (fn-sched-words-choose-reinsert-at-thm.met 𝓤 H 𝓜 𝓖 𝓡) (((νs .0 .0 ∷ [], (κ″, tt)), (fullShare, (q″, tt)), tt, (lent-as b′ o′ (νs .0 .1) ys′, (lent-as b″ o″ γ″ ys″, ((a .0) .us, ((a .0) .limit, (getD ys (a .1 .0) blank, tt))))), (slice-of b′ o′ ys′ ∷ [], (slice-of b″ o″ ys″ ∷ [], spell (number w64 ∷ number w64 ∷ Thread° ∷ []) (((a .0) .us, ((a .0) .limit, (getD ys (a .1 .0) blank, tt))))))), tt))
         (λ k. and-then ! (load ! (from ! (stop !)) (look ! 52 refl)) (and-then ! (load ! (from ! (stop !)) (look ! 88 refl)) (and-then ! (load ! (from ! (stop !)) (look ! 78 refl)) (and-then ! (load ! (from ! (stop !)) (look ! 76 refl)) (and-then ! (load ! (from ! (stop !)) (look ! 74 refl)) (no-more !)))))) (λ r₁₃ ws₁₄ is₁₅ ls₁₆ e₁₇.
         split ! $
         move ! (1 ∷ []) $
@@ -317,7 +317,7 @@ module _ {M : Type 1} (𝓤 : URA M) (H : Heap 𝓤) (𝓜 : Model 𝓤 H) (𝓖
         returns-within ! Post refl (look ! 96 refl) $
         move ! (96 ∷ 97 ∷ 94 ∷ 95 ∷ 92 ∷ 93 ∷ 90 ∷ 91 ∷ 88 ∷ 89 ∷ 86 ∷ 87 ∷ 84 ∷ 85 ∷ 82 ∷ 83 ∷ 80 ∷ 81 ∷ 78 ∷ 79 ∷ 76 ∷ 77 ∷ 74 ∷ 75 ∷ 72 ∷ 73 ∷ 70 ∷ 71 ∷ 68 ∷ 69 ∷ 66 ∷ 67 ∷ 64 ∷ 65 ∷ 62 ∷ 63 ∷ 60 ∷ 61 ∷ 58 ∷ 59 ∷ 56 ∷ 57 ∷ 54 ∷ 55 ∷ 52 ∷ 53 ∷ 50 ∷ 51 ∷ 48 ∷ 49 ∷ 46 ∷ 47 ∷ 44 ∷ 45 ∷ 42 ∷ 43 ∷ 40 ∷ 41 ∷ 38 ∷ 39 ∷ 36 ∷ 37 ∷ 34 ∷ 35 ∷ 32 ∷ 33 ∷ 30 ∷ 31 ∷ 28 ∷ 29 ∷ 26 ∷ 27 ∷ 24 ∷ 25 ∷ 22 ∷ 23 ∷ 20 ∷ 21 ∷ 18 ∷ 19 ∷ 16 ∷ 17 ∷ 14 ∷ 15 ∷ 12 ∷ 13 ∷ 10 ∷ 11 ∷ 8 ∷ 9 ∷ 6 ∷ 7 ∷ []) $
         all-freed ! mir.locals (l₀ ∷ l₁ ∷ l₂ ∷ l₃ ∷ l₄ ∷ l₅ ∷ l₆ ∷ l₇ ∷ l₈ ∷ l₉ ∷ l₁₀ ∷ l₁₁ ∷ l₁₂ ∷ l₁₃ ∷ l₁₄ ∷ l₁₅ ∷ l₁₆ ∷ l₁₇ ∷ l₁₈ ∷ l₁₉ ∷ l₂₀ ∷ l₂₁ ∷ l₂₂ ∷ l₂₃ ∷ l₂₄ ∷ l₂₅ ∷ l₂₆ ∷ l₂₇ ∷ l₂₈ ∷ l₂₉ ∷ l₃₀ ∷ l₃₁ ∷ l₃₂ ∷ l₃₃ ∷ l₃₄ ∷ l₃₅ ∷ l₃₆ ∷ l₃₇ ∷ l₃₈ ∷ l₃₉ ∷ l₄₀ ∷ l₄₁ ∷ l₄₂ ∷ l₄₃ ∷ l₄₄ ∷ l₄₅ ∷ []) (full _ ∷ full _ ∷ full _ ∷ full _ ∷ full _ ∷ full _ ∷ full _ ∷ full _ ∷ full _ ∷ full _ ∷ full _ ∷ full _ ∷ full _ ∷ bare ∷ bare ∷ full _ ∷ full _ ∷ full _ ∷ full _ ∷ full _ ∷ full _ ∷ full _ ∷ full _ ∷ full _ ∷ full _ ∷ full _ ∷ full _ ∷ full _ ∷ full _ ∷ full _ ∷ full _ ∷ bare ∷ bare ∷ bare ∷ bare ∷ bare ∷ bare ∷ bare ∷ bare ∷ bare ∷ bare ∷ bare ∷ bare ∷ bare ∷ bare ∷ bare ∷ []) tt $
-        suffices ! _ (ends-at 𝓤 H A reinsert.ended stayed c W y _ (V₄ .answer) (V₅ .threads, (V₅ .cpus, (tt, (tt, (tt, (tt, (tt, tt))))))) (sym (((refl ∙ sym (subst (λ (us : List Thread). length us ≡ length ys) (e₂₃ .1 .0) (ls₂₂ .0))) ∙ sym (subst (λ (us : List Thread). length us ≡ length (V₄ .memory .threads)) (e₂₉ .0) (ls₂₈ .0)))), (sym ((((refl ∙ sym (subst (λ (us : List (List ℕ)). length us ≡ length ys′) (e₁₇ .1) (ls₁₆ .0))) ∙ sym (subst (λ (us : List (List ℕ)). length us ≡ length V₃) (e₂₃ .1 .1) (ls₂₂ .1 .0))) ∙ sym (subst (λ (us : List (List ℕ)). length us ≡ length (V₄ .memory .cpus)) (e₂₉ .1) (ls₂₈ .1 .0)))), (tt, (tt, (tt, (tt, (tt, tt)))))))) $ says ! (so {X = Left ℕ Memory} (record { answer = (V₄ .answer); memory = record { threads = (V₅ .threads); cpus = (V₅ .cpus) } }) (reinsertDef (a .0) (a .1 .0) (a .1 .1 .0) (a .1 .1 .1 .0) ys″ (record { threads = ys; cpus = ys′ })) ((yes (V₁) h₁ _ (refl)))) $
+        suffices ! _ (ends-at 𝓤 H A reinsert.ended stayed c W y _ (V₄ .answer) (V₅ .threads, (V₅ .cpus, (tt, (tt, (tt, (tt, (tt, tt))))))) (sym (((refl ∙ sym (subst (λ (us : List Thread). length us ≡ length ys) (e₂₃ .1 .0) (ls₂₂ .0))) ∙ sym (subst (λ (us : List Thread). length us ≡ length (V₄ .memory .threads)) (e₂₉ .0) (ls₂₈ .0)))), (sym ((((refl ∙ sym (subst (λ (us : List (List ℕ)). length us ≡ length ys′) (e₁₇ .1) (ls₁₆ .0))) ∙ sym (subst (λ (us : List (List ℕ)). length us ≡ length V₃) (e₂₃ .1 .1) (ls₂₂ .1 .0))) ∙ sym (subst (λ (us : List (List ℕ)). length us ≡ length (V₄ .memory .cpus)) (e₂₉ .1) (ls₂₈ .1 .0)))), (tt, (tt, (tt, (tt, (tt, tt)))))))) $ says ! (so {X = Left ℕ Memory} (record { answer = (V₄ .answer); memory = record { threads = (V₅ .threads); cpus = (V₅ .cpus) } }) (reinsert-def (a .0) (a .1 .0) (a .1 .1 .0) (a .1 .1 .1 .0) ys″ (record { threads = ys; cpus = ys′ })) ((yes (V₁) h₁ _ (refl)))) $
         leaves3 ! (number w64) Ds a (V₄ .answer) are (is₂₄)))))))
         (λ h₁.
         assigns ! (of-opd ! (load ! (from ! (fld ! refl (stop !))) (look-in ! 84 (sub ! 0 refl (whole !))))) (from ! (stop !)) (init ! 70 refl (tt, tt)) $
@@ -379,7 +379,7 @@ module _ {M : Type 1} (𝓤 : URA M) (H : Heap 𝓤) (𝓜 : Model 𝓤 H) (𝓖
         returns-within ! Post refl (look ! 96 refl) $
         move ! (96 ∷ 97 ∷ 94 ∷ 95 ∷ 92 ∷ 93 ∷ 90 ∷ 91 ∷ 88 ∷ 89 ∷ 86 ∷ 87 ∷ 84 ∷ 85 ∷ 82 ∷ 83 ∷ 80 ∷ 81 ∷ 78 ∷ 79 ∷ 76 ∷ 77 ∷ 74 ∷ 75 ∷ 72 ∷ 73 ∷ 70 ∷ 71 ∷ 68 ∷ 69 ∷ 66 ∷ 67 ∷ 64 ∷ 65 ∷ 62 ∷ 63 ∷ 60 ∷ 61 ∷ 58 ∷ 59 ∷ 56 ∷ 57 ∷ 54 ∷ 55 ∷ 52 ∷ 53 ∷ 50 ∷ 51 ∷ 48 ∷ 49 ∷ 46 ∷ 47 ∷ 44 ∷ 45 ∷ 42 ∷ 43 ∷ 40 ∷ 41 ∷ 38 ∷ 39 ∷ 36 ∷ 37 ∷ 34 ∷ 35 ∷ 32 ∷ 33 ∷ 30 ∷ 31 ∷ 28 ∷ 29 ∷ 26 ∷ 27 ∷ 24 ∷ 25 ∷ 22 ∷ 23 ∷ 20 ∷ 21 ∷ 18 ∷ 19 ∷ 16 ∷ 17 ∷ 14 ∷ 15 ∷ 12 ∷ 13 ∷ 10 ∷ 11 ∷ 8 ∷ 9 ∷ 6 ∷ 7 ∷ []) $
         all-freed ! mir.locals (l₀ ∷ l₁ ∷ l₂ ∷ l₃ ∷ l₄ ∷ l₅ ∷ l₆ ∷ l₇ ∷ l₈ ∷ l₉ ∷ l₁₀ ∷ l₁₁ ∷ l₁₂ ∷ l₁₃ ∷ l₁₄ ∷ l₁₅ ∷ l₁₆ ∷ l₁₇ ∷ l₁₈ ∷ l₁₉ ∷ l₂₀ ∷ l₂₁ ∷ l₂₂ ∷ l₂₃ ∷ l₂₄ ∷ l₂₅ ∷ l₂₆ ∷ l₂₇ ∷ l₂₈ ∷ l₂₉ ∷ l₃₀ ∷ l₃₁ ∷ l₃₂ ∷ l₃₃ ∷ l₃₄ ∷ l₃₅ ∷ l₃₆ ∷ l₃₇ ∷ l₃₈ ∷ l₃₉ ∷ l₄₀ ∷ l₄₁ ∷ l₄₂ ∷ l₄₃ ∷ l₄₄ ∷ l₄₅ ∷ []) (full _ ∷ full _ ∷ full _ ∷ full _ ∷ full _ ∷ full _ ∷ full _ ∷ full _ ∷ full _ ∷ full _ ∷ full _ ∷ bare ∷ bare ∷ full _ ∷ full _ ∷ full _ ∷ full _ ∷ full _ ∷ full _ ∷ full _ ∷ bare ∷ bare ∷ bare ∷ bare ∷ bare ∷ bare ∷ bare ∷ bare ∷ bare ∷ bare ∷ bare ∷ full _ ∷ full _ ∷ full _ ∷ full _ ∷ full _ ∷ full _ ∷ full _ ∷ full _ ∷ full _ ∷ full _ ∷ bare ∷ bare ∷ bare ∷ bare ∷ bare ∷ []) tt $
-        suffices ! _ (ends-at 𝓤 H A reinsert.ended stayed c W y _ (V₆ .answer) (V₇ .threads, (V₇ .cpus, (tt, (tt, (tt, (tt, (tt, tt))))))) (sym (((refl ∙ sym (subst (λ (us : List Thread). length us ≡ length ys) (e₃₄ .1 .0) (ls₃₃ .0))) ∙ sym (subst (λ (us : List Thread). length us ≡ length (V₆ .memory .threads)) (e₄₀ .0) (ls₃₉ .0)))), (sym (((refl ∙ sym (subst (λ (us : List (List ℕ)). length us ≡ length ys′) (e₃₄ .1 .1) (ls₃₃ .1 .0))) ∙ sym (subst (λ (us : List (List ℕ)). length us ≡ length (V₆ .memory .cpus)) (e₄₀ .1) (ls₃₉ .1 .0)))), (tt, (tt, (tt, (tt, (tt, tt)))))))) $ says ! (so {X = Left ℕ Memory} (record { answer = (V₆ .answer); memory = record { threads = (V₇ .threads); cpus = (V₇ .cpus) } }) (reinsertDef (a .0) (a .1 .0) (a .1 .1 .0) (a .1 .1 .1 .0) ys″ (record { threads = ys; cpus = ys′ })) ((no (V₁) h₁ _ (yes ((a .1 .1 .0) .yields) h₂ _ (refl))))) $
+        suffices ! _ (ends-at 𝓤 H A reinsert.ended stayed c W y _ (V₆ .answer) (V₇ .threads, (V₇ .cpus, (tt, (tt, (tt, (tt, (tt, tt))))))) (sym (((refl ∙ sym (subst (λ (us : List Thread). length us ≡ length ys) (e₃₄ .1 .0) (ls₃₃ .0))) ∙ sym (subst (λ (us : List Thread). length us ≡ length (V₆ .memory .threads)) (e₄₀ .0) (ls₃₉ .0)))), (sym (((refl ∙ sym (subst (λ (us : List (List ℕ)). length us ≡ length ys′) (e₃₄ .1 .1) (ls₃₃ .1 .0))) ∙ sym (subst (λ (us : List (List ℕ)). length us ≡ length (V₆ .memory .cpus)) (e₄₀ .1) (ls₃₉ .1 .0)))), (tt, (tt, (tt, (tt, (tt, tt)))))))) $ says ! (so {X = Left ℕ Memory} (record { answer = (V₆ .answer); memory = record { threads = (V₇ .threads); cpus = (V₇ .cpus) } }) (reinsert-def (a .0) (a .1 .0) (a .1 .1 .0) (a .1 .1 .1 .0) ys″ (record { threads = ys; cpus = ys′ })) ((no (V₁) h₁ _ (yes ((a .1 .1 .0) .yields) h₂ _ (refl))))) $
         leaves3 ! (number w64) Ds a (V₆ .answer) are (is₃₅)))))
         (λ h₂.
         forget ! 80 refl $

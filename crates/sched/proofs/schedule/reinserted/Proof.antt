@@ -31,28 +31,28 @@ use denote.Triple.Table.{cited}
 use denote.Triple.Clauses.{Clauses}
 use denote.Triple.Walked.{says, Stays, stay-none, stay-slice, walkOf, goes-none, goes-slice, ends-at}
 use denote.Exit.{yes as kept-yes}
-use Rattle.lent.proofs.Walk.{Datum, number, truth, struct, Dens, AreD, listed, spell, lent-as, slice-of, kept, opened, closed, guards, bare, full, told, proved}
-use Rattle.lent.proofs.Lent.{mutable, choice, call-slices, call-left, all-freed, no, yes, so, begins2, leaves2}
-use Rattle.lent.specs.Left.{Memory, Left}
-use Rattle.sched.specs.Schedule.{reinsertedDef}
-use Rattle.sched_queues.specs.Queues.{scheduleThreadOnCpu}
-use Rattle.step.specs.Option.{isNone, cpuOf}
+use Rattle.records.proofs.Walk.{Datum, number, truth, struct, Dens, AreD, listed, spell, lent-as, slice-of, kept, opened, closed, guards, bare, full, told, proved}
+use Rattle.records.proofs.Lent.{mutable, choice, call-slices, call-left, all-freed, no, yes, so, begins2, leaves2}
+use Rattle.records.specs.Left.{Memory, Left}
+use Rattle.sched.specs.Schedule.{reinserted-def}
+use Rattle.sched_queues.specs.Queues.{schedule-thread-on-cpu-def}
+use Rattle.sched_words.specs.Option.{is-none, cpu-of-def}
 use denote.Struct.Laws as LL
-use Rattle.step.specs.declared.context.Context.{Context}
-use Rattle.step.proofs.context.Context as Context·
-use Rattle.step.proofs.context.Context.Laws as Context·laws
+use Rattle.sched_words.specs.declared.context.Context.{Context}
+use Rattle.sched_words.proofs.context.Context as Context·
+use Rattle.sched_words.proofs.context.Context.Laws as Context·laws
 use Rattle.thread.specs.declared.time.OptionCpu.{OptionCpu}
 use Rattle.thread.proofs.time.OptionCpu as OptionCpu·
 use Rattle.thread.proofs.time.OptionCpu.Laws as OptionCpu·laws
 use Rattle.thread.specs.declared.Thread.{Thread}
 use Rattle.thread.proofs.Thread as Thread·
 use Rattle.thread.proofs.Thread.Laws as Thread·laws
-use Rattle.step.proofs.option.is_none as fn-step-option-is-none
-use Rattle.step.proofs.option.is_none.Symbol as fn-step-option-is-none-def
-use Rattle.step.proofs.option.is_none.Met as fn-step-option-is-none-thm
-use Rattle.step.proofs.option.cpu_of as fn-step-option-cpu-of
-use Rattle.step.proofs.option.cpu_of.Symbol as fn-step-option-cpu-of-def
-use Rattle.step.proofs.option.cpu_of.Met as fn-step-option-cpu-of-thm
+use Rattle.sched_words.proofs.option.is_none as fn-sched-words-option-is-none
+use Rattle.sched_words.proofs.option.is_none.Symbol as fn-sched-words-option-is-none-def
+use Rattle.sched_words.proofs.option.is_none.Met as fn-sched-words-option-is-none-thm
+use Rattle.sched_words.proofs.option.cpu_of as fn-sched-words-option-cpu-of
+use Rattle.sched_words.proofs.option.cpu_of.Symbol as fn-sched-words-option-cpu-of-def
+use Rattle.sched_words.proofs.option.cpu_of.Met as fn-sched-words-option-cpu-of-thm
 use Rattle.sched_queues.proofs.queues.schedule_thread_on_cpu as fn-sched-queues-queues-schedule-thread-on-cpu
 use Rattle.sched_queues.proofs.queues.schedule_thread_on_cpu.Symbol as fn-sched-queues-queues-schedule-thread-on-cpu-def
 use Rattle.sched_queues.proofs.queues.schedule_thread_on_cpu.Met as fn-sched-queues-queues-schedule-thread-on-cpu-thm
@@ -113,10 +113,10 @@ module _ {M : Type 1} (𝓤 : URA M) (H : Heap 𝓤) (𝓜 : Model 𝓤 H) (𝓖
     Post = walkOf 𝓤 H A reinserted.ended stayed c .post y
 
     abbrev V₁ : Left ℕ Memory
-    V₁ = scheduleThreadOnCpu (a .0) (cpuOf (a .1 .0)) (a .1 .1 .0) (a .1 .1 .1 .0) (record { threads = ys; cpus = ys′ })
+    V₁ = schedule-thread-on-cpu-def (a .0) (cpu-of-def (a .1 .0)) (a .1 .1 .0) (a .1 .1 .1 .0) (record { threads = ys; cpus = ys′ })
 
     walk : ent 𝓤 (onEntry 𝓤 H A reinserted.signature (κ, (κ′, tt)) (q, (q′, tt)) ((lent-as b o γ ys, (lent-as b′ o′ γ′ ys′, a))) ((s ∷ [], (s′ ∷ [], spell Ds a)))) (WpFn 𝓤 H C Λ code.function (s ∷ s′ ∷ listed Ds a) Post)
-    unfolding reinsertedDef
+    unfolding reinserted-def
     walk =
         qed W ((‵ (flft κ q) ⊛ (‵ (flft κ′ q′) ⊛ (‵ ftrue))) ∷ ‵ (owns (MutSlice (named 0) κ Thread·.the-row ∷ MutSlice (named 1) κ′ (Array u64 96) ∷ Context·.the-row ∷ OptionCpu·.the-row ∷ u64 ∷ u64 ∷ []) ((lent-as b o γ ys, (lent-as b′ o′ γ′ ys′, a))) ((s ∷ [], (s′ ∷ [], spell Ds a)))) ∷ []) ∵ begins2 ! $ enter ! C _ code.function (s ∷ s′ ∷ listed Ds a) _ $
         alloc1 ! (λ l₀. alloc1 ! (λ l₁. alloc1 ! (λ l₂. alloc1 ! (λ l₃. alloc1 ! (λ l₄. alloc1 ! (λ l₅. alloc1 ! (λ l₆. alloc1 ! (λ l₇. alloc1 ! (λ l₈. alloc1 ! (λ l₉. alloc1 ! (λ l₁₀. alloc1 ! (λ l₁₁. alloc1 ! (λ l₁₂. alloc0 ! $ params1 ! $
@@ -126,8 +126,8 @@ module _ {M : Type 1} (𝓤 : URA M) (H : Heap 𝓤) (𝓜 : Model 𝓤 H) (𝓖
         move ! (28 ∷ 29 ∷ []) $
         opened ! tt Thread·.the-row γ ys b o $
         nothing ! $
-        call-slices truth (OptionCpu° ∷ []) ((a .1 .0, tt)) (emp 𝓤) ([]) ! fm (λ r ws. r ≡ (isNone (a .1 .0))) ((are .1 .0, tt)) (id⊢ 𝓤 (emp 𝓤))
-        (λ νs. cited 𝓤 H (tripleOf 𝓤 H A fn-step-option-is-none.signature (fn-step-option-is-none.spec 𝓤 H A (𝓜 .mem) (𝓡 .run))) 𝓜 𝓡 code.env fn-step-option-is-none-def.name fn-step-option-is-none-def.routine code.calls-step·option·is-none (fn-step-option-is-none-thm.met 𝓤 H 𝓜 𝓖 𝓡) ((tt, tt, tt, (a .1 .0, tt), spell (OptionCpu° ∷ []) ((a .1 .0, tt))), tt))
+        call-slices truth (OptionCpu° ∷ []) ((a .1 .0, tt)) (emp 𝓤) ([]) ! fm (λ r ws. r ≡ (is-none (a .1 .0))) ((are .1 .0, tt)) (id⊢ 𝓤 (emp 𝓤))
+        (λ νs. cited 𝓤 H (tripleOf 𝓤 H A fn-sched-words-option-is-none.signature (fn-sched-words-option-is-none.spec 𝓤 H A (𝓜 .mem) (𝓡 .run))) 𝓜 𝓡 code.env fn-sched-words-option-is-none-def.name fn-sched-words-option-is-none-def.routine code.calls-sched-words·option·is-none (fn-sched-words-option-is-none-thm.met 𝓤 H 𝓜 𝓖 𝓡) ((tt, tt, tt, (a .1 .0, tt), spell (OptionCpu° ∷ []) ((a .1 .0, tt))), tt))
         (λ k. and-then ! (load ! (from ! (stop !)) (look ! 21 refl)) (no-more !)) (λ r₁ ws₂ is₃ ls₄ e₅.
         drop ! $
         told ! truth (e₅) is₃ (λ is₆.
@@ -142,16 +142,16 @@ module _ {M : Type 1} (𝓤 : URA M) (H : Heap 𝓤) (𝓜 : Model 𝓤 H) (𝓖
         returns-within ! Post refl (look ! 28 refl) $
         move ! (28 ∷ 29 ∷ 26 ∷ 27 ∷ 24 ∷ 25 ∷ 22 ∷ 23 ∷ 20 ∷ 21 ∷ 18 ∷ 19 ∷ 16 ∷ 17 ∷ 14 ∷ 15 ∷ 12 ∷ 13 ∷ 10 ∷ 11 ∷ 8 ∷ 9 ∷ 6 ∷ 7 ∷ 4 ∷ 5 ∷ []) $
         all-freed ! mir.locals (l₀ ∷ l₁ ∷ l₂ ∷ l₃ ∷ l₄ ∷ l₅ ∷ l₆ ∷ l₇ ∷ l₈ ∷ l₉ ∷ l₁₀ ∷ l₁₁ ∷ l₁₂ ∷ []) (full _ ∷ full _ ∷ full _ ∷ full _ ∷ full _ ∷ full _ ∷ full _ ∷ bare ∷ full _ ∷ bare ∷ bare ∷ bare ∷ bare ∷ []) tt $
-        suffices ! _ (ends-at 𝓤 H A reinserted.ended stayed c W y _ (a .1 .1 .1 .0) (ys, (ys′, (tt, (tt, (tt, (tt, tt)))))) (sym refl, (sym refl, (tt, (tt, (tt, (tt, tt))))))) $ says ! (so {X = Left ℕ Memory} (record { answer = (a .1 .1 .1 .0); memory = record { threads = ys; cpus = ys′ } }) (reinsertedDef (a .0) (a .1 .0) (a .1 .1 .0) (a .1 .1 .1 .0) (record { threads = ys; cpus = ys′ })) ((yes (isNone (a .1 .0)) h₁ _ (refl)))) $
+        suffices ! _ (ends-at 𝓤 H A reinserted.ended stayed c W y _ (a .1 .1 .1 .0) (ys, (ys′, (tt, (tt, (tt, (tt, tt)))))) (sym refl, (sym refl, (tt, (tt, (tt, (tt, tt))))))) $ says ! (so {X = Left ℕ Memory} (record { answer = (a .1 .1 .1 .0); memory = record { threads = ys; cpus = ys′ } }) (reinserted-def (a .0) (a .1 .0) (a .1 .1 .0) (a .1 .1 .1 .0) (record { threads = ys; cpus = ys′ })) ((yes (is-none (a .1 .0)) h₁ _ (refl)))) $
         leaves2 ! (number w64) Ds a (a .1 .1 .1 .0) are (are .1 .1 .1 .0))
         (λ h₁.
         nothing ! $
-        call-slices (number w64) (OptionCpu° ∷ []) ((a .1 .0, tt)) (emp 𝓤) ([]) ! fm (λ r ws. r ≡ (cpuOf (a .1 .0))) ((are .1 .0, tt)) (id⊢ 𝓤 (emp 𝓤))
-        (λ νs. cited 𝓤 H (tripleOf 𝓤 H A fn-step-option-cpu-of.signature (fn-step-option-cpu-of.spec 𝓤 H A (𝓜 .mem) (𝓡 .run))) 𝓜 𝓡 code.env fn-step-option-cpu-of-def.name fn-step-option-cpu-of-def.routine code.calls-step·option·cpu-of (fn-step-option-cpu-of-thm.met 𝓤 H 𝓜 𝓖 𝓡) ((tt, tt, tt, (a .1 .0, tt), spell (OptionCpu° ∷ []) ((a .1 .0, tt))), tt))
+        call-slices (number w64) (OptionCpu° ∷ []) ((a .1 .0, tt)) (emp 𝓤) ([]) ! fm (λ r ws. r ≡ (cpu-of-def (a .1 .0))) ((are .1 .0, tt)) (id⊢ 𝓤 (emp 𝓤))
+        (λ νs. cited 𝓤 H (tripleOf 𝓤 H A fn-sched-words-option-cpu-of.signature (fn-sched-words-option-cpu-of.spec 𝓤 H A (𝓜 .mem) (𝓡 .run))) 𝓜 𝓡 code.env fn-sched-words-option-cpu-of-def.name fn-sched-words-option-cpu-of-def.routine code.calls-sched-words·option·cpu-of (fn-sched-words-option-cpu-of-thm.met 𝓤 H 𝓜 𝓖 𝓡) ((tt, tt, tt, (a .1 .0, tt), spell (OptionCpu° ∷ []) ((a .1 .0, tt))), tt))
         (λ k. and-then ! (load ! (from ! (stop !)) (look ! 21 refl)) (no-more !)) (λ r₇ ws₈ is₉ ls₁₀ e₁₁.
         drop ! $
         told ! (number w64) (e₁₁) is₉ (λ is₁₂.
-        land ! (from ! (stop !)) (init ! 14 refl ((number w64) .typed 𝓤 H A W (cpuOf (a .1 .0)) (is₁₂) .0)) $
+        land ! (from ! (stop !)) (init ! 14 refl ((number w64) .typed 𝓤 H A W (cpu-of-def (a .1 .0)) (is₁₂) .0)) $
         assigns ! (addr ! (from ! (fld ! refl (hop ! (look-in ! 26 (sub ! 0 refl (whole !))) (stop !))))) (from ! (stop !)) (init ! 10 refl (tt, tt)) $
         assigns ! (agg ! (and-then ! (load ! (from ! (stop !)) (look ! 10 refl)) (and-then ! (load ! (from ! (fld ! refl (stop !))) (look-in ! 26 (sub ! 1 refl (whole !)))) (no-more !)))) (from ! (stop !)) (init ! 8 refl (tt, (tt, (record { fits = room .0 }, tt)))) $
         assigns ! (addr ! (from ! (fld ! refl (hop ! (look-in ! 24 (sub ! 0 refl (whole !))) (stop !))))) (from ! (stop !)) (init ! 6 refl (tt, tt)) $
@@ -161,8 +161,8 @@ module _ {M : Type 1} (𝓤 : URA M) (H : Heap 𝓤) (𝓜 : Model 𝓤 H) (𝓖
         join ! $
         move ! (1 ∷ 0 ∷ []) $
         join ! $
-        call-left (number w64) (Context° ∷ number w64 ∷ number w64 ∷ number w64 ∷ []) ((a .0, (cpuOf (a .1 .0), (a .1 .1 .0, (a .1 .1 .1 .0, tt))))) (emp 𝓤) ((mutable Thread·.the-row ys b o n refl room) ∷ (mutable (Array u64 96) ys′ b′ o′ n′ refl room′) ∷ []) ! fm (λ r ws. (r ≡ (V₁ .answer)) × ((ws .0 ≡ (V₁ .memory .threads)) × (ws .1 .0 ≡ (V₁ .memory .cpus)))) (λ r ws. _≡_ {A = Left ℕ Memory} (record { answer = r; memory = record { threads = ws .0; cpus = ws .1 .0 } }) V₁) (λ r ws e. (ap (λ (z : Left ℕ Memory). z .answer) e, (ap (λ (z : Left ℕ Memory). z .memory .threads) e, ap (λ (z : Left ℕ Memory). z .memory .cpus) e))) ((are .0, (is₁₂, (are .1 .1 .0, (are .1 .1 .1 .0, tt))))) (id⊢ 𝓤 (emp 𝓤))
-        (λ νs. cited 𝓤 H (tripleOf 𝓤 H A fn-sched-queues-queues-schedule-thread-on-cpu.signature (fn-sched-queues-queues-schedule-thread-on-cpu.spec 𝓤 H A (𝓜 .mem) (𝓡 .run))) 𝓜 𝓡 code.env fn-sched-queues-queues-schedule-thread-on-cpu-def.name fn-sched-queues-queues-schedule-thread-on-cpu-def.routine code.calls-sched-queues·queues·schedule-thread-on-cpu (fn-sched-queues-queues-schedule-thread-on-cpu-thm.met 𝓤 H 𝓜 𝓖 𝓡) (((νs .0 .0 ∷ [], (νs .1 .0 .0 ∷ [], tt)), (fullShare, (fullShare, tt)), tt, (lent-as b o (νs .0 .1) ys, (lent-as b′ o′ (νs .1 .0 .1) ys′, (a .0, (cpuOf (a .1 .0), (a .1 .1 .0, (a .1 .1 .1 .0, tt)))))), (slice-of b o ys ∷ [], (slice-of b′ o′ ys′ ∷ [], spell (Context° ∷ number w64 ∷ number w64 ∷ number w64 ∷ []) ((a .0, (cpuOf (a .1 .0), (a .1 .1 .0, (a .1 .1 .1 .0, tt)))))))), tt))
+        call-left (number w64) (Context° ∷ number w64 ∷ number w64 ∷ number w64 ∷ []) ((a .0, (cpu-of-def (a .1 .0), (a .1 .1 .0, (a .1 .1 .1 .0, tt))))) (emp 𝓤) ((mutable Thread·.the-row ys b o n refl room) ∷ (mutable (Array u64 96) ys′ b′ o′ n′ refl room′) ∷ []) ! fm (λ r ws. (r ≡ (V₁ .answer)) × ((ws .0 ≡ (V₁ .memory .threads)) × (ws .1 .0 ≡ (V₁ .memory .cpus)))) (λ r ws. _≡_ {A = Left ℕ Memory} (record { answer = r; memory = record { threads = ws .0; cpus = ws .1 .0 } }) V₁) (λ r ws e. (ap (λ (z : Left ℕ Memory). z .answer) e, (ap (λ (z : Left ℕ Memory). z .memory .threads) e, ap (λ (z : Left ℕ Memory). z .memory .cpus) e))) ((are .0, (is₁₂, (are .1 .1 .0, (are .1 .1 .1 .0, tt))))) (id⊢ 𝓤 (emp 𝓤))
+        (λ νs. cited 𝓤 H (tripleOf 𝓤 H A fn-sched-queues-queues-schedule-thread-on-cpu.signature (fn-sched-queues-queues-schedule-thread-on-cpu.spec 𝓤 H A (𝓜 .mem) (𝓡 .run))) 𝓜 𝓡 code.env fn-sched-queues-queues-schedule-thread-on-cpu-def.name fn-sched-queues-queues-schedule-thread-on-cpu-def.routine code.calls-sched-queues·queues·schedule-thread-on-cpu (fn-sched-queues-queues-schedule-thread-on-cpu-thm.met 𝓤 H 𝓜 𝓖 𝓡) (((νs .0 .0 ∷ [], (νs .1 .0 .0 ∷ [], tt)), (fullShare, (fullShare, tt)), tt, (lent-as b o (νs .0 .1) ys, (lent-as b′ o′ (νs .1 .0 .1) ys′, (a .0, (cpu-of-def (a .1 .0), (a .1 .1 .0, (a .1 .1 .1 .0, tt)))))), (slice-of b o ys ∷ [], (slice-of b′ o′ ys′ ∷ [], spell (Context° ∷ number w64 ∷ number w64 ∷ number w64 ∷ []) ((a .0, (cpu-of-def (a .1 .0), (a .1 .1 .0, (a .1 .1 .1 .0, tt)))))))), tt))
         (λ k. and-then ! (load ! (from ! (stop !)) (look ! 7 refl)) (and-then ! (load ! (from ! (stop !)) (look ! 3 refl)) (and-then ! (load ! (from ! (stop !)) (look ! 21 refl)) (and-then ! (load ! (from ! (stop !)) (look ! 13 refl)) (and-then ! (load ! (from ! (stop !)) (look ! 17 refl)) (and-then ! (load ! (from ! (stop !)) (look ! 15 refl)) (no-more !))))))) (λ r₁₃ ws₁₄ is₁₅ ls₁₆ e₁₇.
         split ! $
         move ! (1 ∷ []) $
@@ -180,7 +180,7 @@ module _ {M : Type 1} (𝓤 : URA M) (H : Heap 𝓤) (𝓜 : Model 𝓤 H) (𝓖
         returns ! (look ! 28 refl) $
         move ! (28 ∷ 29 ∷ 26 ∷ 27 ∷ 24 ∷ 25 ∷ 22 ∷ 23 ∷ 20 ∷ 21 ∷ 18 ∷ 19 ∷ 16 ∷ 17 ∷ 14 ∷ 15 ∷ 12 ∷ 13 ∷ 10 ∷ 11 ∷ 8 ∷ 9 ∷ 6 ∷ 7 ∷ 4 ∷ 5 ∷ []) $
         all-freed ! mir.locals (l₀ ∷ l₁ ∷ l₂ ∷ l₃ ∷ l₄ ∷ l₅ ∷ l₆ ∷ l₇ ∷ l₈ ∷ l₉ ∷ l₁₀ ∷ l₁₁ ∷ l₁₂ ∷ []) (full _ ∷ full _ ∷ full _ ∷ full _ ∷ full _ ∷ full _ ∷ full _ ∷ full _ ∷ full _ ∷ full _ ∷ full _ ∷ full _ ∷ full _ ∷ []) tt $
-        suffices ! _ (ends-at 𝓤 H A reinserted.ended stayed c W y _ (V₁ .answer) (V₁ .memory .threads, (V₁ .memory .cpus, (tt, (tt, (tt, (tt, tt)))))) (sym ((refl ∙ sym (subst (λ (us : List Thread). length us ≡ length ys) (e₁₇ .1 .0) (ls₁₆ .0)))), (sym ((refl ∙ sym (subst (λ (us : List (List ℕ)). length us ≡ length ys′) (e₁₇ .1 .1) (ls₁₆ .1 .0)))), (tt, (tt, (tt, (tt, tt))))))) $ says ! (so {X = Left ℕ Memory} (record { answer = (V₁ .answer); memory = record { threads = (V₁ .memory .threads); cpus = (V₁ .memory .cpus) } }) (reinsertedDef (a .0) (a .1 .0) (a .1 .1 .0) (a .1 .1 .1 .0) (record { threads = ys; cpus = ys′ })) ((no (isNone (a .1 .0)) h₁ _ (refl)))) $
+        suffices ! _ (ends-at 𝓤 H A reinserted.ended stayed c W y _ (V₁ .answer) (V₁ .memory .threads, (V₁ .memory .cpus, (tt, (tt, (tt, (tt, tt)))))) (sym ((refl ∙ sym (subst (λ (us : List Thread). length us ≡ length ys) (e₁₇ .1 .0) (ls₁₆ .0)))), (sym ((refl ∙ sym (subst (λ (us : List (List ℕ)). length us ≡ length ys′) (e₁₇ .1 .1) (ls₁₆ .1 .0)))), (tt, (tt, (tt, (tt, tt))))))) $ says ! (so {X = Left ℕ Memory} (record { answer = (V₁ .answer); memory = record { threads = (V₁ .memory .threads); cpus = (V₁ .memory .cpus) } }) (reinserted-def (a .0) (a .1 .0) (a .1 .1 .0) (a .1 .1 .1 .0) (record { threads = ys; cpus = ys′ })) ((no (is-none (a .1 .0)) h₁ _ (refl)))) $
         leaves2 ! (number w64) Ds a (V₁ .answer) are (is₁₈)))))))))))))))))))))
 
 pub reinserted-spec : {M : Type 1} → stated.statement M

@@ -31,27 +31,27 @@ use denote.Triple.Table.{cited}
 use denote.Triple.Clauses.{Clauses}
 use denote.Triple.Walked.{says, Stays, stay-none, stay-slice, stay-none-slice, walkOf, goes-none, goes-slice, goes-none-slice, ends-at}
 use denote.Exit.{yes as kept-yes}
-use Rattle.lent.proofs.Walk.{Datum, number, nil, struct, Dens, AreD, listed, spell, lent-as, slice-of, kept, opened, closed, full, told, proved}
-use Rattle.lent.proofs.Lent.{mutable, shared, passed, call-slices, all-freed, so, begins2, leaves2}
-use Rattle.sched.specs.Schedule.{resetThreadTime}
-use Rattle.step.specs.Time.{resetTime}
+use Rattle.records.proofs.Walk.{Datum, number, nil, struct, Dens, AreD, listed, spell, lent-as, slice-of, kept, opened, closed, full, told, proved}
+use Rattle.records.proofs.Lent.{mutable, shared, passed, call-slices, all-freed, so, begins2, leaves2}
+use Rattle.sched.specs.Schedule.{reset-thread-time-def}
+use Rattle.sched_words.specs.Time.{reset-time-def}
 use Rattle.thread.specs.Thread.{blank}
 use denote.Struct.Laws as LL
-use Rattle.step.specs.declared.context.Context.{Context}
-use Rattle.step.proofs.context.Context as Context·
-use Rattle.step.proofs.context.Context.Laws as Context·laws
+use Rattle.sched_words.specs.declared.context.Context.{Context}
+use Rattle.sched_words.proofs.context.Context as Context·
+use Rattle.sched_words.proofs.context.Context.Laws as Context·laws
 use Rattle.thread.specs.declared.Thread.{Thread}
 use Rattle.thread.proofs.Thread as Thread·
 use Rattle.thread.proofs.Thread.Laws as Thread·laws
-use Rattle.lent.proofs.records.get as fn-lent-records-get
-use Rattle.lent.proofs.records.get.Symbol as fn-lent-records-get-def
-use Rattle.lent.proofs.records.get.Met as fn-lent-records-get-thm
-use Rattle.step.proofs.time.reset_time as fn-step-time-reset-time
-use Rattle.step.proofs.time.reset_time.Symbol as fn-step-time-reset-time-def
-use Rattle.step.proofs.time.reset_time.Met as fn-step-time-reset-time-thm
-use Rattle.lent.proofs.records.set as fn-lent-records-set
-use Rattle.lent.proofs.records.set.Symbol as fn-lent-records-set-def
-use Rattle.lent.proofs.records.set.Met as fn-lent-records-set-thm
+use Rattle.records.proofs.record.get as fn-records-record-get
+use Rattle.records.proofs.record.get.Symbol as fn-records-record-get-def
+use Rattle.records.proofs.record.get.Met as fn-records-record-get-thm
+use Rattle.sched_words.proofs.time.reset_time as fn-sched-words-time-reset-time
+use Rattle.sched_words.proofs.time.reset_time.Symbol as fn-sched-words-time-reset-time-def
+use Rattle.sched_words.proofs.time.reset_time.Met as fn-sched-words-time-reset-time-thm
+use Rattle.records.proofs.record.set as fn-records-record-set
+use Rattle.records.proofs.record.set.Symbol as fn-records-record-set-def
+use Rattle.records.proofs.record.set.Met as fn-records-record-set-thm
 use Rattle.sched.proofs.schedule.reset_thread_time.Key.{name as #reset-thread-time}
 use Rattle.sched.proofs.schedule.reset_thread_time as reset-thread-time
 use Rattle.sched.proofs.schedule.reset_thread_time.Statement as stated
@@ -106,10 +106,10 @@ module _ {M : Type 1} (𝓤 : URA M) (H : Heap 𝓤) (𝓜 : Model 𝓤 H) (𝓖
     Post = walkOf 𝓤 H A reset-thread-time.ended stayed c .post y
 
     abbrev V₁ : Thread
-    V₁ = resetTime ys′ ((a .0) .us) ((a .0) .tick) ((a .0) .shortest) (getD ys (a .1 .0) blank)
+    V₁ = reset-time-def ys′ ((a .0) .us) ((a .0) .tick) ((a .0) .shortest) (getD ys (a .1 .0) blank)
 
     walk : ent 𝓤 (onEntry 𝓤 H A reset-thread-time.signature (κ, (κ′, tt)) (q, (q′, tt)) ((lent-as b o γ ys, (lent-as b′ o′ γ′ ys′, a))) ((s ∷ [], (s′ ∷ [], spell Ds a)))) (WpFn 𝓤 H C Λ code.function (s ∷ s′ ∷ listed Ds a) Post)
-    unfolding resetThreadTime
+    unfolding reset-thread-time-def
     walk =
         qed W ((‵ (flft κ q) ⊛ (‵ (flft κ′ q′) ⊛ (‵ ftrue))) ∷ ‵ (owns (MutSlice (named 0) κ Thread·.the-row ∷ ShrSlice (named 1) κ′ (Array u64 96) ∷ Context·.the-row ∷ u64 ∷ []) ((lent-as b o γ ys, (lent-as b′ o′ γ′ ys′, a))) ((s ∷ [], (s′ ∷ [], spell Ds a)))) ∷ []) ∵ begins2 ! $ enter ! C _ code.function (s ∷ s′ ∷ listed Ds a) _ $
         alloc1 ! (λ l₀. alloc1 ! (λ l₁. alloc1 ! (λ l₂. alloc1 ! (λ l₃. alloc1 ! (λ l₄. alloc1 ! (λ l₅. alloc1 ! (λ l₆. alloc1 ! (λ l₇. alloc1 ! (λ l₈. alloc1 ! (λ l₉. alloc1 ! (λ l₁₀. alloc1 ! (λ l₁₁. alloc1 ! (λ l₁₂. alloc1 ! (λ l₁₃. alloc1 ! (λ l₁₄. alloc0 ! $ params1 ! $
@@ -126,7 +126,7 @@ module _ {M : Type 1} (𝓤 : URA M) (H : Heap 𝓤) (𝓜 : Model 𝓤 H) (𝓖
         move ! (1 ∷ 0 ∷ []) $
         join ! $
         call-slices Thread° (number w64 ∷ []) ((a .1 .0, tt)) (emp 𝓤) ((shared Thread·.the-row ys b o n refl room) ∷ []) ! fm (λ r ws. r ≡ (getD ys (a .1 .0) blank)) ((are .1 .0, tt)) (id⊢ 𝓤 (emp 𝓤))
-        (λ νs. cited 𝓤 H (tripleOf 𝓤 H A fn-lent-records-get.signature (fn-lent-records-get.spec 𝓤 H A (𝓜 .mem) (𝓡 .run))) 𝓜 𝓡 code.env fn-lent-records-get-def.name fn-lent-records-get-def.routine code.calls-lent·records·get (fn-lent-records-get-thm.met 𝓤 H 𝓜 𝓖 𝓡) (((νs .0 .0 ∷ [], tt), (fullShare, tt), tt, (lent-as b o (νs .0 .1) ys, (a .1 .0, tt)), (slice-of b o ys ∷ [], spell (number w64 ∷ []) ((a .1 .0, tt)))), tt))
+        (λ νs. cited 𝓤 H (tripleOf 𝓤 H A fn-records-record-get.signature (fn-records-record-get.spec 𝓤 H A (𝓜 .mem) (𝓡 .run))) 𝓜 𝓡 code.env fn-records-record-get-def.name fn-records-record-get-def.routine code.calls-records·record·get (fn-records-record-get-thm.met 𝓤 H 𝓜 𝓖 𝓡) (((νs .0 .0 ∷ [], tt), (fullShare, tt), tt, (lent-as b o (νs .0 .1) ys, (a .1 .0, tt)), (slice-of b o ys ∷ [], spell (number w64 ∷ []) ((a .1 .0, tt)))), tt))
         (λ k. and-then ! (load ! (from ! (stop !)) (look ! 10 refl)) (and-then ! (load ! (from ! (stop !)) (look ! 24 refl)) (no-more !))) (λ r₁ ws₂ is₃ ls₄ e₅.
         split ! $
         move ! (1 ∷ []) $
@@ -138,7 +138,7 @@ module _ {M : Type 1} (𝓤 : URA M) (H : Heap 𝓤) (𝓜 : Model 𝓤 H) (𝓖
         join ! $
         join ! $
         call-slices Thread° (number w64 ∷ number w64 ∷ number w64 ∷ Thread° ∷ []) (((a .0) .us, ((a .0) .tick, ((a .0) .shortest, (getD ys (a .1 .0) blank, tt))))) (emp 𝓤) ((passed (Array u64 96) ys′ b′ o′ κ′ q′ γ′) ∷ []) ! fm (λ r ws. r ≡ V₁) ((LL.owed Context·.the-type Context·laws.the-laws (a .0) _ (are .0) .0, (LL.owed Context·.the-type Context·laws.the-laws (a .0) _ (are .0) .1 .0, (LL.owed Context·.the-type Context·laws.the-laws (a .0) _ (are .0) .1 .1 .0, (is₆, tt))))) (id⊢ 𝓤 (emp 𝓤))
-        (λ νs. cited 𝓤 H (tripleOf 𝓤 H A fn-step-time-reset-time.signature (fn-step-time-reset-time.spec 𝓤 H A (𝓜 .mem) (𝓡 .run))) 𝓜 𝓡 code.env fn-step-time-reset-time-def.name fn-step-time-reset-time-def.routine code.calls-step·time·reset-time (fn-step-time-reset-time-thm.met 𝓤 H 𝓜 𝓖 𝓡) (((κ′, tt), (q′, tt), tt, (lent-as b′ o′ γ′ ys′, ((a .0) .us, ((a .0) .tick, ((a .0) .shortest, (getD ys (a .1 .0) blank, tt))))), (slice-of b′ o′ ys′ ∷ [], spell (number w64 ∷ number w64 ∷ number w64 ∷ Thread° ∷ []) (((a .0) .us, ((a .0) .tick, ((a .0) .shortest, (getD ys (a .1 .0) blank, tt))))))), tt))
+        (λ νs. cited 𝓤 H (tripleOf 𝓤 H A fn-sched-words-time-reset-time.signature (fn-sched-words-time-reset-time.spec 𝓤 H A (𝓜 .mem) (𝓡 .run))) 𝓜 𝓡 code.env fn-sched-words-time-reset-time-def.name fn-sched-words-time-reset-time-def.routine code.calls-sched-words·time·reset-time (fn-sched-words-time-reset-time-thm.met 𝓤 H 𝓜 𝓖 𝓡) (((κ′, tt), (q′, tt), tt, (lent-as b′ o′ γ′ ys′, ((a .0) .us, ((a .0) .tick, ((a .0) .shortest, (getD ys (a .1 .0) blank, tt))))), (slice-of b′ o′ ys′ ∷ [], spell (number w64 ∷ number w64 ∷ number w64 ∷ Thread° ∷ []) (((a .0) .us, ((a .0) .tick, ((a .0) .shortest, (getD ys (a .1 .0) blank, tt))))))), tt))
         (λ k. and-then ! (load ! (from ! (stop !)) (look ! 27 refl)) (and-then ! (load ! (from ! (stop !)) (look ! 21 refl)) (and-then ! (load ! (from ! (stop !)) (look ! 19 refl)) (and-then ! (load ! (from ! (stop !)) (look ! 17 refl)) (and-then ! (load ! (from ! (stop !)) (look ! 15 refl)) (no-more !)))))) (λ r₇ ws₈ is₉ ls₁₀ e₁₁.
         split ! $
         split ! $
@@ -152,7 +152,7 @@ module _ {M : Type 1} (𝓤 : URA M) (H : Heap 𝓤) (𝓜 : Model 𝓤 H) (𝓖
         move ! (3 ∷ 0 ∷ []) $
         join ! $
         call-slices nil (number w64 ∷ Thread° ∷ []) ((a .1 .0, (V₁, tt))) (emp 𝓤) ((mutable Thread·.the-row ys b o n refl room) ∷ []) ! fm (λ r ws. ws .0 ≡ (set ys (a .1 .0) V₁)) ((are .1 .0, (is₁₂, tt))) (id⊢ 𝓤 (emp 𝓤))
-        (λ νs. cited 𝓤 H (tripleOf 𝓤 H A fn-lent-records-set.signature (fn-lent-records-set.spec 𝓤 H A (𝓜 .mem) (𝓡 .run))) 𝓜 𝓡 code.env fn-lent-records-set-def.name fn-lent-records-set-def.routine code.calls-lent·records·set (fn-lent-records-set-thm.met 𝓤 H 𝓜 𝓖 𝓡) (((νs .0 .0 ∷ [], tt), (fullShare, tt), tt, (lent-as b o (νs .0 .1) ys, (a .1 .0, (V₁, tt))), (slice-of b o ys ∷ [], spell (number w64 ∷ Thread° ∷ []) ((a .1 .0, (V₁, tt))))), tt))
+        (λ νs. cited 𝓤 H (tripleOf 𝓤 H A fn-records-record-set.signature (fn-records-record-set.spec 𝓤 H A (𝓜 .mem) (𝓡 .run))) 𝓜 𝓡 code.env fn-records-record-set-def.name fn-records-record-set-def.routine code.calls-records·record·set (fn-records-record-set-thm.met 𝓤 H 𝓜 𝓖 𝓡) (((νs .0 .0 ∷ [], tt), (fullShare, tt), tt, (lent-as b o (νs .0 .1) ys, (a .1 .0, (V₁, tt))), (slice-of b o ys ∷ [], spell (number w64 ∷ Thread° ∷ []) ((a .1 .0, (V₁, tt))))), tt))
         (λ k. and-then ! (load ! (from ! (stop !)) (look ! 4 refl)) (and-then ! (load ! (from ! (stop !)) (look ! 24 refl)) (and-then ! (load ! (from ! (stop !)) (look ! 14 refl)) (no-more !)))) (λ r₁₃ ws₁₄ is₁₅ ls₁₆ e₁₇.
         split ! $
         move ! (1 ∷ []) $
@@ -166,7 +166,7 @@ module _ {M : Type 1} (𝓤 : URA M) (H : Heap 𝓤) (𝓜 : Model 𝓤 H) (𝓖
         returns ! (look ! 32 refl) $
         move ! (32 ∷ 33 ∷ 30 ∷ 31 ∷ 28 ∷ 29 ∷ 26 ∷ 27 ∷ 24 ∷ 25 ∷ 22 ∷ 23 ∷ 20 ∷ 21 ∷ 18 ∷ 19 ∷ 16 ∷ 17 ∷ 14 ∷ 15 ∷ 12 ∷ 13 ∷ 10 ∷ 11 ∷ 8 ∷ 9 ∷ 6 ∷ 7 ∷ 4 ∷ 5 ∷ []) $
         all-freed ! mir.locals (l₀ ∷ l₁ ∷ l₂ ∷ l₃ ∷ l₄ ∷ l₅ ∷ l₆ ∷ l₇ ∷ l₈ ∷ l₉ ∷ l₁₀ ∷ l₁₁ ∷ l₁₂ ∷ l₁₃ ∷ l₁₄ ∷ []) (full _ ∷ full _ ∷ full _ ∷ full _ ∷ full _ ∷ full _ ∷ full _ ∷ full _ ∷ full _ ∷ full _ ∷ full _ ∷ full _ ∷ full _ ∷ full _ ∷ full _ ∷ []) tt $
-        suffices ! _ (ends-at 𝓤 H A reset-thread-time.ended stayed c W y _ (tt) (set ys (a .1 .0) V₁, (tt, (tt, (tt, tt)))) (sym ((refl ∙ sym (subst (λ (us : List Thread). length us ≡ length ys) (e₁₇) (ls₁₆ .0)))), (tt, (tt, (tt, tt))))) $ says ! (so {X = List Thread} ((set ys (a .1 .0) V₁)) (resetThreadTime (a .0) (a .1 .0) ys′ ys) (refl)) $
+        suffices ! _ (ends-at 𝓤 H A reset-thread-time.ended stayed c W y _ (tt) (set ys (a .1 .0) V₁, (tt, (tt, (tt, tt)))) (sym ((refl ∙ sym (subst (λ (us : List Thread). length us ≡ length ys) (e₁₇) (ls₁₆ .0)))), (tt, (tt, (tt, tt))))) $ says ! (so {X = List Thread} ((set ys (a .1 .0) V₁)) (reset-thread-time-def (a .0) (a .1 .0) ys′ ys) (refl)) $
         leaves2 ! nil Ds a (tt) are (refl)))))))))))))))))))))
 
 pub reset-thread-time-spec : {M : Type 1} → stated.statement M

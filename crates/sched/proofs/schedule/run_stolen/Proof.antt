@@ -31,15 +31,15 @@ use denote.Triple.Table.{cited}
 use denote.Triple.Clauses.{Clauses}
 use denote.Triple.Walked.{says, Stays, stay-none, stay-slice, walkOf, goes-none, goes-slice, ends-at}
 use denote.Exit.{yes as kept-yes}
-use Rattle.lent.proofs.Walk.{Datum, number, truth, nil, struct, Dens, AreD, listed, spell, lent-as, slice-of, kept, opened, closed, guards, bare, full, told, proved}
-use Rattle.lent.proofs.Lent.{mutable, choice, call-slices, call-left, all-freed, no, yes, so, begins2, leaves2}
-use Rattle.lent.specs.Left.{Memory}
-use Rattle.sched.specs.Schedule.{runStolen, idleUnless, switchTo}
-use Rattle.sched_queues.specs.Queues.{isNobody, threadOf}
+use Rattle.records.proofs.Walk.{Datum, number, truth, nil, struct, Dens, AreD, listed, spell, lent-as, slice-of, kept, opened, closed, guards, bare, full, told, proved}
+use Rattle.records.proofs.Lent.{mutable, choice, call-slices, call-left, all-freed, no, yes, so, begins2, leaves2}
+use Rattle.records.specs.Left.{Memory}
+use Rattle.sched.specs.Schedule.{run-stolen-def, idle-unless, switch-to-def}
+use Rattle.sched_queues.specs.Queues.{is-nobody, thread-of}
 use denote.Struct.Laws as LL
-use Rattle.lent.specs.declared.rq.Taken.{Taken}
-use Rattle.lent.proofs.rq.Taken as Taken·
-use Rattle.lent.proofs.rq.Taken.Laws as Taken·laws
+use Rattle.records.specs.declared.rq.Taken.{Taken}
+use Rattle.records.proofs.rq.Taken as Taken·
+use Rattle.records.proofs.rq.Taken.Laws as Taken·laws
 use Rattle.thread.specs.declared.Thread.{Thread}
 use Rattle.thread.proofs.Thread as Thread·
 use Rattle.thread.proofs.Thread.Laws as Thread·laws
@@ -109,13 +109,13 @@ module _ {M : Type 1} (𝓤 : URA M) (H : Heap 𝓤) (𝓜 : Model 𝓤 H) (𝓖
     Post = walkOf 𝓤 H A run-stolen.ended stayed c .post y
 
     abbrev V₁ : List (List ℕ)
-    V₁ = idleUnless (a .0) (a .1 .0) ys′
+    V₁ = idle-unless (a .0) (a .1 .0) ys′
 
     abbrev V₂ : Memory
-    V₂ = switchTo (a .0) (threadOf (a .1 .1 .0)) (record { threads = ys; cpus = ys′ })
+    V₂ = switch-to-def (a .0) (thread-of (a .1 .1 .0)) (record { threads = ys; cpus = ys′ })
 
     walk : ent 𝓤 (onEntry 𝓤 H A run-stolen.signature (κ, (κ′, tt)) (q, (q′, tt)) ((lent-as b o γ ys, (lent-as b′ o′ γ′ ys′, a))) ((s ∷ [], (s′ ∷ [], spell Ds a)))) (WpFn 𝓤 H C Λ code.function (s ∷ s′ ∷ listed Ds a) Post)
-    unfolding runStolen
+    unfolding run-stolen-def
     walk =
         qed W ((‵ (flft κ q) ⊛ (‵ (flft κ′ q′) ⊛ (‵ ftrue))) ∷ ‵ (owns (MutSlice (named 0) κ Thread·.the-row ∷ MutSlice (named 1) κ′ (Array u64 96) ∷ u64 ∷ u64 ∷ Taken·.the-row ∷ []) ((lent-as b o γ ys, (lent-as b′ o′ γ′ ys′, a))) ((s ∷ [], (s′ ∷ [], spell Ds a)))) ∷ []) ∵ begins2 ! $ enter ! C _ code.function (s ∷ s′ ∷ listed Ds a) _ $
         alloc1 ! (λ l₀. alloc1 ! (λ l₁. alloc1 ! (λ l₂. alloc1 ! (λ l₃. alloc1 ! (λ l₄. alloc1 ! (λ l₅. alloc1 ! (λ l₆. alloc1 ! (λ l₇. alloc1 ! (λ l₈. alloc1 ! (λ l₉. alloc1 ! (λ l₁₀. alloc1 ! (λ l₁₁. alloc1 ! (λ l₁₂. alloc1 ! (λ l₁₃. alloc1 ! (λ l₁₄. alloc1 ! (λ l₁₅. alloc0 ! $ params1 ! $
@@ -125,7 +125,7 @@ module _ {M : Type 1} (𝓤 : URA M) (H : Heap 𝓤) (𝓜 : Model 𝓤 H) (𝓖
         move ! (34 ∷ 35 ∷ []) $
         opened ! tt Thread·.the-row γ ys b o $
         nothing ! $
-        call-slices truth (Taken° ∷ []) ((a .1 .1 .0, tt)) (emp 𝓤) ([]) ! fm (λ r ws. r ≡ (isNobody (a .1 .1 .0))) ((are .1 .1 .0, tt)) (id⊢ 𝓤 (emp 𝓤))
+        call-slices truth (Taken° ∷ []) ((a .1 .1 .0, tt)) (emp 𝓤) ([]) ! fm (λ r ws. r ≡ (is-nobody (a .1 .1 .0))) ((are .1 .1 .0, tt)) (id⊢ 𝓤 (emp 𝓤))
         (λ νs. cited 𝓤 H (tripleOf 𝓤 H A fn-sched-queues-queues-is-nobody.signature (fn-sched-queues-queues-is-nobody.spec 𝓤 H A (𝓜 .mem) (𝓡 .run))) 𝓜 𝓡 code.env fn-sched-queues-queues-is-nobody-def.name fn-sched-queues-queues-is-nobody-def.routine code.calls-sched-queues·queues·is-nobody (fn-sched-queues-queues-is-nobody-thm.met 𝓤 H 𝓜 𝓖 𝓡) ((tt, tt, tt, (a .1 .1 .0, tt), spell (Taken° ∷ []) ((a .1 .1 .0, tt))), tt))
         (λ k. and-then ! (load ! (from ! (stop !)) (look ! 25 refl)) (no-more !)) (λ r₁ ws₂ is₃ ls₄ e₅.
         drop ! $
@@ -154,16 +154,16 @@ module _ {M : Type 1} (𝓤 : URA M) (H : Heap 𝓤) (𝓜 : Model 𝓤 H) (𝓖
         returns-within ! Post refl (look ! 34 refl) $
         move ! (34 ∷ 35 ∷ 32 ∷ 33 ∷ 30 ∷ 31 ∷ 28 ∷ 29 ∷ 26 ∷ 27 ∷ 24 ∷ 25 ∷ 22 ∷ 23 ∷ 20 ∷ 21 ∷ 18 ∷ 19 ∷ 16 ∷ 17 ∷ 14 ∷ 15 ∷ 12 ∷ 13 ∷ 10 ∷ 11 ∷ 8 ∷ 9 ∷ 6 ∷ 7 ∷ 4 ∷ 5 ∷ []) $
         all-freed ! mir.locals (l₀ ∷ l₁ ∷ l₂ ∷ l₃ ∷ l₄ ∷ l₅ ∷ l₆ ∷ l₇ ∷ l₈ ∷ l₉ ∷ l₁₀ ∷ l₁₁ ∷ l₁₂ ∷ l₁₃ ∷ l₁₄ ∷ l₁₅ ∷ []) (full _ ∷ full _ ∷ full _ ∷ full _ ∷ full _ ∷ full _ ∷ bare ∷ full _ ∷ full _ ∷ full _ ∷ full _ ∷ bare ∷ bare ∷ bare ∷ bare ∷ bare ∷ []) tt $
-        suffices ! _ (ends-at 𝓤 H A run-stolen.ended stayed c W y _ (tt) (ys, (V₁, (tt, (tt, (tt, tt))))) (sym refl, (sym ((refl ∙ sym (subst (λ (us : List (List ℕ)). length us ≡ length ys′) (e₁₁) (ls₁₀ .0)))), (tt, (tt, (tt, tt)))))) $ says ! (so {X = Memory} (record { threads = ys; cpus = (V₁) }) (runStolen (a .0) (a .1 .0) (a .1 .1 .0) (record { threads = ys; cpus = ys′ })) ((yes (isNobody (a .1 .1 .0)) h₁ _ (refl)))) $
+        suffices ! _ (ends-at 𝓤 H A run-stolen.ended stayed c W y _ (tt) (ys, (V₁, (tt, (tt, (tt, tt))))) (sym refl, (sym ((refl ∙ sym (subst (λ (us : List (List ℕ)). length us ≡ length ys′) (e₁₁) (ls₁₀ .0)))), (tt, (tt, (tt, tt)))))) $ says ! (so {X = Memory} (record { threads = ys; cpus = (V₁) }) (run-stolen-def (a .0) (a .1 .0) (a .1 .1 .0) (record { threads = ys; cpus = ys′ })) ((yes (is-nobody (a .1 .1 .0)) h₁ _ (refl)))) $
         leaves2 ! nil Ds a (tt) are (refl)))
         (λ h₁.
         nothing ! $
-        call-slices (number w64) (Taken° ∷ []) ((a .1 .1 .0, tt)) (emp 𝓤) ([]) ! fm (λ r ws. r ≡ (threadOf (a .1 .1 .0))) ((are .1 .1 .0, tt)) (id⊢ 𝓤 (emp 𝓤))
+        call-slices (number w64) (Taken° ∷ []) ((a .1 .1 .0, tt)) (emp 𝓤) ([]) ! fm (λ r ws. r ≡ (thread-of (a .1 .1 .0))) ((are .1 .1 .0, tt)) (id⊢ 𝓤 (emp 𝓤))
         (λ νs. cited 𝓤 H (tripleOf 𝓤 H A fn-sched-queues-queues-thread-of.signature (fn-sched-queues-queues-thread-of.spec 𝓤 H A (𝓜 .mem) (𝓡 .run))) 𝓜 𝓡 code.env fn-sched-queues-queues-thread-of-def.name fn-sched-queues-queues-thread-of-def.routine code.calls-sched-queues·queues·thread-of (fn-sched-queues-queues-thread-of-thm.met 𝓤 H 𝓜 𝓖 𝓡) ((tt, tt, tt, (a .1 .1 .0, tt), spell (Taken° ∷ []) ((a .1 .1 .0, tt))), tt))
         (λ k. and-then ! (load ! (from ! (stop !)) (look ! 25 refl)) (no-more !)) (λ r₁₂ ws₁₃ is₁₄ ls₁₅ e₁₆.
         drop ! $
         told ! (number w64) (e₁₆) is₁₄ (λ is₁₇.
-        land ! (from ! (stop !)) (init ! 22 refl ((number w64) .typed 𝓤 H A W (threadOf (a .1 .1 .0)) (is₁₇) .0)) $
+        land ! (from ! (stop !)) (init ! 22 refl ((number w64) .typed 𝓤 H A W (thread-of (a .1 .1 .0)) (is₁₇) .0)) $
         assigns ! (addr ! (from ! (fld ! refl (hop ! (look-in ! 32 (sub ! 0 refl (whole !))) (stop !))))) (from ! (stop !)) (init ! 10 refl (tt, tt)) $
         assigns ! (agg ! (and-then ! (load ! (from ! (stop !)) (look ! 10 refl)) (and-then ! (load ! (from ! (fld ! refl (stop !))) (look-in ! 32 (sub ! 1 refl (whole !)))) (no-more !)))) (from ! (stop !)) (init ! 8 refl (tt, (tt, (record { fits = room .0 }, tt)))) $
         assigns ! (addr ! (from ! (fld ! refl (hop ! (look-in ! 30 (sub ! 0 refl (whole !))) (stop !))))) (from ! (stop !)) (init ! 6 refl (tt, tt)) $
@@ -173,8 +173,8 @@ module _ {M : Type 1} (𝓤 : URA M) (H : Heap 𝓤) (𝓜 : Model 𝓤 H) (𝓖
         join ! $
         move ! (1 ∷ 0 ∷ []) $
         join ! $
-        call-left nil (number w64 ∷ number w64 ∷ []) ((a .0, (threadOf (a .1 .1 .0), tt))) (emp 𝓤) ((mutable Thread·.the-row ys b o n refl room) ∷ (mutable (Array u64 96) ys′ b′ o′ n′ refl room′) ∷ []) ! fm (λ r ws. (ws .0 ≡ (V₂ .threads)) × (ws .1 .0 ≡ (V₂ .cpus))) (λ r ws. _≡_ {A = Memory} (record { threads = ws .0; cpus = ws .1 .0 }) V₂) (λ r ws e. (ap (λ (z : Memory). z .threads) e, ap (λ (z : Memory). z .cpus) e)) ((are .0, (is₁₇, tt))) (id⊢ 𝓤 (emp 𝓤))
-        (λ νs. cited 𝓤 H (tripleOf 𝓤 H A fn-sched-schedule-switch-to.signature (fn-sched-schedule-switch-to.spec 𝓤 H A (𝓜 .mem) (𝓡 .run))) 𝓜 𝓡 code.env fn-sched-schedule-switch-to-def.name fn-sched-schedule-switch-to-def.routine code.calls-sched·schedule·switch-to (fn-sched-schedule-switch-to-thm.met 𝓤 H 𝓜 𝓖 𝓡) (((νs .0 .0 ∷ [], (νs .1 .0 .0 ∷ [], tt)), (fullShare, (fullShare, tt)), tt, (lent-as b o (νs .0 .1) ys, (lent-as b′ o′ (νs .1 .0 .1) ys′, (a .0, (threadOf (a .1 .1 .0), tt)))), (slice-of b o ys ∷ [], (slice-of b′ o′ ys′ ∷ [], spell (number w64 ∷ number w64 ∷ []) ((a .0, (threadOf (a .1 .1 .0), tt)))))), tt))
+        call-left nil (number w64 ∷ number w64 ∷ []) ((a .0, (thread-of (a .1 .1 .0), tt))) (emp 𝓤) ((mutable Thread·.the-row ys b o n refl room) ∷ (mutable (Array u64 96) ys′ b′ o′ n′ refl room′) ∷ []) ! fm (λ r ws. (ws .0 ≡ (V₂ .threads)) × (ws .1 .0 ≡ (V₂ .cpus))) (λ r ws. _≡_ {A = Memory} (record { threads = ws .0; cpus = ws .1 .0 }) V₂) (λ r ws e. (ap (λ (z : Memory). z .threads) e, ap (λ (z : Memory). z .cpus) e)) ((are .0, (is₁₇, tt))) (id⊢ 𝓤 (emp 𝓤))
+        (λ νs. cited 𝓤 H (tripleOf 𝓤 H A fn-sched-schedule-switch-to.signature (fn-sched-schedule-switch-to.spec 𝓤 H A (𝓜 .mem) (𝓡 .run))) 𝓜 𝓡 code.env fn-sched-schedule-switch-to-def.name fn-sched-schedule-switch-to-def.routine code.calls-sched·schedule·switch-to (fn-sched-schedule-switch-to-thm.met 𝓤 H 𝓜 𝓖 𝓡) (((νs .0 .0 ∷ [], (νs .1 .0 .0 ∷ [], tt)), (fullShare, (fullShare, tt)), tt, (lent-as b o (νs .0 .1) ys, (lent-as b′ o′ (νs .1 .0 .1) ys′, (a .0, (thread-of (a .1 .1 .0), tt)))), (slice-of b o ys ∷ [], (slice-of b′ o′ ys′ ∷ [], spell (number w64 ∷ number w64 ∷ []) ((a .0, (thread-of (a .1 .1 .0), tt)))))), tt))
         (λ k. and-then ! (load ! (from ! (stop !)) (look ! 7 refl)) (and-then ! (load ! (from ! (stop !)) (look ! 3 refl)) (and-then ! (load ! (from ! (stop !)) (look ! 27 refl)) (and-then ! (load ! (from ! (stop !)) (look ! 21 refl)) (no-more !))))) (λ r₁₈ ws₁₉ is₂₀ ls₂₁ e₂₂.
         split ! $
         move ! (1 ∷ []) $
@@ -192,7 +192,7 @@ module _ {M : Type 1} (𝓤 : URA M) (H : Heap 𝓤) (𝓜 : Model 𝓤 H) (𝓖
         returns ! (look ! 34 refl) $
         move ! (34 ∷ 35 ∷ 32 ∷ 33 ∷ 30 ∷ 31 ∷ 28 ∷ 29 ∷ 26 ∷ 27 ∷ 24 ∷ 25 ∷ 22 ∷ 23 ∷ 20 ∷ 21 ∷ 18 ∷ 19 ∷ 16 ∷ 17 ∷ 14 ∷ 15 ∷ 12 ∷ 13 ∷ 10 ∷ 11 ∷ 8 ∷ 9 ∷ 6 ∷ 7 ∷ 4 ∷ 5 ∷ []) $
         all-freed ! mir.locals (l₀ ∷ l₁ ∷ l₂ ∷ l₃ ∷ l₄ ∷ l₅ ∷ l₆ ∷ l₇ ∷ l₈ ∷ l₉ ∷ l₁₀ ∷ l₁₁ ∷ l₁₂ ∷ l₁₃ ∷ l₁₄ ∷ l₁₅ ∷ []) (full _ ∷ full _ ∷ full _ ∷ full _ ∷ full _ ∷ full _ ∷ full _ ∷ full _ ∷ bare ∷ bare ∷ bare ∷ full _ ∷ full _ ∷ full _ ∷ full _ ∷ full _ ∷ []) tt $
-        suffices ! _ (ends-at 𝓤 H A run-stolen.ended stayed c W y _ (tt) (V₂ .threads, (V₂ .cpus, (tt, (tt, (tt, tt))))) (sym ((refl ∙ sym (subst (λ (us : List Thread). length us ≡ length ys) (e₂₂ .0) (ls₂₁ .0)))), (sym ((refl ∙ sym (subst (λ (us : List (List ℕ)). length us ≡ length ys′) (e₂₂ .1) (ls₂₁ .1 .0)))), (tt, (tt, (tt, tt)))))) $ says ! (so {X = Memory} (record { threads = (V₂ .threads); cpus = (V₂ .cpus) }) (runStolen (a .0) (a .1 .0) (a .1 .1 .0) (record { threads = ys; cpus = ys′ })) ((no (isNobody (a .1 .1 .0)) h₁ _ (refl)))) $
+        suffices ! _ (ends-at 𝓤 H A run-stolen.ended stayed c W y _ (tt) (V₂ .threads, (V₂ .cpus, (tt, (tt, (tt, tt))))) (sym ((refl ∙ sym (subst (λ (us : List Thread). length us ≡ length ys) (e₂₂ .0) (ls₂₁ .0)))), (sym ((refl ∙ sym (subst (λ (us : List (List ℕ)). length us ≡ length ys′) (e₂₂ .1) (ls₂₁ .1 .0)))), (tt, (tt, (tt, tt)))))) $ says ! (so {X = Memory} (record { threads = (V₂ .threads); cpus = (V₂ .cpus) }) (run-stolen-def (a .0) (a .1 .0) (a .1 .1 .0) (record { threads = ys; cpus = ys′ })) ((no (is-nobody (a .1 .1 .0)) h₁ _ (refl)))) $
         leaves2 ! nil Ds a (tt) are (refl)))))))))))))))))))))))
 
 pub run-stolen-spec : {M : Type 1} → stated.statement M

@@ -32,10 +32,10 @@ use denote.Triple.Table.{cited}
 use denote.Triple.Clauses.{Clauses}
 use denote.Triple.Walked.{says, Stays, stay-none, stay-slice, walkOf, goes-none, goes-slice, ends-at}
 use denote.Exit.{yes as kept-yes}
-use Rattle.lent.proofs.Walk.{Datum, number, nil, struct, Dens, AreD, listed, spell, lent-as, slice-of, kept, opened, closed, guards, bare, full, proved}
-use Rattle.lent.proofs.Lent.{mutable, call-left, all-freed, no, yes, so, begins2, leaves2}
-use Rattle.lent.specs.Left.{Memory}
-use Rattle.sched.specs.Schedule.{runTaken, switchTo}
+use Rattle.records.proofs.Walk.{Datum, number, nil, struct, Dens, AreD, listed, spell, lent-as, slice-of, kept, opened, closed, guards, bare, full, proved}
+use Rattle.records.proofs.Lent.{mutable, call-left, all-freed, no, yes, so, begins2, leaves2}
+use Rattle.records.specs.Left.{Memory}
+use Rattle.sched.specs.Schedule.{run-taken-def, switch-to-def}
 use denote.Struct.Laws as LL
 use Rattle.thread.specs.declared.Thread.{Thread}
 use Rattle.thread.proofs.Thread as Thread·
@@ -94,10 +94,10 @@ module _ {M : Type 1} (𝓤 : URA M) (H : Heap 𝓤) (𝓜 : Model 𝓤 H) (𝓖
     Post = walkOf 𝓤 H A run-taken.ended stayed c .post y
 
     abbrev V₁ : Memory
-    V₁ = switchTo (a .0) (a .1 .1 .0) (record { threads = ys; cpus = ys′ })
+    V₁ = switch-to-def (a .0) (a .1 .1 .0) (record { threads = ys; cpus = ys′ })
 
     walk : ent 𝓤 (onEntry 𝓤 H A run-taken.signature (κ, (κ′, tt)) (q, (q′, tt)) ((lent-as b o γ ys, (lent-as b′ o′ γ′ ys′, a))) ((s ∷ [], (s′ ∷ [], spell Ds a)))) (WpFn 𝓤 H C Λ code.function (s ∷ s′ ∷ listed Ds a) Post)
-    unfolding runTaken
+    unfolding run-taken-def
     walk =
         qed W ((‵ (flft κ q) ⊛ (‵ (flft κ′ q′) ⊛ (‵ ftrue))) ∷ ‵ (owns (MutSlice (named 0) κ Thread·.the-row ∷ MutSlice (named 1) κ′ (Array u64 96) ∷ u64 ∷ u64 ∷ u64 ∷ []) ((lent-as b o γ ys, (lent-as b′ o′ γ′ ys′, a))) ((s ∷ [], (s′ ∷ [], spell Ds a)))) ∷ []) ∵ begins2 ! $ enter ! C _ code.function (s ∷ s′ ∷ listed Ds a) _ $
         alloc1 ! (λ l₀. alloc1 ! (λ l₁. alloc1 ! (λ l₂. alloc1 ! (λ l₃. alloc1 ! (λ l₄. alloc1 ! (λ l₅. alloc1 ! (λ l₆. alloc1 ! (λ l₇. alloc1 ! (λ l₈. alloc1 ! (λ l₉. alloc1 ! (λ l₁₀. alloc1 ! (λ l₁₁. alloc0 ! $ params1 ! $
@@ -117,7 +117,7 @@ module _ {M : Type 1} (𝓤 : URA M) (H : Heap 𝓤) (𝓜 : Model 𝓤 H) (𝓖
         returns-within ! Post refl (look ! 26 refl) $
         move ! (26 ∷ 27 ∷ 24 ∷ 25 ∷ 22 ∷ 23 ∷ 20 ∷ 21 ∷ 18 ∷ 19 ∷ 16 ∷ 17 ∷ 14 ∷ 15 ∷ 12 ∷ 13 ∷ 10 ∷ 11 ∷ 8 ∷ 9 ∷ 6 ∷ 7 ∷ 4 ∷ 5 ∷ []) $
         all-freed ! mir.locals (l₀ ∷ l₁ ∷ l₂ ∷ l₃ ∷ l₄ ∷ l₅ ∷ l₆ ∷ l₇ ∷ l₈ ∷ l₉ ∷ l₁₀ ∷ l₁₁ ∷ []) (full _ ∷ full _ ∷ full _ ∷ full _ ∷ full _ ∷ full _ ∷ full _ ∷ bare ∷ bare ∷ bare ∷ bare ∷ bare ∷ []) tt $
-        suffices ! _ (ends-at 𝓤 H A run-taken.ended stayed c W y _ (tt) (ys, (ys′, (tt, (tt, (tt, tt))))) (sym refl, (sym refl, (tt, (tt, (tt, tt)))))) $ says ! (so {X = Memory} (record { threads = ys; cpus = ys′ }) (runTaken (a .0) (a .1 .0) (a .1 .1 .0) (record { threads = ys; cpus = ys′ })) ((yes (eqb (a .1 .1 .0) (a .1 .0)) h₁ _ (refl)))) $
+        suffices ! _ (ends-at 𝓤 H A run-taken.ended stayed c W y _ (tt) (ys, (ys′, (tt, (tt, (tt, tt))))) (sym refl, (sym refl, (tt, (tt, (tt, tt)))))) $ says ! (so {X = Memory} (record { threads = ys; cpus = ys′ }) (run-taken-def (a .0) (a .1 .0) (a .1 .1 .0) (record { threads = ys; cpus = ys′ })) ((yes (eqb (a .1 .1 .0) (a .1 .0)) h₁ _ (refl)))) $
         leaves2 ! nil Ds a (tt) are (refl))
         (λ h₁.
         assigns ! (addr ! (from ! (fld ! refl (hop ! (look-in ! 24 (sub ! 0 refl (whole !))) (stop !))))) (from ! (stop !)) (init ! 10 refl (tt, tt)) $
@@ -148,7 +148,7 @@ module _ {M : Type 1} (𝓤 : URA M) (H : Heap 𝓤) (𝓜 : Model 𝓤 H) (𝓖
         returns ! (look ! 26 refl) $
         move ! (26 ∷ 27 ∷ 24 ∷ 25 ∷ 22 ∷ 23 ∷ 20 ∷ 21 ∷ 18 ∷ 19 ∷ 16 ∷ 17 ∷ 14 ∷ 15 ∷ 12 ∷ 13 ∷ 10 ∷ 11 ∷ 8 ∷ 9 ∷ 6 ∷ 7 ∷ 4 ∷ 5 ∷ []) $
         all-freed ! mir.locals (l₀ ∷ l₁ ∷ l₂ ∷ l₃ ∷ l₄ ∷ l₅ ∷ l₆ ∷ l₇ ∷ l₈ ∷ l₉ ∷ l₁₀ ∷ l₁₁ ∷ []) (full _ ∷ full _ ∷ full _ ∷ full _ ∷ full _ ∷ full _ ∷ full _ ∷ full _ ∷ full _ ∷ full _ ∷ full _ ∷ full _ ∷ []) tt $
-        suffices ! _ (ends-at 𝓤 H A run-taken.ended stayed c W y _ (tt) (V₁ .threads, (V₁ .cpus, (tt, (tt, (tt, tt))))) (sym ((refl ∙ sym (subst (λ (us : List Thread). length us ≡ length ys) (e₅ .0) (ls₄ .0)))), (sym ((refl ∙ sym (subst (λ (us : List (List ℕ)). length us ≡ length ys′) (e₅ .1) (ls₄ .1 .0)))), (tt, (tt, (tt, tt)))))) $ says ! (so {X = Memory} (record { threads = (V₁ .threads); cpus = (V₁ .cpus) }) (runTaken (a .0) (a .1 .0) (a .1 .1 .0) (record { threads = ys; cpus = ys′ })) ((no (eqb (a .1 .1 .0) (a .1 .0)) h₁ _ (refl)))) $
+        suffices ! _ (ends-at 𝓤 H A run-taken.ended stayed c W y _ (tt) (V₁ .threads, (V₁ .cpus, (tt, (tt, (tt, tt))))) (sym ((refl ∙ sym (subst (λ (us : List Thread). length us ≡ length ys) (e₅ .0) (ls₄ .0)))), (sym ((refl ∙ sym (subst (λ (us : List (List ℕ)). length us ≡ length ys′) (e₅ .1) (ls₄ .1 .0)))), (tt, (tt, (tt, tt)))))) $ says ! (so {X = Memory} (record { threads = (V₁ .threads); cpus = (V₁ .cpus) }) (run-taken-def (a .0) (a .1 .0) (a .1 .1 .0) (record { threads = ys; cpus = ys′ })) ((no (eqb (a .1 .1 .0) (a .1 .0)) h₁ _ (refl)))) $
         leaves2 ! nil Ds a (tt) are (refl)))))))))))))))
 
 pub run-taken-spec : {M : Type 1} → stated.statement M

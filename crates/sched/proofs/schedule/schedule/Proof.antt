@@ -32,29 +32,29 @@ use denote.Triple.Table.{cited}
 use denote.Triple.Clauses.{Clauses}
 use denote.Triple.Walked.{says, Stays, stay-none, stay-slice, stay-none-slice, walkOf, goes-none, goes-slice, goes-none-slice, ends-at}
 use denote.Exit.{yes as kept-yes}
-use Rattle.lent.proofs.Walk.{Datum, number, truth, struct, Dens, AreD, listed, spell, lent-as, slice-of, kept, opened, closed, guards, bare, full, told, proved}
-use Rattle.lent.proofs.Lent.{mutable, shared, passed, call-slices, call-left, all-freed, no, yes, so, begins3, leaves3}
-use Rattle.lent.specs.Left.{Memory, Left}
-use Rattle.sched.specs.Schedule.{scheduleDef, doSchedule}
-use Rattle.step.specs.Running.{runningAt}
+use Rattle.records.proofs.Walk.{Datum, number, truth, struct, Dens, AreD, listed, spell, lent-as, slice-of, kept, opened, closed, guards, bare, full, told, proved}
+use Rattle.records.proofs.Lent.{mutable, shared, passed, call-slices, call-left, all-freed, no, yes, so, begins3, leaves3}
+use Rattle.records.specs.Left.{Memory, Left}
+use Rattle.sched.specs.Schedule.{schedule-def, do-schedule-def}
+use Rattle.sched_words.specs.Running.{running-at}
 use Rattle.thread.specs.Reads.{critical-in}
 use Rattle.thread.specs.Thread.{blank}
 use denote.Struct.Laws as LL
-use Rattle.step.specs.declared.context.Context.{Context}
-use Rattle.step.proofs.context.Context as Context·
-use Rattle.step.proofs.context.Context.Laws as Context·laws
-use Rattle.step.specs.declared.context.SchedFlags.{SchedFlags}
-use Rattle.step.proofs.context.SchedFlags as SchedFlags·
-use Rattle.step.proofs.context.SchedFlags.Laws as SchedFlags·laws
+use Rattle.sched_words.specs.declared.context.Context.{Context}
+use Rattle.sched_words.proofs.context.Context as Context·
+use Rattle.sched_words.proofs.context.Context.Laws as Context·laws
+use Rattle.sched_words.specs.declared.context.SchedFlags.{SchedFlags}
+use Rattle.sched_words.proofs.context.SchedFlags as SchedFlags·
+use Rattle.sched_words.proofs.context.SchedFlags.Laws as SchedFlags·laws
 use Rattle.thread.specs.declared.Thread.{Thread}
 use Rattle.thread.proofs.Thread as Thread·
 use Rattle.thread.proofs.Thread.Laws as Thread·laws
-use Rattle.step.proofs.running.running as fn-step-running-running
-use Rattle.step.proofs.running.running.Symbol as fn-step-running-running-def
-use Rattle.step.proofs.running.running.Met as fn-step-running-running-thm
-use Rattle.lent.proofs.records.get as fn-lent-records-get
-use Rattle.lent.proofs.records.get.Symbol as fn-lent-records-get-def
-use Rattle.lent.proofs.records.get.Met as fn-lent-records-get-thm
+use Rattle.sched_words.proofs.running.running as fn-sched-words-running-running
+use Rattle.sched_words.proofs.running.running.Symbol as fn-sched-words-running-running-def
+use Rattle.sched_words.proofs.running.running.Met as fn-sched-words-running-running-thm
+use Rattle.records.proofs.record.get as fn-records-record-get
+use Rattle.records.proofs.record.get.Symbol as fn-records-record-get-def
+use Rattle.records.proofs.record.get.Met as fn-records-record-get-thm
 use Rattle.thread.proofs.Thread.is_critical as fn-thread-Thread-is-critical
 use Rattle.thread.proofs.Thread.is_critical.Symbol as fn-thread-Thread-is-critical-def
 use Rattle.thread.proofs.Thread.is_critical.Met as fn-thread-Thread-is-critical-thm
@@ -124,16 +124,16 @@ module _ {M : Type 1} (𝓤 : URA M) (H : Heap 𝓤) (𝓜 : Model 𝓤 H) (𝓖
     Post = walkOf 𝓤 H A schedule.ended stayed c .post y
 
     abbrev V₁ : ℕ
-    V₁ = runningAt ys′ ((a .0) .us)
+    V₁ = running-at ys′ ((a .0) .us)
 
     abbrev V₂ : Bool
     V₂ = critical-in ((getD ys V₁ blank) .critical)
 
     abbrev V₃ : Left ℕ Memory
-    V₃ = doSchedule (a .0) (a .1 .0) (a .1 .1 .0) ys″ (record { threads = ys; cpus = ys′ })
+    V₃ = do-schedule-def (a .0) (a .1 .0) (a .1 .1 .0) ys″ (record { threads = ys; cpus = ys′ })
 
     walk : ent 𝓤 (onEntry 𝓤 H A schedule.signature (κ, (κ′, (κ″, tt))) (q, (q′, (q″, tt))) ((lent-as b o γ ys, (lent-as b′ o′ γ′ ys′, (lent-as b″ o″ γ″ ys″, a)))) ((s ∷ [], (s′ ∷ [], (s″ ∷ [], spell Ds a))))) (WpFn 𝓤 H C Λ code.function (s ∷ s′ ∷ s″ ∷ listed Ds a) Post)
-    unfolding scheduleDef
+    unfolding schedule-def
     walk =
         qed W ((‵ (flft κ q) ⊛ (‵ (flft κ′ q′) ⊛ (‵ (flft κ″ q″) ⊛ (‵ ftrue)))) ∷ ‵ (owns (MutSlice (named 0) κ Thread·.the-row ∷ MutSlice (named 1) κ′ (Array u64 96) ∷ ShrSlice (named 2) κ″ (Array u64 32) ∷ Context·.the-row ∷ SchedFlags·.the-row ∷ u64 ∷ []) ((lent-as b o γ ys, (lent-as b′ o′ γ′ ys′, (lent-as b″ o″ γ″ ys″, a)))) ((s ∷ [], (s′ ∷ [], (s″ ∷ [], spell Ds a))))) ∷ []) ∵ begins3 ! $ enter ! C _ code.function (s ∷ s′ ∷ s″ ∷ listed Ds a) _ $
         alloc1 ! (λ l₀. alloc1 ! (λ l₁. alloc1 ! (λ l₂. alloc1 ! (λ l₃. alloc1 ! (λ l₄. alloc1 ! (λ l₅. alloc1 ! (λ l₆. alloc1 ! (λ l₇. alloc1 ! (λ l₈. alloc1 ! (λ l₉. alloc1 ! (λ l₁₀. alloc1 ! (λ l₁₁. alloc1 ! (λ l₁₂. alloc1 ! (λ l₁₃. alloc1 ! (λ l₁₄. alloc1 ! (λ l₁₅. alloc1 ! (λ l₁₆. alloc1 ! (λ l₁₇. alloc1 ! (λ l₁₈. alloc0 ! $ params1 ! $
@@ -150,7 +150,7 @@ module _ {M : Type 1} (𝓤 : URA M) (H : Heap 𝓤) (𝓜 : Model 𝓤 H) (𝓖
         move ! (3 ∷ 0 ∷ []) $
         join ! $
         call-slices (number w64) (number w64 ∷ []) (((a .0) .us, tt)) (emp 𝓤) ((shared (Array u64 96) ys′ b′ o′ n′ refl room′) ∷ []) ! fm (λ r ws. r ≡ V₁) ((LL.owed Context·.the-type Context·laws.the-laws (a .0) _ (are .0) .0, tt)) (id⊢ 𝓤 (emp 𝓤))
-        (λ νs. cited 𝓤 H (tripleOf 𝓤 H A fn-step-running-running.signature (fn-step-running-running.spec 𝓤 H A (𝓜 .mem) (𝓡 .run))) 𝓜 𝓡 code.env fn-step-running-running-def.name fn-step-running-running-def.routine code.calls-step·running·running (fn-step-running-running-thm.met 𝓤 H 𝓜 𝓖 𝓡) (((νs .0 .0 ∷ [], tt), (fullShare, tt), tt, (lent-as b′ o′ (νs .0 .1) ys′, ((a .0) .us, tt)), (slice-of b′ o′ ys′ ∷ [], spell (number w64 ∷ []) (((a .0) .us, tt)))), tt))
+        (λ νs. cited 𝓤 H (tripleOf 𝓤 H A fn-sched-words-running-running.signature (fn-sched-words-running-running.spec 𝓤 H A (𝓜 .mem) (𝓡 .run))) 𝓜 𝓡 code.env fn-sched-words-running-running-def.name fn-sched-words-running-running-def.routine code.calls-sched-words·running·running (fn-sched-words-running-running-thm.met 𝓤 H 𝓜 𝓖 𝓡) (((νs .0 .0 ∷ [], tt), (fullShare, tt), tt, (lent-as b′ o′ (νs .0 .1) ys′, ((a .0) .us, tt)), (slice-of b′ o′ ys′ ∷ [], spell (number w64 ∷ []) (((a .0) .us, tt)))), tt))
         (λ k. and-then ! (load ! (from ! (stop !)) (look ! 20 refl)) (and-then ! (load ! (from ! (stop !)) (look ! 28 refl)) (no-more !))) (λ r₁ ws₂ is₃ ls₄ e₅.
         split ! $
         move ! (1 ∷ []) $
@@ -163,7 +163,7 @@ module _ {M : Type 1} (𝓤 : URA M) (H : Heap 𝓤) (𝓜 : Model 𝓤 H) (𝓖
         move ! (2 ∷ 0 ∷ []) $
         join ! $
         call-slices Thread° (number w64 ∷ []) ((V₁, tt)) (emp 𝓤) ((shared Thread·.the-row ys b o n refl room) ∷ []) ! fm (λ r ws. r ≡ (getD ys V₁ blank)) ((is₆, tt)) (id⊢ 𝓤 (emp 𝓤))
-        (λ νs. cited 𝓤 H (tripleOf 𝓤 H A fn-lent-records-get.signature (fn-lent-records-get.spec 𝓤 H A (𝓜 .mem) (𝓡 .run))) 𝓜 𝓡 code.env fn-lent-records-get-def.name fn-lent-records-get-def.routine code.calls-lent·records·get (fn-lent-records-get-thm.met 𝓤 H 𝓜 𝓖 𝓡) (((νs .0 .0 ∷ [], tt), (fullShare, tt), tt, (lent-as b o (νs .0 .1) ys, (V₁, tt)), (slice-of b o ys ∷ [], spell (number w64 ∷ []) ((V₁, tt)))), tt))
+        (λ νs. cited 𝓤 H (tripleOf 𝓤 H A fn-records-record-get.signature (fn-records-record-get.spec 𝓤 H A (𝓜 .mem) (𝓡 .run))) 𝓜 𝓡 code.env fn-records-record-get-def.name fn-records-record-get-def.routine code.calls-records·record·get (fn-records-record-get-thm.met 𝓤 H 𝓜 𝓖 𝓡) (((νs .0 .0 ∷ [], tt), (fullShare, tt), tt, (lent-as b o (νs .0 .1) ys, (V₁, tt)), (slice-of b o ys ∷ [], spell (number w64 ∷ []) ((V₁, tt)))), tt))
         (λ k. and-then ! (load ! (from ! (stop !)) (look ! 16 refl)) (and-then ! (load ! (from ! (stop !)) (look ! 26 refl)) (no-more !))) (λ r₇ ws₈ is₉ ls₁₀ e₁₁.
         split ! $
         move ! (1 ∷ []) $
@@ -188,7 +188,7 @@ module _ {M : Type 1} (𝓤 : URA M) (H : Heap 𝓤) (𝓜 : Model 𝓤 H) (𝓖
         returns-within ! Post refl (look ! 42 refl) $
         move ! (42 ∷ 43 ∷ 40 ∷ 41 ∷ 38 ∷ 39 ∷ 36 ∷ 37 ∷ 34 ∷ 35 ∷ 32 ∷ 33 ∷ 30 ∷ 31 ∷ 28 ∷ 29 ∷ 26 ∷ 27 ∷ 24 ∷ 25 ∷ 22 ∷ 23 ∷ 20 ∷ 21 ∷ 18 ∷ 19 ∷ 16 ∷ 17 ∷ 14 ∷ 15 ∷ 12 ∷ 13 ∷ 10 ∷ 11 ∷ 8 ∷ 9 ∷ 6 ∷ 7 ∷ []) $
         all-freed ! mir.locals (l₀ ∷ l₁ ∷ l₂ ∷ l₃ ∷ l₄ ∷ l₅ ∷ l₆ ∷ l₇ ∷ l₈ ∷ l₉ ∷ l₁₀ ∷ l₁₁ ∷ l₁₂ ∷ l₁₃ ∷ l₁₄ ∷ l₁₅ ∷ l₁₆ ∷ l₁₇ ∷ l₁₈ ∷ []) (full _ ∷ full _ ∷ full _ ∷ full _ ∷ full _ ∷ full _ ∷ full _ ∷ full _ ∷ full _ ∷ full _ ∷ full _ ∷ full _ ∷ full _ ∷ full _ ∷ full _ ∷ bare ∷ bare ∷ bare ∷ bare ∷ []) tt $
-        suffices ! _ (ends-at 𝓤 H A schedule.ended stayed c W y _ (a .1 .1 .0) (ys, (ys′, (tt, (tt, (tt, (tt, tt)))))) (sym refl, (sym refl, (tt, (tt, (tt, (tt, tt))))))) $ says ! (so {X = Left ℕ Memory} (record { answer = (a .1 .1 .0); memory = record { threads = ys; cpus = ys′ } }) (scheduleDef (a .0) (a .1 .0) (a .1 .1 .0) ys″ (record { threads = ys; cpus = ys′ })) ((yes (V₂) h₁ _ (refl)))) $
+        suffices ! _ (ends-at 𝓤 H A schedule.ended stayed c W y _ (a .1 .1 .0) (ys, (ys′, (tt, (tt, (tt, (tt, tt)))))) (sym refl, (sym refl, (tt, (tt, (tt, (tt, tt))))))) $ says ! (so {X = Left ℕ Memory} (record { answer = (a .1 .1 .0); memory = record { threads = ys; cpus = ys′ } }) (schedule-def (a .0) (a .1 .0) (a .1 .1 .0) ys″ (record { threads = ys; cpus = ys′ })) ((yes (V₂) h₁ _ (refl)))) $
         leaves3 ! (number w64) Ds a (a .1 .1 .0) are (are .1 .1 .0))
         (λ h₁.
         assigns ! (addr ! (from ! (fld ! refl (hop ! (look-in ! 40 (sub ! 0 refl (whole !))) (stop !))))) (from ! (stop !)) (init ! 12 refl (tt, tt)) $
@@ -225,7 +225,7 @@ module _ {M : Type 1} (𝓤 : URA M) (H : Heap 𝓤) (𝓜 : Model 𝓤 H) (𝓖
         returns ! (look ! 42 refl) $
         move ! (42 ∷ 43 ∷ 40 ∷ 41 ∷ 38 ∷ 39 ∷ 36 ∷ 37 ∷ 34 ∷ 35 ∷ 32 ∷ 33 ∷ 30 ∷ 31 ∷ 28 ∷ 29 ∷ 26 ∷ 27 ∷ 24 ∷ 25 ∷ 22 ∷ 23 ∷ 20 ∷ 21 ∷ 18 ∷ 19 ∷ 16 ∷ 17 ∷ 14 ∷ 15 ∷ 12 ∷ 13 ∷ 10 ∷ 11 ∷ 8 ∷ 9 ∷ 6 ∷ 7 ∷ []) $
         all-freed ! mir.locals (l₀ ∷ l₁ ∷ l₂ ∷ l₃ ∷ l₄ ∷ l₅ ∷ l₆ ∷ l₇ ∷ l₈ ∷ l₉ ∷ l₁₀ ∷ l₁₁ ∷ l₁₂ ∷ l₁₃ ∷ l₁₄ ∷ l₁₅ ∷ l₁₆ ∷ l₁₇ ∷ l₁₈ ∷ []) (full _ ∷ full _ ∷ full _ ∷ full _ ∷ full _ ∷ full _ ∷ full _ ∷ full _ ∷ full _ ∷ full _ ∷ full _ ∷ full _ ∷ full _ ∷ full _ ∷ full _ ∷ full _ ∷ full _ ∷ full _ ∷ full _ ∷ []) tt $
-        suffices ! _ (ends-at 𝓤 H A schedule.ended stayed c W y _ (V₃ .answer) (V₃ .memory .threads, (V₃ .memory .cpus, (tt, (tt, (tt, (tt, tt)))))) (sym ((refl ∙ sym (subst (λ (us : List Thread). length us ≡ length ys) (e₂₃ .1 .0) (ls₂₂ .0)))), (sym ((refl ∙ sym (subst (λ (us : List (List ℕ)). length us ≡ length ys′) (e₂₃ .1 .1) (ls₂₂ .1 .0)))), (tt, (tt, (tt, (tt, tt))))))) $ says ! (so {X = Left ℕ Memory} (record { answer = (V₃ .answer); memory = record { threads = (V₃ .memory .threads); cpus = (V₃ .memory .cpus) } }) (scheduleDef (a .0) (a .1 .0) (a .1 .1 .0) ys″ (record { threads = ys; cpus = ys′ })) ((no (V₂) h₁ _ (refl)))) $
+        suffices ! _ (ends-at 𝓤 H A schedule.ended stayed c W y _ (V₃ .answer) (V₃ .memory .threads, (V₃ .memory .cpus, (tt, (tt, (tt, (tt, tt)))))) (sym ((refl ∙ sym (subst (λ (us : List Thread). length us ≡ length ys) (e₂₃ .1 .0) (ls₂₂ .0)))), (sym ((refl ∙ sym (subst (λ (us : List (List ℕ)). length us ≡ length ys′) (e₂₃ .1 .1) (ls₂₂ .1 .0)))), (tt, (tt, (tt, (tt, tt))))))) $ says ! (so {X = Left ℕ Memory} (record { answer = (V₃ .answer); memory = record { threads = (V₃ .memory .threads); cpus = (V₃ .memory .cpus) } }) (schedule-def (a .0) (a .1 .0) (a .1 .1 .0) ys″ (record { threads = ys; cpus = ys′ })) ((no (V₂) h₁ _ (refl)))) $
         leaves3 ! (number w64) Ds a (V₃ .answer) are (is₂₄)))))))))))))))))))))))))))))
 
 pub schedule-spec : {M : Type 1} → stated.statement M

@@ -34,46 +34,46 @@ use denote.Triple.Table.{cited}
 use denote.Triple.Clauses.{Clauses}
 use denote.Triple.Walked.{says, Stays, stay-none, stay-slice, stay-none-slice, walkOf, goes-none, goes-slice, goes-none-slice, ends-at}
 use denote.Exit.{yes as kept-yes}
-use Rattle.lent.proofs.Walk.{Datum, number, truth, struct, Dens, AreD, listed, spell, lent-as, slice-of, shared-as, kept, opened, closed, guards, env-of, standing, bare, full, told, proved}
-use Rattle.lent.proofs.Lent.{mutable, shared, passed, choice, call-slices, call-left, all-freed, no, yes, so, begins3, leaves3}
-use Rattle.lent.specs.Left.{Memory, Left}
-use Rattle.sched.specs.Schedule.{scheduleThread, scheduled, scheduledOn}
-use Rattle.sched_queues.specs.Queues.{wakeDef}
-use Rattle.step.specs.Choose.{selectFor, selectedFor}
-use Rattle.step.specs.Option.{isNone, cpuOf}
+use Rattle.records.proofs.Walk.{Datum, number, truth, struct, Dens, AreD, listed, spell, lent-as, slice-of, shared-as, kept, opened, closed, guards, env-of, standing, bare, full, told, proved}
+use Rattle.records.proofs.Lent.{mutable, shared, passed, choice, call-slices, call-left, all-freed, no, yes, so, begins3, leaves3}
+use Rattle.records.specs.Left.{Memory, Left}
+use Rattle.sched.specs.Schedule.{schedule-thread-def, scheduled, scheduled-on-def}
+use Rattle.sched_queues.specs.Queues.{wake-def}
+use Rattle.sched_words.specs.Choose.{select-for, selected-for}
+use Rattle.sched_words.specs.Option.{is-none, cpu-of-def}
 use Rattle.thread.specs.Thread.{blank}
 use Rattle.thread.specs.declared.time.OptionCpu.the-variants as cpu
 use denote.Struct.Laws as LL
-use Rattle.step.specs.declared.context.Context.{Context}
-use Rattle.step.proofs.context.Context as Context·
-use Rattle.step.proofs.context.Context.Laws as Context·laws
+use Rattle.sched_words.specs.declared.context.Context.{Context}
+use Rattle.sched_words.proofs.context.Context as Context·
+use Rattle.sched_words.proofs.context.Context.Laws as Context·laws
 use Rattle.thread.specs.declared.time.OptionCpu.{OptionCpu}
 use Rattle.thread.proofs.time.OptionCpu as OptionCpu·
 use Rattle.thread.proofs.time.OptionCpu.Laws as OptionCpu·laws
-use Rattle.step.specs.declared.context.Scheduled.{Scheduled}
-use Rattle.step.proofs.context.Scheduled as Scheduled·
-use Rattle.step.proofs.context.Scheduled.Laws as Scheduled·laws
+use Rattle.sched_words.specs.declared.context.Scheduled.{Scheduled}
+use Rattle.sched_words.proofs.context.Scheduled as Scheduled·
+use Rattle.sched_words.proofs.context.Scheduled.Laws as Scheduled·laws
 use Rattle.thread.specs.declared.Thread.{Thread}
 use Rattle.thread.proofs.Thread as Thread·
 use Rattle.thread.proofs.Thread.Laws as Thread·laws
-use Rattle.lent.proofs.records.get as fn-lent-records-get
-use Rattle.lent.proofs.records.get.Symbol as fn-lent-records-get-def
-use Rattle.lent.proofs.records.get.Met as fn-lent-records-get-thm
+use Rattle.records.proofs.record.get as fn-records-record-get
+use Rattle.records.proofs.record.get.Symbol as fn-records-record-get-def
+use Rattle.records.proofs.record.get.Met as fn-records-record-get-thm
 use Rattle.sched.proofs.schedule.none as fn-sched-schedule-none
 use Rattle.sched.proofs.schedule.none.Symbol as fn-sched-schedule-none-def
 use Rattle.sched.proofs.schedule.none.Met as fn-sched-schedule-none-thm
-use Rattle.step.proofs.choose.select_for as fn-step-choose-select-for
-use Rattle.step.proofs.choose.select_for.Symbol as fn-step-choose-select-for-def
-use Rattle.step.proofs.choose.select_for.Met as fn-step-choose-select-for-thm
-use Rattle.step.proofs.option.is_none as fn-step-option-is-none
-use Rattle.step.proofs.option.is_none.Symbol as fn-step-option-is-none-def
-use Rattle.step.proofs.option.is_none.Met as fn-step-option-is-none-thm
+use Rattle.sched_words.proofs.choose.select_for as fn-sched-words-choose-select-for
+use Rattle.sched_words.proofs.choose.select_for.Symbol as fn-sched-words-choose-select-for-def
+use Rattle.sched_words.proofs.choose.select_for.Met as fn-sched-words-choose-select-for-thm
+use Rattle.sched_words.proofs.option.is_none as fn-sched-words-option-is-none
+use Rattle.sched_words.proofs.option.is_none.Symbol as fn-sched-words-option-is-none-def
+use Rattle.sched_words.proofs.option.is_none.Met as fn-sched-words-option-is-none-thm
 use Rattle.sched.proofs.schedule.scheduled as fn-sched-schedule-scheduled
 use Rattle.sched.proofs.schedule.scheduled.Symbol as fn-sched-schedule-scheduled-def
 use Rattle.sched.proofs.schedule.scheduled.Met as fn-sched-schedule-scheduled-thm
-use Rattle.step.proofs.option.cpu_of as fn-step-option-cpu-of
-use Rattle.step.proofs.option.cpu_of.Symbol as fn-step-option-cpu-of-def
-use Rattle.step.proofs.option.cpu_of.Met as fn-step-option-cpu-of-thm
+use Rattle.sched_words.proofs.option.cpu_of as fn-sched-words-option-cpu-of
+use Rattle.sched_words.proofs.option.cpu_of.Symbol as fn-sched-words-option-cpu-of-def
+use Rattle.sched_words.proofs.option.cpu_of.Met as fn-sched-words-option-cpu-of-thm
 use Rattle.sched_queues.proofs.queues.wake as fn-sched-queues-queues-wake
 use Rattle.sched_queues.proofs.queues.wake.Symbol as fn-sched-queues-queues-wake-def
 use Rattle.sched_queues.proofs.queues.wake.Met as fn-sched-queues-queues-wake-thm
@@ -143,26 +143,26 @@ module _ {M : Type 1} (𝓤 : URA M) (H : Heap 𝓤) (𝓜 : Model 𝓤 H) (𝓖
     Post = walkOf 𝓤 H A schedule-thread.ended stayed c .post y
 
     abbrev V₁ : OptionCpu
-    V₁ = selectFor ys′ ys″ ((a .0) .us) ((a .0) .limit) (getD ys (a .1 .0) blank) cpu.None
+    V₁ = select-for ys′ ys″ ((a .0) .us) ((a .0) .limit) (getD ys (a .1 .0) blank) cpu.None
 
     abbrev V₂ : List (List ℕ)
-    V₂ = selectedFor ys′ ys″ ((a .0) .us) ((a .0) .limit) (getD ys (a .1 .0) blank) cpu.None
+    V₂ = selected-for ys′ ys″ ((a .0) .us) ((a .0) .limit) (getD ys (a .1 .0) blank) cpu.None
 
     abbrev V₃ : Scheduled
     V₃ = scheduled ((a .0) .us) 0
 
     abbrev V₄ : Left ℕ Memory
-    V₄ = wakeDef (a .0) (cpuOf V₁) (a .1 .0) 0 (record { threads = ys; cpus = V₂ })
+    V₄ = wake-def (a .0) (cpu-of-def V₁) (a .1 .0) 0 (record { threads = ys; cpus = V₂ })
 
     abbrev V₅ : Scheduled
-    V₅ = scheduled (cpuOf V₁) (V₄ .answer)
+    V₅ = scheduled (cpu-of-def V₁) (V₄ .answer)
 
     module _ (l₀ l₁ l₂ l₃ l₄ l₅ l₆ l₇ l₈ l₉ l₁₀ l₁₁ l₁₂ l₁₃ l₁₄ l₁₅ l₁₆ l₁₇ l₁₈ l₁₉ l₂₀ l₂₁ : ℕ) where
       abbrev En : Env 𝓤 H
       En = env-of mir.locals (l₀ ∷ l₁ ∷ l₂ ∷ l₃ ∷ l₄ ∷ l₅ ∷ l₆ ∷ l₇ ∷ l₈ ∷ l₉ ∷ l₁₀ ∷ l₁₁ ∷ l₁₂ ∷ l₁₃ ∷ l₁₄ ∷ l₁₅ ∷ l₁₆ ∷ l₁₇ ∷ l₁₈ ∷ l₁₉ ∷ l₂₀ ∷ l₂₁ ∷ [])
 
-      part-13 : (e₁₀₁ : n′ ≡ length (V₂)) (c₁₁ : Is u64 (cpuOf V₁) ((number w64) .val (cpuOf V₁) ∷ [])) (h₁ : Holds (not (isNone V₁))) → Sq W (‵ (row Thread·.the-row fullShare (ys) b o) ∷ ‵ (kept Thread·.the-row κ q γ b o ys) ∷ ‵ (row (Array u64 96) fullShare (V₂) b′ o′) ∷ ‵ (kept (Array u64 96) κ′ q′ γ′ b′ o′ ys′) ∷ ‵ (shared-as (Array u64 32) κ″ γ″ b″ o″ ys″) ∷ ‵ (flft κ″ q″) ∷ standing 𝓤 mir.locals (l₀ ∷ l₁ ∷ l₂ ∷ l₃ ∷ l₄ ∷ l₅ ∷ l₆ ∷ l₇ ∷ l₈ ∷ l₉ ∷ l₁₀ ∷ l₁₁ ∷ l₁₂ ∷ l₁₃ ∷ l₁₄ ∷ l₁₅ ∷ l₁₆ ∷ l₁₇ ∷ l₁₈ ∷ l₁₉ ∷ l₂₀ ∷ l₂₁ ∷ []) (bare ∷ full s ∷ full s′ ∷ full s″ ∷ full (Context° .val (a .0)) ∷ full ((number w64) .val (a .1 .0)) ∷ bare ∷ bare ∷ bare ∷ bare ∷ bare ∷ full ((number w64) .val (cpuOf V₁)) ∷ bare ∷ bare ∷ bare ∷ bare ∷ bare ∷ bare ∷ bare ∷ bare ∷ bare ∷ bare ∷ []) []) (runs C Λ En mir.t-13 (atRet En Post))
-      unfolding scheduleThread scheduledOn
+      part-13 : (e₁₀₁ : n′ ≡ length (V₂)) (c₁₁ : Is u64 (cpu-of-def V₁) ((number w64) .val (cpu-of-def V₁) ∷ [])) (h₁ : Holds (not (is-none V₁))) → Sq W (‵ (row Thread·.the-row fullShare (ys) b o) ∷ ‵ (kept Thread·.the-row κ q γ b o ys) ∷ ‵ (row (Array u64 96) fullShare (V₂) b′ o′) ∷ ‵ (kept (Array u64 96) κ′ q′ γ′ b′ o′ ys′) ∷ ‵ (shared-as (Array u64 32) κ″ γ″ b″ o″ ys″) ∷ ‵ (flft κ″ q″) ∷ standing 𝓤 mir.locals (l₀ ∷ l₁ ∷ l₂ ∷ l₃ ∷ l₄ ∷ l₅ ∷ l₆ ∷ l₇ ∷ l₈ ∷ l₉ ∷ l₁₀ ∷ l₁₁ ∷ l₁₂ ∷ l₁₃ ∷ l₁₄ ∷ l₁₅ ∷ l₁₆ ∷ l₁₇ ∷ l₁₈ ∷ l₁₉ ∷ l₂₀ ∷ l₂₁ ∷ []) (bare ∷ full s ∷ full s′ ∷ full s″ ∷ full (Context° .val (a .0)) ∷ full ((number w64) .val (a .1 .0)) ∷ bare ∷ bare ∷ bare ∷ bare ∷ bare ∷ full ((number w64) .val (cpu-of-def V₁)) ∷ bare ∷ bare ∷ bare ∷ bare ∷ bare ∷ bare ∷ bare ∷ bare ∷ bare ∷ bare ∷ []) []) (runs C Λ En mir.t-13 (atRet En Post))
+      unfolding schedule-thread-def scheduled-on-def
       part-13 e₁₀₁ c₁₁ h₁ =
           assigns ! (addr ! (from ! (fld ! refl (hop ! (look-in ! 46 (sub ! 0 refl (whole !))) (stop !))))) (from ! (stop !)) (init ! 12 refl (tt, tt)) $
           assigns ! (agg ! (and-then ! (load ! (from ! (stop !)) (look ! 12 refl)) (and-then ! (load ! (from ! (fld ! refl (stop !))) (look-in ! 46 (sub ! 1 refl (whole !)))) (no-more !)))) (from ! (stop !)) (init ! 10 refl (tt, (tt, (record { fits = room .0 }, tt)))) $
@@ -173,8 +173,8 @@ module _ {M : Type 1} (𝓤 : URA M) (H : Heap 𝓤) (𝓜 : Model 𝓤 H) (𝓖
           join ! $
           move ! (1 ∷ 0 ∷ []) $
           join ! $
-          call-left (number w64) (Context° ∷ number w64 ∷ number w64 ∷ number w64 ∷ []) ((a .0, (cpuOf V₁, (a .1 .0, (0, tt))))) (emp 𝓤) ((mutable Thread·.the-row ys b o n refl room) ∷ (mutable (Array u64 96) V₂ b′ o′ n′ e₁₀₁ room′) ∷ []) ! fm (λ r ws. (r ≡ (V₄ .answer)) × ((ws .0 ≡ (V₄ .memory .threads)) × (ws .1 .0 ≡ (V₄ .memory .cpus)))) (λ r ws. _≡_ {A = Left ℕ Memory} (record { answer = r; memory = record { threads = ws .0; cpus = ws .1 .0 } }) V₄) (λ r ws e. (ap (λ (z : Left ℕ Memory). z .answer) e, (ap (λ (z : Left ℕ Memory). z .memory .threads) e, ap (λ (z : Left ℕ Memory). z .memory .cpus) e))) ((are .0, (c₁₁, (are .1 .0, ((refl, lit< tt), tt))))) (id⊢ 𝓤 (emp 𝓤))
-          (λ νs. cited 𝓤 H (tripleOf 𝓤 H A fn-sched-queues-queues-wake.signature (fn-sched-queues-queues-wake.spec 𝓤 H A (𝓜 .mem) (𝓡 .run))) 𝓜 𝓡 code.env fn-sched-queues-queues-wake-def.name fn-sched-queues-queues-wake-def.routine code.calls-sched-queues·queues·wake (fn-sched-queues-queues-wake-thm.met 𝓤 H 𝓜 𝓖 𝓡) (((νs .0 .0 ∷ [], (νs .1 .0 .0 ∷ [], tt)), (fullShare, (fullShare, tt)), tt, (lent-as b o (νs .0 .1) ys, (lent-as b′ o′ (νs .1 .0 .1) V₂, (a .0, (cpuOf V₁, (a .1 .0, (0, tt)))))), (slice-of b o ys ∷ [], (slice-of b′ o′ V₂ ∷ [], spell (Context° ∷ number w64 ∷ number w64 ∷ number w64 ∷ []) ((a .0, (cpuOf V₁, (a .1 .0, (0, tt)))))))), tt))
+          call-left (number w64) (Context° ∷ number w64 ∷ number w64 ∷ number w64 ∷ []) ((a .0, (cpu-of-def V₁, (a .1 .0, (0, tt))))) (emp 𝓤) ((mutable Thread·.the-row ys b o n refl room) ∷ (mutable (Array u64 96) V₂ b′ o′ n′ e₁₀₁ room′) ∷ []) ! fm (λ r ws. (r ≡ (V₄ .answer)) × ((ws .0 ≡ (V₄ .memory .threads)) × (ws .1 .0 ≡ (V₄ .memory .cpus)))) (λ r ws. _≡_ {A = Left ℕ Memory} (record { answer = r; memory = record { threads = ws .0; cpus = ws .1 .0 } }) V₄) (λ r ws e. (ap (λ (z : Left ℕ Memory). z .answer) e, (ap (λ (z : Left ℕ Memory). z .memory .threads) e, ap (λ (z : Left ℕ Memory). z .memory .cpus) e))) ((are .0, (c₁₁, (are .1 .0, ((refl, lit< tt), tt))))) (id⊢ 𝓤 (emp 𝓤))
+          (λ νs. cited 𝓤 H (tripleOf 𝓤 H A fn-sched-queues-queues-wake.signature (fn-sched-queues-queues-wake.spec 𝓤 H A (𝓜 .mem) (𝓡 .run))) 𝓜 𝓡 code.env fn-sched-queues-queues-wake-def.name fn-sched-queues-queues-wake-def.routine code.calls-sched-queues·queues·wake (fn-sched-queues-queues-wake-thm.met 𝓤 H 𝓜 𝓖 𝓡) (((νs .0 .0 ∷ [], (νs .1 .0 .0 ∷ [], tt)), (fullShare, (fullShare, tt)), tt, (lent-as b o (νs .0 .1) ys, (lent-as b′ o′ (νs .1 .0 .1) V₂, (a .0, (cpu-of-def V₁, (a .1 .0, (0, tt)))))), (slice-of b o ys ∷ [], (slice-of b′ o′ V₂ ∷ [], spell (Context° ∷ number w64 ∷ number w64 ∷ number w64 ∷ []) ((a .0, (cpu-of-def V₁, (a .1 .0, (0, tt)))))))), tt))
           (λ k. and-then ! (load ! (from ! (stop !)) (look ! 9 refl)) (and-then ! (load ! (from ! (stop !)) (look ! 5 refl)) (and-then ! (load ! (from ! (stop !)) (look ! 39 refl)) (and-then ! (load ! (from ! (stop !)) (look ! 25 refl)) (and-then ! (load ! (from ! (stop !)) (look ! 37 refl)) (and-then ! (lit ! tt) (no-more !))))))) (λ r₃₇ ws₃₈ is₃₉ ls₄₀ e₄₁.
           split ! $
           move ! (1 ∷ []) $
@@ -186,8 +186,8 @@ module _ {M : Type 1} (𝓤 : URA M) (H : Heap 𝓤) (𝓜 : Model 𝓤 H) (𝓖
           told ! (number w64) (e₄₁ .0) is₃₉ (λ is₄₂.
           land ! (from ! (stop !)) (init ! 24 refl ((number w64) .typed 𝓤 H A W (V₄ .answer) (is₄₂) .0)) $
           nothing ! $
-          call-slices Scheduled° (number w64 ∷ number w64 ∷ []) ((cpuOf V₁, (V₄ .answer, tt))) (emp 𝓤) ([]) ! fm (λ r ws. r ≡ V₅) ((c₁₁, (is₄₂, tt))) (id⊢ 𝓤 (emp 𝓤))
-          (λ νs. cited 𝓤 H (tripleOf 𝓤 H A fn-sched-schedule-scheduled.signature (fn-sched-schedule-scheduled.spec 𝓤 H A (𝓜 .mem) (𝓡 .run))) 𝓜 𝓡 code.env fn-sched-schedule-scheduled-def.name fn-sched-schedule-scheduled-def.routine code.calls-sched·schedule·scheduled (fn-sched-schedule-scheduled-thm.met 𝓤 H 𝓜 𝓖 𝓡) ((tt, tt, tt, (cpuOf V₁, (V₄ .answer, tt)), spell (number w64 ∷ number w64 ∷ []) ((cpuOf V₁, (V₄ .answer, tt)))), tt))
+          call-slices Scheduled° (number w64 ∷ number w64 ∷ []) ((cpu-of-def V₁, (V₄ .answer, tt))) (emp 𝓤) ([]) ! fm (λ r ws. r ≡ V₅) ((c₁₁, (is₄₂, tt))) (id⊢ 𝓤 (emp 𝓤))
+          (λ νs. cited 𝓤 H (tripleOf 𝓤 H A fn-sched-schedule-scheduled.signature (fn-sched-schedule-scheduled.spec 𝓤 H A (𝓜 .mem) (𝓡 .run))) 𝓜 𝓡 code.env fn-sched-schedule-scheduled-def.name fn-sched-schedule-scheduled-def.routine code.calls-sched·schedule·scheduled (fn-sched-schedule-scheduled-thm.met 𝓤 H 𝓜 𝓖 𝓡) ((tt, tt, tt, (cpu-of-def V₁, (V₄ .answer, tt)), spell (number w64 ∷ number w64 ∷ []) ((cpu-of-def V₁, (V₄ .answer, tt)))), tt))
           (λ k. and-then ! (load ! (from ! (stop !)) (look ! 27 refl)) (and-then ! (load ! (from ! (stop !)) (look ! 25 refl)) (no-more !))) (λ r₄₃ ws₄₄ is₄₅ ls₄₆ e₄₇.
           drop ! $
           told ! Scheduled° (e₄₇) is₄₅ (λ is₄₈.
@@ -200,11 +200,11 @@ module _ {M : Type 1} (𝓤 : URA M) (H : Heap 𝓤) (𝓜 : Model 𝓤 H) (𝓖
           returns ! (look ! 48 refl) $
           move ! (48 ∷ 49 ∷ 46 ∷ 47 ∷ 44 ∷ 45 ∷ 42 ∷ 43 ∷ 40 ∷ 41 ∷ 38 ∷ 39 ∷ 36 ∷ 37 ∷ 34 ∷ 35 ∷ 32 ∷ 33 ∷ 30 ∷ 31 ∷ 28 ∷ 29 ∷ 26 ∷ 27 ∷ 24 ∷ 25 ∷ 22 ∷ 23 ∷ 20 ∷ 21 ∷ 18 ∷ 19 ∷ 16 ∷ 17 ∷ 14 ∷ 15 ∷ 12 ∷ 13 ∷ 10 ∷ 11 ∷ 8 ∷ 9 ∷ 6 ∷ 7 ∷ []) $
           all-freed ! mir.locals (l₀ ∷ l₁ ∷ l₂ ∷ l₃ ∷ l₄ ∷ l₅ ∷ l₆ ∷ l₇ ∷ l₈ ∷ l₉ ∷ l₁₀ ∷ l₁₁ ∷ l₁₂ ∷ l₁₃ ∷ l₁₄ ∷ l₁₅ ∷ l₁₆ ∷ l₁₇ ∷ l₁₈ ∷ l₁₉ ∷ l₂₀ ∷ l₂₁ ∷ []) (full _ ∷ full _ ∷ full _ ∷ full _ ∷ full _ ∷ full _ ∷ bare ∷ bare ∷ bare ∷ bare ∷ bare ∷ full _ ∷ full _ ∷ bare ∷ bare ∷ bare ∷ bare ∷ bare ∷ full _ ∷ full _ ∷ full _ ∷ full _ ∷ []) tt $
-          suffices ! _ (ends-at 𝓤 H A schedule-thread.ended stayed c W y _ (V₅) (V₄ .memory .threads, (V₄ .memory .cpus, (tt, (tt, (tt, tt))))) (sym ((refl ∙ sym (subst (λ (us : List Thread). length us ≡ length ys) (e₄₁ .1 .0) (ls₄₀ .0)))), (sym ((e₁₀₁ ∙ sym (subst (λ (us : List (List ℕ)). length us ≡ length V₂) (e₄₁ .1 .1) (ls₄₀ .1 .0)))), (tt, (tt, (tt, tt)))))) $ says ! (so {X = Left Scheduled Memory} (record { answer = V₅; memory = record { threads = (V₄ .memory .threads); cpus = (V₄ .memory .cpus) } }) (scheduleThread (a .0) (a .1 .0) ys″ (record { threads = ys; cpus = ys′ })) ((no (isNone V₁) h₁ _ (refl)))) $
+          suffices ! _ (ends-at 𝓤 H A schedule-thread.ended stayed c W y _ (V₅) (V₄ .memory .threads, (V₄ .memory .cpus, (tt, (tt, (tt, tt))))) (sym ((refl ∙ sym (subst (λ (us : List Thread). length us ≡ length ys) (e₄₁ .1 .0) (ls₄₀ .0)))), (sym ((e₁₀₁ ∙ sym (subst (λ (us : List (List ℕ)). length us ≡ length V₂) (e₄₁ .1 .1) (ls₄₀ .1 .0)))), (tt, (tt, (tt, tt)))))) $ says ! (so {X = Left Scheduled Memory} (record { answer = V₅; memory = record { threads = (V₄ .memory .threads); cpus = (V₄ .memory .cpus) } }) (schedule-thread-def (a .0) (a .1 .0) ys″ (record { threads = ys; cpus = ys′ })) ((no (is-none V₁) h₁ _ (refl)))) $
           leaves3 ! Scheduled° Ds a (V₅) are (is₄₈)))))
 
     walk : ent 𝓤 (onEntry 𝓤 H A schedule-thread.signature (κ, (κ′, (κ″, tt))) (q, (q′, (q″, tt))) ((lent-as b o γ ys, (lent-as b′ o′ γ′ ys′, (lent-as b″ o″ γ″ ys″, a)))) ((s ∷ [], (s′ ∷ [], (s″ ∷ [], spell Ds a))))) (WpFn 𝓤 H C Λ code.function (s ∷ s′ ∷ s″ ∷ listed Ds a) Post)
-    unfolding scheduleThread scheduledOn
+    unfolding schedule-thread-def scheduled-on-def
     walk =
         qed W ((‵ (flft κ q) ⊛ (‵ (flft κ′ q′) ⊛ (‵ (flft κ″ q″) ⊛ (‵ ftrue)))) ∷ ‵ (owns (MutSlice (named 0) κ Thread·.the-row ∷ MutSlice (named 1) κ′ (Array u64 96) ∷ ShrSlice (named 2) κ″ (Array u64 32) ∷ Context·.the-row ∷ u64 ∷ []) ((lent-as b o γ ys, (lent-as b′ o′ γ′ ys′, (lent-as b″ o″ γ″ ys″, a)))) ((s ∷ [], (s′ ∷ [], (s″ ∷ [], spell Ds a))))) ∷ []) ∵ begins3 ! $ enter ! C _ code.function (s ∷ s′ ∷ s″ ∷ listed Ds a) _ $
         alloc1 ! (λ l₀. alloc1 ! (λ l₁. alloc1 ! (λ l₂. alloc1 ! (λ l₃. alloc1 ! (λ l₄. alloc1 ! (λ l₅. alloc1 ! (λ l₆. alloc1 ! (λ l₇. alloc1 ! (λ l₈. alloc1 ! (λ l₉. alloc1 ! (λ l₁₀. alloc1 ! (λ l₁₁. alloc1 ! (λ l₁₂. alloc1 ! (λ l₁₃. alloc1 ! (λ l₁₄. alloc1 ! (λ l₁₅. alloc1 ! (λ l₁₆. alloc1 ! (λ l₁₇. alloc1 ! (λ l₁₈. alloc1 ! (λ l₁₉. alloc1 ! (λ l₂₀. alloc1 ! (λ l₂₁. alloc0 ! $ params1 ! $
@@ -222,7 +222,7 @@ module _ {M : Type 1} (𝓤 : URA M) (H : Heap 𝓤) (𝓜 : Model 𝓤 H) (𝓖
         move ! (1 ∷ 0 ∷ []) $
         join ! $
         call-slices Thread° (number w64 ∷ []) ((a .1 .0, tt)) (emp 𝓤) ((shared Thread·.the-row ys b o n refl room) ∷ []) ! fm (λ r ws. r ≡ (getD ys (a .1 .0) blank)) ((are .1 .0, tt)) (id⊢ 𝓤 (emp 𝓤))
-        (λ νs. cited 𝓤 H (tripleOf 𝓤 H A fn-lent-records-get.signature (fn-lent-records-get.spec 𝓤 H A (𝓜 .mem) (𝓡 .run))) 𝓜 𝓡 code.env fn-lent-records-get-def.name fn-lent-records-get-def.routine code.calls-lent·records·get (fn-lent-records-get-thm.met 𝓤 H 𝓜 𝓖 𝓡) (((νs .0 .0 ∷ [], tt), (fullShare, tt), tt, (lent-as b o (νs .0 .1) ys, (a .1 .0, tt)), (slice-of b o ys ∷ [], spell (number w64 ∷ []) ((a .1 .0, tt)))), tt))
+        (λ νs. cited 𝓤 H (tripleOf 𝓤 H A fn-records-record-get.signature (fn-records-record-get.spec 𝓤 H A (𝓜 .mem) (𝓡 .run))) 𝓜 𝓡 code.env fn-records-record-get-def.name fn-records-record-get-def.routine code.calls-records·record·get (fn-records-record-get-thm.met 𝓤 H 𝓜 𝓖 𝓡) (((νs .0 .0 ∷ [], tt), (fullShare, tt), tt, (lent-as b o (νs .0 .1) ys, (a .1 .0, tt)), (slice-of b o ys ∷ [], spell (number w64 ∷ []) ((a .1 .0, tt)))), tt))
         (λ k. and-then ! (load ! (from ! (stop !)) (look ! 20 refl)) (and-then ! (load ! (from ! (stop !)) (look ! 38 refl)) (no-more !))) (λ r₁ ws₂ is₃ ls₄ e₅.
         split ! $
         move ! (1 ∷ []) $
@@ -245,7 +245,7 @@ module _ {M : Type 1} (𝓤 : URA M) (H : Heap 𝓤) (𝓜 : Model 𝓤 H) (𝓖
         move ! (3 ∷ 0 ∷ []) $
         join ! $
         call-slices OptionCpu° (number w64 ∷ number w64 ∷ Thread° ∷ OptionCpu° ∷ []) (((a .0) .us, ((a .0) .limit, (getD ys (a .1 .0) blank, (cpu.None, tt))))) (emp 𝓤) ((mutable (Array u64 96) ys′ b′ o′ n′ refl room′) ∷ (passed (Array u64 32) ys″ b″ o″ κ″ q″ γ″) ∷ []) ! fm (λ r ws. (r ≡ V₁) × (ws .0 ≡ V₂)) ((LL.owed Context·.the-type Context·laws.the-laws (a .0) _ (are .0) .0, (LL.owed Context·.the-type Context·laws.the-laws (a .0) _ (are .0) .1 .1 .1 .0, (is₆, (is₁₂, tt))))) (id⊢ 𝓤 (emp 𝓤))
-        (λ νs. cited 𝓤 H (tripleOf 𝓤 H A fn-step-choose-select-for.signature (fn-step-choose-select-for.spec 𝓤 H A (𝓜 .mem) (𝓡 .run))) 𝓜 𝓡 code.env fn-step-choose-select-for-def.name fn-step-choose-select-for-def.routine code.calls-step·choose·select-for (fn-step-choose-select-for-thm.met 𝓤 H 𝓜 𝓖 𝓡) (((νs .0 .0 ∷ [], (κ″, tt)), (fullShare, (q″, tt)), tt, (lent-as b′ o′ (νs .0 .1) ys′, (lent-as b″ o″ γ″ ys″, ((a .0) .us, ((a .0) .limit, (getD ys (a .1 .0) blank, (cpu.None, tt)))))), (slice-of b′ o′ ys′ ∷ [], (slice-of b″ o″ ys″ ∷ [], spell (number w64 ∷ number w64 ∷ Thread° ∷ OptionCpu° ∷ []) (((a .0) .us, ((a .0) .limit, (getD ys (a .1 .0) blank, (cpu.None, tt)))))))), tt))
+        (λ νs. cited 𝓤 H (tripleOf 𝓤 H A fn-sched-words-choose-select-for.signature (fn-sched-words-choose-select-for.spec 𝓤 H A (𝓜 .mem) (𝓡 .run))) 𝓜 𝓡 code.env fn-sched-words-choose-select-for-def.name fn-sched-words-choose-select-for-def.routine code.calls-sched-words·choose·select-for (fn-sched-words-choose-select-for-thm.met 𝓤 H 𝓜 𝓖 𝓡) (((νs .0 .0 ∷ [], (κ″, tt)), (fullShare, (q″, tt)), tt, (lent-as b′ o′ (νs .0 .1) ys′, (lent-as b″ o″ γ″ ys″, ((a .0) .us, ((a .0) .limit, (getD ys (a .1 .0) blank, (cpu.None, tt)))))), (slice-of b′ o′ ys′ ∷ [], (slice-of b″ o″ ys″ ∷ [], spell (number w64 ∷ number w64 ∷ Thread° ∷ OptionCpu° ∷ []) (((a .0) .us, ((a .0) .limit, (getD ys (a .1 .0) blank, (cpu.None, tt)))))))), tt))
         (λ k. and-then ! (load ! (from ! (stop !)) (look ! 14 refl)) (and-then ! (load ! (from ! (stop !)) (look ! 40 refl)) (and-then ! (load ! (from ! (stop !)) (look ! 34 refl)) (and-then ! (load ! (from ! (stop !)) (look ! 32 refl)) (and-then ! (load ! (from ! (stop !)) (look ! 30 refl)) (and-then ! (load ! (from ! (stop !)) (look ! 28 refl)) (no-more !))))))) (λ r₁₃ ws₁₄ is₁₅ ls₁₆ e₁₇.
         split ! $
         move ! (1 ∷ []) $
@@ -257,8 +257,8 @@ module _ {M : Type 1} (𝓤 : URA M) (H : Heap 𝓤) (𝓜 : Model 𝓤 H) (𝓖
         told ! OptionCpu° (e₁₇ .0) is₁₅ (λ is₁₈.
         land ! (from ! (stop !)) (init ! 28 refl (OptionCpu° .typed 𝓤 H A W (V₁) (is₁₈) .0)) $
         nothing ! $
-        call-slices truth (OptionCpu° ∷ []) ((V₁, tt)) (emp 𝓤) ([]) ! fm (λ r ws. r ≡ (isNone V₁)) ((is₁₈, tt)) (id⊢ 𝓤 (emp 𝓤))
-        (λ νs. cited 𝓤 H (tripleOf 𝓤 H A fn-step-option-is-none.signature (fn-step-option-is-none.spec 𝓤 H A (𝓜 .mem) (𝓡 .run))) 𝓜 𝓡 code.env fn-step-option-is-none-def.name fn-step-option-is-none-def.routine code.calls-step·option·is-none (fn-step-option-is-none-thm.met 𝓤 H 𝓜 𝓖 𝓡) ((tt, tt, tt, (V₁, tt), spell (OptionCpu° ∷ []) ((V₁, tt))), tt))
+        call-slices truth (OptionCpu° ∷ []) ((V₁, tt)) (emp 𝓤) ([]) ! fm (λ r ws. r ≡ (is-none V₁)) ((is₁₈, tt)) (id⊢ 𝓤 (emp 𝓤))
+        (λ νs. cited 𝓤 H (tripleOf 𝓤 H A fn-sched-words-option-is-none.signature (fn-sched-words-option-is-none.spec 𝓤 H A (𝓜 .mem) (𝓡 .run))) 𝓜 𝓡 code.env fn-sched-words-option-is-none-def.name fn-sched-words-option-is-none-def.routine code.calls-sched-words·option·is-none (fn-sched-words-option-is-none-thm.met 𝓤 H 𝓜 𝓖 𝓡) ((tt, tt, tt, (V₁, tt), spell (OptionCpu° ∷ []) ((V₁, tt))), tt))
         (λ k. and-then ! (load ! (from ! (stop !)) (look ! 29 refl)) (no-more !)) (λ r₁₉ ws₂₀ is₂₁ ls₂₂ e₂₃.
         drop ! $
         told ! truth (e₂₃) is₂₁ (λ is₂₄.
@@ -279,16 +279,16 @@ module _ {M : Type 1} (𝓤 : URA M) (H : Heap 𝓤) (𝓜 : Model 𝓤 H) (𝓖
         returns-within ! Post refl (look ! 48 refl) $
         move ! (48 ∷ 49 ∷ 46 ∷ 47 ∷ 44 ∷ 45 ∷ 42 ∷ 43 ∷ 40 ∷ 41 ∷ 38 ∷ 39 ∷ 36 ∷ 37 ∷ 34 ∷ 35 ∷ 32 ∷ 33 ∷ 30 ∷ 31 ∷ 28 ∷ 29 ∷ 26 ∷ 27 ∷ 24 ∷ 25 ∷ 22 ∷ 23 ∷ 20 ∷ 21 ∷ 18 ∷ 19 ∷ 16 ∷ 17 ∷ 14 ∷ 15 ∷ 12 ∷ 13 ∷ 10 ∷ 11 ∷ 8 ∷ 9 ∷ 6 ∷ 7 ∷ []) $
         all-freed ! mir.locals (l₀ ∷ l₁ ∷ l₂ ∷ l₃ ∷ l₄ ∷ l₅ ∷ l₆ ∷ l₇ ∷ l₈ ∷ l₉ ∷ l₁₀ ∷ l₁₁ ∷ l₁₂ ∷ l₁₃ ∷ l₁₄ ∷ l₁₅ ∷ l₁₆ ∷ l₁₇ ∷ l₁₈ ∷ l₁₉ ∷ l₂₀ ∷ l₂₁ ∷ []) (full _ ∷ full _ ∷ full _ ∷ full _ ∷ full _ ∷ full _ ∷ full _ ∷ full _ ∷ full _ ∷ full _ ∷ full _ ∷ bare ∷ bare ∷ full _ ∷ full _ ∷ full _ ∷ full _ ∷ full _ ∷ bare ∷ bare ∷ bare ∷ bare ∷ []) tt $
-        suffices ! _ (ends-at 𝓤 H A schedule-thread.ended stayed c W y _ (V₃) (ys, (V₂, (tt, (tt, (tt, tt))))) (sym refl, (sym ((refl ∙ sym (subst (λ (us : List (List ℕ)). length us ≡ length ys′) (e₁₇ .1) (ls₁₆ .0)))), (tt, (tt, (tt, tt)))))) $ says ! (so {X = Left Scheduled Memory} (record { answer = V₃; memory = record { threads = ys; cpus = V₂ } }) (scheduleThread (a .0) (a .1 .0) ys″ (record { threads = ys; cpus = ys′ })) ((yes (isNone V₁) h₁ _ (refl)))) $
+        suffices ! _ (ends-at 𝓤 H A schedule-thread.ended stayed c W y _ (V₃) (ys, (V₂, (tt, (tt, (tt, tt))))) (sym refl, (sym ((refl ∙ sym (subst (λ (us : List (List ℕ)). length us ≡ length ys′) (e₁₇ .1) (ls₁₆ .0)))), (tt, (tt, (tt, tt)))))) $ says ! (so {X = Left Scheduled Memory} (record { answer = V₃; memory = record { threads = ys; cpus = V₂ } }) (schedule-thread-def (a .0) (a .1 .0) ys″ (record { threads = ys; cpus = ys′ })) ((yes (is-none V₁) h₁ _ (refl)))) $
         leaves3 ! Scheduled° Ds a (V₃) are (is₃₀))))
         (λ h₁.
         nothing ! $
-        call-slices (number w64) (OptionCpu° ∷ []) ((V₁, tt)) (emp 𝓤) ([]) ! fm (λ r ws. r ≡ (cpuOf V₁)) ((is₁₈, tt)) (id⊢ 𝓤 (emp 𝓤))
-        (λ νs. cited 𝓤 H (tripleOf 𝓤 H A fn-step-option-cpu-of.signature (fn-step-option-cpu-of.spec 𝓤 H A (𝓜 .mem) (𝓡 .run))) 𝓜 𝓡 code.env fn-step-option-cpu-of-def.name fn-step-option-cpu-of-def.routine code.calls-step·option·cpu-of (fn-step-option-cpu-of-thm.met 𝓤 H 𝓜 𝓖 𝓡) ((tt, tt, tt, (V₁, tt), spell (OptionCpu° ∷ []) ((V₁, tt))), tt))
+        call-slices (number w64) (OptionCpu° ∷ []) ((V₁, tt)) (emp 𝓤) ([]) ! fm (λ r ws. r ≡ (cpu-of-def V₁)) ((is₁₈, tt)) (id⊢ 𝓤 (emp 𝓤))
+        (λ νs. cited 𝓤 H (tripleOf 𝓤 H A fn-sched-words-option-cpu-of.signature (fn-sched-words-option-cpu-of.spec 𝓤 H A (𝓜 .mem) (𝓡 .run))) 𝓜 𝓡 code.env fn-sched-words-option-cpu-of-def.name fn-sched-words-option-cpu-of-def.routine code.calls-sched-words·option·cpu-of (fn-sched-words-option-cpu-of-thm.met 𝓤 H 𝓜 𝓖 𝓡) ((tt, tt, tt, (V₁, tt), spell (OptionCpu° ∷ []) ((V₁, tt))), tt))
         (λ k. and-then ! (load ! (from ! (stop !)) (look ! 29 refl)) (no-more !)) (λ r₃₁ ws₃₂ is₃₃ ls₃₄ e₃₅.
         drop ! $
         told ! (number w64) (e₃₅) is₃₃ (λ is₃₆.
-        land ! (from ! (stop !)) (init ! 26 refl ((number w64) .typed 𝓤 H A W (cpuOf V₁) (is₃₆) .0)) $
+        land ! (from ! (stop !)) (init ! 26 refl ((number w64) .typed 𝓤 H A W (cpu-of-def V₁) (is₃₆) .0)) $
         forget ! 36 refl $
         forget ! 34 refl $
         forget ! 32 refl $

@@ -31,29 +31,29 @@ use denote.Triple.Table.{cited}
 use denote.Triple.Clauses.{Clauses}
 use denote.Triple.Walked.{says, Stays, stay-none, stay-slice, walkOf, goes-none, goes-slice, ends-at}
 use denote.Exit.{yes as kept-yes}
-use Rattle.lent.proofs.Walk.{Datum, number, nil, struct, Dens, AreD, listed, spell, lent-as, slice-of, kept, opened, closed, full, told, proved}
-use Rattle.lent.proofs.Lent.{mutable, shared, call-slices, all-freed, so, begins2, leaves2}
-use Rattle.lent.specs.Left.{Memory}
-use Rattle.sched.specs.Schedule.{switchTo}
-use Rattle.step.specs.Running.{ranBy}
+use Rattle.records.proofs.Walk.{Datum, number, nil, struct, Dens, AreD, listed, spell, lent-as, slice-of, kept, opened, closed, full, told, proved}
+use Rattle.records.proofs.Lent.{mutable, shared, call-slices, all-freed, so, begins2, leaves2}
+use Rattle.records.specs.Left.{Memory}
+use Rattle.sched.specs.Schedule.{switch-to-def}
+use Rattle.sched_words.specs.Running.{ran-by-def}
 use Rattle.thread.specs.Thread.{blank}
 use Rattle.thread.specs.Time.{moving-to-active}
 use denote.Struct.Laws as LL
 use Rattle.thread.specs.declared.Thread.{Thread}
 use Rattle.thread.proofs.Thread as Thread·
 use Rattle.thread.proofs.Thread.Laws as Thread·laws
-use Rattle.lent.proofs.records.get as fn-lent-records-get
-use Rattle.lent.proofs.records.get.Symbol as fn-lent-records-get-def
-use Rattle.lent.proofs.records.get.Met as fn-lent-records-get-thm
+use Rattle.records.proofs.record.get as fn-records-record-get
+use Rattle.records.proofs.record.get.Symbol as fn-records-record-get-def
+use Rattle.records.proofs.record.get.Met as fn-records-record-get-thm
 use Rattle.thread.proofs.Thread.moving_to_active as fn-thread-Thread-moving-to-active
 use Rattle.thread.proofs.Thread.moving_to_active.Symbol as fn-thread-Thread-moving-to-active-def
 use Rattle.thread.proofs.Thread.moving_to_active.Met as fn-thread-Thread-moving-to-active-thm
-use Rattle.lent.proofs.records.set as fn-lent-records-set
-use Rattle.lent.proofs.records.set.Symbol as fn-lent-records-set-def
-use Rattle.lent.proofs.records.set.Met as fn-lent-records-set-thm
-use Rattle.step.proofs.running.run_thread as fn-step-running-run-thread
-use Rattle.step.proofs.running.run_thread.Symbol as fn-step-running-run-thread-def
-use Rattle.step.proofs.running.run_thread.Met as fn-step-running-run-thread-thm
+use Rattle.records.proofs.record.set as fn-records-record-set
+use Rattle.records.proofs.record.set.Symbol as fn-records-record-set-def
+use Rattle.records.proofs.record.set.Met as fn-records-record-set-thm
+use Rattle.sched_words.proofs.running.run_thread as fn-sched-words-running-run-thread
+use Rattle.sched_words.proofs.running.run_thread.Symbol as fn-sched-words-running-run-thread-def
+use Rattle.sched_words.proofs.running.run_thread.Met as fn-sched-words-running-run-thread-thm
 use Rattle.sched.proofs.schedule.switch_to.Key.{name as #switch-to}
 use Rattle.sched.proofs.schedule.switch_to as switch-to
 use Rattle.sched.proofs.schedule.switch_to.Statement as stated
@@ -108,10 +108,10 @@ module _ {M : Type 1} (𝓤 : URA M) (H : Heap 𝓤) (𝓜 : Model 𝓤 H) (𝓖
     V₁ = moving-to-active (getD ys (a .1 .0) blank) (a .0)
 
     abbrev V₂ : List (List ℕ)
-    V₂ = ranBy ys′ (a .0) (a .1 .0) V₁
+    V₂ = ran-by-def ys′ (a .0) (a .1 .0) V₁
 
     walk : ent 𝓤 (onEntry 𝓤 H A switch-to.signature (κ, (κ′, tt)) (q, (q′, tt)) ((lent-as b o γ ys, (lent-as b′ o′ γ′ ys′, a))) ((s ∷ [], (s′ ∷ [], spell Ds a)))) (WpFn 𝓤 H C Λ code.function (s ∷ s′ ∷ listed Ds a) Post)
-    unfolding switchTo
+    unfolding switch-to-def
     walk =
         qed W ((‵ (flft κ q) ⊛ (‵ (flft κ′ q′) ⊛ (‵ ftrue))) ∷ ‵ (owns (MutSlice (named 0) κ Thread·.the-row ∷ MutSlice (named 1) κ′ (Array u64 96) ∷ u64 ∷ u64 ∷ []) ((lent-as b o γ ys, (lent-as b′ o′ γ′ ys′, a))) ((s ∷ [], (s′ ∷ [], spell Ds a)))) ∷ []) ∵ begins2 ! $ enter ! C _ code.function (s ∷ s′ ∷ listed Ds a) _ $
         alloc1 ! (λ l₀. alloc1 ! (λ l₁. alloc1 ! (λ l₂. alloc1 ! (λ l₃. alloc1 ! (λ l₄. alloc1 ! (λ l₅. alloc1 ! (λ l₆. alloc1 ! (λ l₇. alloc1 ! (λ l₈. alloc1 ! (λ l₉. alloc1 ! (λ l₁₀. alloc1 ! (λ l₁₁. alloc1 ! (λ l₁₂. alloc1 ! (λ l₁₃. alloc0 ! $ params1 ! $
@@ -126,7 +126,7 @@ module _ {M : Type 1} (𝓤 : URA M) (H : Heap 𝓤) (𝓜 : Model 𝓤 H) (𝓖
         move ! (1 ∷ 0 ∷ []) $
         join ! $
         call-slices Thread° (number w64 ∷ []) ((a .1 .0, tt)) (emp 𝓤) ((shared Thread·.the-row ys b o n refl room) ∷ []) ! fm (λ r ws. r ≡ (getD ys (a .1 .0) blank)) ((are .1 .0, tt)) (id⊢ 𝓤 (emp 𝓤))
-        (λ νs. cited 𝓤 H (tripleOf 𝓤 H A fn-lent-records-get.signature (fn-lent-records-get.spec 𝓤 H A (𝓜 .mem) (𝓡 .run))) 𝓜 𝓡 code.env fn-lent-records-get-def.name fn-lent-records-get-def.routine code.calls-lent·records·get (fn-lent-records-get-thm.met 𝓤 H 𝓜 𝓖 𝓡) (((νs .0 .0 ∷ [], tt), (fullShare, tt), tt, (lent-as b o (νs .0 .1) ys, (a .1 .0, tt)), (slice-of b o ys ∷ [], spell (number w64 ∷ []) ((a .1 .0, tt)))), tt))
+        (λ νs. cited 𝓤 H (tripleOf 𝓤 H A fn-records-record-get.signature (fn-records-record-get.spec 𝓤 H A (𝓜 .mem) (𝓡 .run))) 𝓜 𝓡 code.env fn-records-record-get-def.name fn-records-record-get-def.routine code.calls-records·record·get (fn-records-record-get-thm.met 𝓤 H 𝓜 𝓖 𝓡) (((νs .0 .0 ∷ [], tt), (fullShare, tt), tt, (lent-as b o (νs .0 .1) ys, (a .1 .0, tt)), (slice-of b o ys ∷ [], spell (number w64 ∷ []) ((a .1 .0, tt)))), tt))
         (λ k. and-then ! (load ! (from ! (stop !)) (look ! 14 refl)) (and-then ! (load ! (from ! (stop !)) (look ! 22 refl)) (no-more !))) (λ r₁ ws₂ is₃ ls₄ e₅.
         split ! $
         move ! (1 ∷ []) $
@@ -146,7 +146,7 @@ module _ {M : Type 1} (𝓤 : URA M) (H : Heap 𝓤) (𝓜 : Model 𝓤 H) (𝓖
         move ! (1 ∷ 0 ∷ []) $
         join ! $
         call-slices nil (number w64 ∷ Thread° ∷ []) ((a .1 .0, (V₁, tt))) (emp 𝓤) ((mutable Thread·.the-row ys b o n refl room) ∷ []) ! fm (λ r ws. ws .0 ≡ (set ys (a .1 .0) V₁)) ((are .1 .0, (is₁₂, tt))) (id⊢ 𝓤 (emp 𝓤))
-        (λ νs. cited 𝓤 H (tripleOf 𝓤 H A fn-lent-records-set.signature (fn-lent-records-set.spec 𝓤 H A (𝓜 .mem) (𝓡 .run))) 𝓜 𝓡 code.env fn-lent-records-set-def.name fn-lent-records-set-def.routine code.calls-lent·records·set (fn-lent-records-set-thm.met 𝓤 H 𝓜 𝓖 𝓡) (((νs .0 .0 ∷ [], tt), (fullShare, tt), tt, (lent-as b o (νs .0 .1) ys, (a .1 .0, (V₁, tt))), (slice-of b o ys ∷ [], spell (number w64 ∷ Thread° ∷ []) ((a .1 .0, (V₁, tt))))), tt))
+        (λ νs. cited 𝓤 H (tripleOf 𝓤 H A fn-records-record-set.signature (fn-records-record-set.spec 𝓤 H A (𝓜 .mem) (𝓡 .run))) 𝓜 𝓡 code.env fn-records-record-set-def.name fn-records-record-set-def.routine code.calls-records·record·set (fn-records-record-set-thm.met 𝓤 H 𝓜 𝓖 𝓡) (((νs .0 .0 ∷ [], tt), (fullShare, tt), tt, (lent-as b o (νs .0 .1) ys, (a .1 .0, (V₁, tt))), (slice-of b o ys ∷ [], spell (number w64 ∷ Thread° ∷ []) ((a .1 .0, (V₁, tt))))), tt))
         (λ k. and-then ! (load ! (from ! (stop !)) (look ! 8 refl)) (and-then ! (load ! (from ! (stop !)) (look ! 22 refl)) (and-then ! (load ! (from ! (stop !)) (look ! 18 refl)) (no-more !)))) (λ r₁₃ ws₁₄ is₁₅ ls₁₆ e₁₇.
         split ! $
         move ! (1 ∷ []) $
@@ -159,7 +159,7 @@ module _ {M : Type 1} (𝓤 : URA M) (H : Heap 𝓤) (𝓜 : Model 𝓤 H) (𝓖
         move ! (3 ∷ 0 ∷ []) $
         join ! $
         call-slices nil (number w64 ∷ number w64 ∷ Thread° ∷ []) ((a .0, (a .1 .0, (V₁, tt)))) (emp 𝓤) ((mutable (Array u64 96) ys′ b′ o′ n′ refl room′) ∷ []) ! fm (λ r ws. ws .0 ≡ V₂) ((are .0, (are .1 .0, (is₁₂, tt)))) (id⊢ 𝓤 (emp 𝓤))
-        (λ νs. cited 𝓤 H (tripleOf 𝓤 H A fn-step-running-run-thread.signature (fn-step-running-run-thread.spec 𝓤 H A (𝓜 .mem) (𝓡 .run))) 𝓜 𝓡 code.env fn-step-running-run-thread-def.name fn-step-running-run-thread-def.routine code.calls-step·running·run-thread (fn-step-running-run-thread-thm.met 𝓤 H 𝓜 𝓖 𝓡) (((νs .0 .0 ∷ [], tt), (fullShare, tt), tt, (lent-as b′ o′ (νs .0 .1) ys′, (a .0, (a .1 .0, (V₁, tt)))), (slice-of b′ o′ ys′ ∷ [], spell (number w64 ∷ number w64 ∷ Thread° ∷ []) ((a .0, (a .1 .0, (V₁, tt)))))), tt))
+        (λ νs. cited 𝓤 H (tripleOf 𝓤 H A fn-sched-words-running-run-thread.signature (fn-sched-words-running-run-thread.spec 𝓤 H A (𝓜 .mem) (𝓡 .run))) 𝓜 𝓡 code.env fn-sched-words-running-run-thread-def.name fn-sched-words-running-run-thread-def.routine code.calls-sched-words·running·run-thread (fn-sched-words-running-run-thread-thm.met 𝓤 H 𝓜 𝓖 𝓡) (((νs .0 .0 ∷ [], tt), (fullShare, tt), tt, (lent-as b′ o′ (νs .0 .1) ys′, (a .0, (a .1 .0, (V₁, tt)))), (slice-of b′ o′ ys′ ∷ [], spell (number w64 ∷ number w64 ∷ Thread° ∷ []) ((a .0, (a .1 .0, (V₁, tt)))))), tt))
         (λ k. and-then ! (load ! (from ! (stop !)) (look ! 4 refl)) (and-then ! (load ! (from ! (stop !)) (look ! 24 refl)) (and-then ! (load ! (from ! (stop !)) (look ! 22 refl)) (and-then ! (load ! (from ! (stop !)) (look ! 18 refl)) (no-more !))))) (λ r₁₈ ws₁₉ is₂₀ ls₂₁ e₂₂.
         split ! $
         move ! (1 ∷ []) $
@@ -174,7 +174,7 @@ module _ {M : Type 1} (𝓤 : URA M) (H : Heap 𝓤) (𝓜 : Model 𝓤 H) (𝓖
         returns ! (look ! 30 refl) $
         move ! (30 ∷ 31 ∷ 28 ∷ 29 ∷ 26 ∷ 27 ∷ 24 ∷ 25 ∷ 22 ∷ 23 ∷ 20 ∷ 21 ∷ 18 ∷ 19 ∷ 16 ∷ 17 ∷ 14 ∷ 15 ∷ 12 ∷ 13 ∷ 10 ∷ 11 ∷ 8 ∷ 9 ∷ 6 ∷ 7 ∷ 4 ∷ 5 ∷ []) $
         all-freed ! mir.locals (l₀ ∷ l₁ ∷ l₂ ∷ l₃ ∷ l₄ ∷ l₅ ∷ l₆ ∷ l₇ ∷ l₈ ∷ l₉ ∷ l₁₀ ∷ l₁₁ ∷ l₁₂ ∷ l₁₃ ∷ []) (full _ ∷ full _ ∷ full _ ∷ full _ ∷ full _ ∷ full _ ∷ full _ ∷ full _ ∷ full _ ∷ full _ ∷ full _ ∷ full _ ∷ full _ ∷ full _ ∷ []) tt $
-        suffices ! _ (ends-at 𝓤 H A switch-to.ended stayed c W y _ (tt) (set ys (a .1 .0) V₁, (V₂, (tt, (tt, tt)))) (sym ((refl ∙ sym (subst (λ (us : List Thread). length us ≡ length ys) (e₁₇) (ls₁₆ .0)))), (sym ((refl ∙ sym (subst (λ (us : List (List ℕ)). length us ≡ length ys′) (e₂₂) (ls₂₁ .0)))), (tt, (tt, tt))))) $ says ! (so {X = Memory} (record { threads = (set ys (a .1 .0) V₁); cpus = V₂ }) (switchTo (a .0) (a .1 .0) (record { threads = ys; cpus = ys′ })) (refl)) $
+        suffices ! _ (ends-at 𝓤 H A switch-to.ended stayed c W y _ (tt) (set ys (a .1 .0) V₁, (V₂, (tt, (tt, tt)))) (sym ((refl ∙ sym (subst (λ (us : List Thread). length us ≡ length ys) (e₁₇) (ls₁₆ .0)))), (sym ((refl ∙ sym (subst (λ (us : List (List ℕ)). length us ≡ length ys′) (e₂₂) (ls₂₁ .0)))), (tt, (tt, tt))))) $ says ! (so {X = Memory} (record { threads = (set ys (a .1 .0) V₁); cpus = V₂ }) (switch-to-def (a .0) (a .1 .0) (record { threads = ys; cpus = ys′ })) (refl)) $
         leaves2 ! nil Ds a (tt) are (refl)))))))))))))))))))))
 
 pub switch-to-spec : {M : Type 1} → stated.statement M

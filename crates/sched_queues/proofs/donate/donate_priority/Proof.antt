@@ -31,11 +31,11 @@ use denote.Triple.Table.{cited}
 use denote.Triple.Clauses.{Clauses}
 use denote.Triple.Walked.{says, Stays, stay-none, stay-slice, stay-none-slice, walkOf, goes-none, goes-slice, goes-none-slice, ends-at}
 use denote.Exit.{yes as kept-yes}
-use Rattle.lent.proofs.Walk.{Datum, number, nil, struct, Dens, AreD, listed, spell, lent-as, slice-of, kept, opened, closed, full, told, proved}
-use Rattle.lent.proofs.Lent.{mutable, shared, passed, call-slices, all-freed, so, begins2, leaves2}
-use Rattle.lent.specs.Left.{Left}
-use Rattle.sched_queues.specs.Donate.{donatePriority}
-use Rattle.step.specs.Donate.{donationSignals}
+use Rattle.records.proofs.Walk.{Datum, number, nil, struct, Dens, AreD, listed, spell, lent-as, slice-of, kept, opened, closed, full, told, proved}
+use Rattle.records.proofs.Lent.{mutable, shared, passed, call-slices, all-freed, so, begins2, leaves2}
+use Rattle.records.specs.Left.{Left}
+use Rattle.sched_queues.specs.Donate.{donate-priority-def}
+use Rattle.sched_words.specs.Donate.{donation-signals}
 use Rattle.thread.specs.Priority.{donate-priority}
 use Rattle.thread.specs.Thread.{blank}
 use denote.Struct.Laws as LL
@@ -48,18 +48,18 @@ use Rattle.rules.proofs.Priority.Laws as Priority·laws
 use Rattle.thread.specs.declared.Thread.{Thread}
 use Rattle.thread.proofs.Thread as Thread·
 use Rattle.thread.proofs.Thread.Laws as Thread·laws
-use Rattle.lent.proofs.records.get as fn-lent-records-get
-use Rattle.lent.proofs.records.get.Symbol as fn-lent-records-get-def
-use Rattle.lent.proofs.records.get.Met as fn-lent-records-get-thm
+use Rattle.records.proofs.record.get as fn-records-record-get
+use Rattle.records.proofs.record.get.Symbol as fn-records-record-get-def
+use Rattle.records.proofs.record.get.Met as fn-records-record-get-thm
 use Rattle.thread.proofs.Thread.donate_priority as fn-thread-Thread-donate-priority
 use Rattle.thread.proofs.Thread.donate_priority.Symbol as fn-thread-Thread-donate-priority-def
 use Rattle.thread.proofs.Thread.donate_priority.Met as fn-thread-Thread-donate-priority-thm
-use Rattle.lent.proofs.records.set as fn-lent-records-set
-use Rattle.lent.proofs.records.set.Symbol as fn-lent-records-set-def
-use Rattle.lent.proofs.records.set.Met as fn-lent-records-set-thm
-use Rattle.step.proofs.donate.signal_donation as fn-step-donate-signal-donation
-use Rattle.step.proofs.donate.signal_donation.Symbol as fn-step-donate-signal-donation-def
-use Rattle.step.proofs.donate.signal_donation.Met as fn-step-donate-signal-donation-thm
+use Rattle.records.proofs.record.set as fn-records-record-set
+use Rattle.records.proofs.record.set.Symbol as fn-records-record-set-def
+use Rattle.records.proofs.record.set.Met as fn-records-record-set-thm
+use Rattle.sched_words.proofs.donate.signal_donation as fn-sched-words-donate-signal-donation
+use Rattle.sched_words.proofs.donate.signal_donation.Symbol as fn-sched-words-donate-signal-donation-def
+use Rattle.sched_words.proofs.donate.signal_donation.Met as fn-sched-words-donate-signal-donation-thm
 use Rattle.sched_queues.proofs.donate.donate_priority.Key.{name as #donate-priority}
 use Rattle.sched_queues.proofs.donate.donate_priority as donate-priority
 use Rattle.sched_queues.proofs.donate.donate_priority.Statement as stated
@@ -123,10 +123,10 @@ module _ {M : Type 1} (𝓤 : URA M) (H : Heap 𝓤) (𝓜 : Model 𝓤 H) (𝓖
     V₂ = set ys (a .1 .0) ((V₁) .thread)
 
     abbrev V₃ : ℕ
-    V₃ = donationSignals ys′ (a .0) (a .1 .0) V₁ (a .1 .1 .1 .0)
+    V₃ = donation-signals ys′ (a .0) (a .1 .0) V₁ (a .1 .1 .1 .0)
 
     walk : ent 𝓤 (onEntry 𝓤 H A donate-priority.signature (κ, (κ′, tt)) (q, (q′, tt)) ((lent-as b o γ ys, (lent-as b′ o′ γ′ ys′, a))) ((s ∷ [], (s′ ∷ [], spell Ds a)))) (WpFn 𝓤 H C Λ code.function (s ∷ s′ ∷ listed Ds a) Post)
-    unfolding donatePriority
+    unfolding donate-priority-def
     walk =
         qed W ((‵ (flft κ q) ⊛ (‵ (flft κ′ q′) ⊛ (‵ ftrue))) ∷ ‵ (owns (MutSlice (named 0) κ Thread·.the-row ∷ ShrSlice (named 1) κ′ (Array u64 96) ∷ u64 ∷ u64 ∷ Priority·.the-row ∷ u64 ∷ []) ((lent-as b o γ ys, (lent-as b′ o′ γ′ ys′, a))) ((s ∷ [], (s′ ∷ [], spell Ds a)))) ∷ []) ∵ begins2 ! $ enter ! C _ code.function (s ∷ s′ ∷ listed Ds a) _ $
         alloc1 ! (λ l₀. alloc1 ! (λ l₁. alloc1 ! (λ l₂. alloc1 ! (λ l₃. alloc1 ! (λ l₄. alloc1 ! (λ l₅. alloc1 ! (λ l₆. alloc1 ! (λ l₇. alloc1 ! (λ l₈. alloc1 ! (λ l₉. alloc1 ! (λ l₁₀. alloc1 ! (λ l₁₁. alloc1 ! (λ l₁₂. alloc1 ! (λ l₁₃. alloc1 ! (λ l₁₄. alloc0 ! $ params1 ! $
@@ -140,7 +140,7 @@ module _ {M : Type 1} (𝓤 : URA M) (H : Heap 𝓤) (𝓜 : Model 𝓤 H) (𝓖
         move ! (1 ∷ 0 ∷ []) $
         join ! $
         call-slices Thread° (number w64 ∷ []) ((a .1 .0, tt)) (emp 𝓤) ((shared Thread·.the-row ys b o n refl room) ∷ []) ! fm (λ r ws. r ≡ (getD ys (a .1 .0) blank)) ((are .1 .0, tt)) (id⊢ 𝓤 (emp 𝓤))
-        (λ νs. cited 𝓤 H (tripleOf 𝓤 H A fn-lent-records-get.signature (fn-lent-records-get.spec 𝓤 H A (𝓜 .mem) (𝓡 .run))) 𝓜 𝓡 code.env fn-lent-records-get-def.name fn-lent-records-get-def.routine code.calls-lent·records·get (fn-lent-records-get-thm.met 𝓤 H 𝓜 𝓖 𝓡) (((νs .0 .0 ∷ [], tt), (fullShare, tt), tt, (lent-as b o (νs .0 .1) ys, (a .1 .0, tt)), (slice-of b o ys ∷ [], spell (number w64 ∷ []) ((a .1 .0, tt)))), tt))
+        (λ νs. cited 𝓤 H (tripleOf 𝓤 H A fn-records-record-get.signature (fn-records-record-get.spec 𝓤 H A (𝓜 .mem) (𝓡 .run))) 𝓜 𝓡 code.env fn-records-record-get-def.name fn-records-record-get-def.routine code.calls-records·record·get (fn-records-record-get-thm.met 𝓤 H 𝓜 𝓖 𝓡) (((νs .0 .0 ∷ [], tt), (fullShare, tt), tt, (lent-as b o (νs .0 .1) ys, (a .1 .0, tt)), (slice-of b o ys ∷ [], spell (number w64 ∷ []) ((a .1 .0, tt)))), tt))
         (λ k. and-then ! (load ! (from ! (stop !)) (look ! 10 refl)) (and-then ! (load ! (from ! (stop !)) (look ! 24 refl)) (no-more !))) (λ r₁ ws₂ is₃ ls₄ e₅.
         split ! $
         move ! (1 ∷ []) $
@@ -161,7 +161,7 @@ module _ {M : Type 1} (𝓤 : URA M) (H : Heap 𝓤) (𝓜 : Model 𝓤 H) (𝓖
         move ! (1 ∷ 0 ∷ []) $
         join ! $
         call-slices nil (number w64 ∷ Thread° ∷ []) ((a .1 .0, ((V₁) .thread, tt))) (emp 𝓤) ((mutable Thread·.the-row ys b o n refl room) ∷ []) ! fm (λ r ws. ws .0 ≡ V₂) ((are .1 .0, (LL.owed Donation·.the-type Donation·laws.the-laws (V₁) _ (is₁₂) .0, tt))) (id⊢ 𝓤 (emp 𝓤))
-        (λ νs. cited 𝓤 H (tripleOf 𝓤 H A fn-lent-records-set.signature (fn-lent-records-set.spec 𝓤 H A (𝓜 .mem) (𝓡 .run))) 𝓜 𝓡 code.env fn-lent-records-set-def.name fn-lent-records-set-def.routine code.calls-lent·records·set (fn-lent-records-set-thm.met 𝓤 H 𝓜 𝓖 𝓡) (((νs .0 .0 ∷ [], tt), (fullShare, tt), tt, (lent-as b o (νs .0 .1) ys, (a .1 .0, ((V₁) .thread, tt))), (slice-of b o ys ∷ [], spell (number w64 ∷ Thread° ∷ []) ((a .1 .0, ((V₁) .thread, tt))))), tt))
+        (λ νs. cited 𝓤 H (tripleOf 𝓤 H A fn-records-record-set.signature (fn-records-record-set.spec 𝓤 H A (𝓜 .mem) (𝓡 .run))) 𝓜 𝓡 code.env fn-records-record-set-def.name fn-records-record-set-def.routine code.calls-records·record·set (fn-records-record-set-thm.met 𝓤 H 𝓜 𝓖 𝓡) (((νs .0 .0 ∷ [], tt), (fullShare, tt), tt, (lent-as b o (νs .0 .1) ys, (a .1 .0, ((V₁) .thread, tt))), (slice-of b o ys ∷ [], spell (number w64 ∷ Thread° ∷ []) ((a .1 .0, ((V₁) .thread, tt))))), tt))
         (λ k. and-then ! (load ! (from ! (stop !)) (look ! 4 refl)) (and-then ! (load ! (from ! (stop !)) (look ! 24 refl)) (and-then ! (load ! (from ! (stop !)) (look ! 14 refl)) (no-more !)))) (λ r₁₃ ws₁₄ is₁₅ ls₁₆ e₁₇.
         split ! $
         move ! (1 ∷ []) $
@@ -173,7 +173,7 @@ module _ {M : Type 1} (𝓤 : URA M) (H : Heap 𝓤) (𝓜 : Model 𝓤 H) (𝓖
         join ! $
         join ! $
         call-slices (number w64) (number w64 ∷ number w64 ∷ Donation° ∷ number w64 ∷ []) ((a .0, (a .1 .0, (V₁, (a .1 .1 .1 .0, tt))))) (emp 𝓤) ((passed (Array u64 96) ys′ b′ o′ κ′ q′ γ′) ∷ []) ! fm (λ r ws. r ≡ V₃) ((are .0, (are .1 .0, (is₁₂, (are .1 .1 .1 .0, tt))))) (id⊢ 𝓤 (emp 𝓤))
-        (λ νs. cited 𝓤 H (tripleOf 𝓤 H A fn-step-donate-signal-donation.signature (fn-step-donate-signal-donation.spec 𝓤 H A (𝓜 .mem) (𝓡 .run))) 𝓜 𝓡 code.env fn-step-donate-signal-donation-def.name fn-step-donate-signal-donation-def.routine code.calls-step·donate·signal-donation (fn-step-donate-signal-donation-thm.met 𝓤 H 𝓜 𝓖 𝓡) (((κ′, tt), (q′, tt), tt, (lent-as b′ o′ γ′ ys′, (a .0, (a .1 .0, (V₁, (a .1 .1 .1 .0, tt))))), (slice-of b′ o′ ys′ ∷ [], spell (number w64 ∷ number w64 ∷ Donation° ∷ number w64 ∷ []) ((a .0, (a .1 .0, (V₁, (a .1 .1 .1 .0, tt))))))), tt))
+        (λ νs. cited 𝓤 H (tripleOf 𝓤 H A fn-sched-words-donate-signal-donation.signature (fn-sched-words-donate-signal-donation.spec 𝓤 H A (𝓜 .mem) (𝓡 .run))) 𝓜 𝓡 code.env fn-sched-words-donate-signal-donation-def.name fn-sched-words-donate-signal-donation-def.routine code.calls-sched-words·donate·signal-donation (fn-sched-words-donate-signal-donation-thm.met 𝓤 H 𝓜 𝓖 𝓡) (((κ′, tt), (q′, tt), tt, (lent-as b′ o′ γ′ ys′, (a .0, (a .1 .0, (V₁, (a .1 .1 .1 .0, tt))))), (slice-of b′ o′ ys′ ∷ [], spell (number w64 ∷ number w64 ∷ Donation° ∷ number w64 ∷ []) ((a .0, (a .1 .0, (V₁, (a .1 .1 .1 .0, tt))))))), tt))
         (λ k. and-then ! (load ! (from ! (stop !)) (look ! 27 refl)) (and-then ! (load ! (from ! (stop !)) (look ! 25 refl)) (and-then ! (load ! (from ! (stop !)) (look ! 23 refl)) (and-then ! (load ! (from ! (stop !)) (look ! 15 refl)) (and-then ! (load ! (from ! (stop !)) (look ! 19 refl)) (no-more !)))))) (λ r₁₈ ws₁₉ is₂₀ ls₂₁ e₂₂.
         split ! $
         split ! $
@@ -186,7 +186,7 @@ module _ {M : Type 1} (𝓤 : URA M) (H : Heap 𝓤) (𝓜 : Model 𝓤 H) (𝓖
         returns ! (look ! 32 refl) $
         move ! (32 ∷ 33 ∷ 30 ∷ 31 ∷ 28 ∷ 29 ∷ 26 ∷ 27 ∷ 24 ∷ 25 ∷ 22 ∷ 23 ∷ 20 ∷ 21 ∷ 18 ∷ 19 ∷ 16 ∷ 17 ∷ 14 ∷ 15 ∷ 12 ∷ 13 ∷ 10 ∷ 11 ∷ 8 ∷ 9 ∷ 6 ∷ 7 ∷ 4 ∷ 5 ∷ []) $
         all-freed ! mir.locals (l₀ ∷ l₁ ∷ l₂ ∷ l₃ ∷ l₄ ∷ l₅ ∷ l₆ ∷ l₇ ∷ l₈ ∷ l₉ ∷ l₁₀ ∷ l₁₁ ∷ l₁₂ ∷ l₁₃ ∷ l₁₄ ∷ []) (full _ ∷ full _ ∷ full _ ∷ full _ ∷ full _ ∷ full _ ∷ full _ ∷ full _ ∷ full _ ∷ full _ ∷ full _ ∷ full _ ∷ full _ ∷ full _ ∷ full _ ∷ []) tt $
-        suffices ! _ (ends-at 𝓤 H A donate-priority.ended stayed c W y _ (V₃) (V₂, (tt, (tt, (tt, (tt, (tt, tt)))))) (sym ((refl ∙ sym (subst (λ (us : List Thread). length us ≡ length ys) (e₁₇) (ls₁₆ .0)))), (tt, (tt, (tt, (tt, (tt, tt))))))) $ says ! (so {X = Left ℕ (List Thread)} (record { answer = V₃; memory = V₂ }) (donatePriority (a .0) (a .1 .0) (a .1 .1 .0) (a .1 .1 .1 .0) ys′ ys) (refl)) $
+        suffices ! _ (ends-at 𝓤 H A donate-priority.ended stayed c W y _ (V₃) (V₂, (tt, (tt, (tt, (tt, (tt, tt)))))) (sym ((refl ∙ sym (subst (λ (us : List Thread). length us ≡ length ys) (e₁₇) (ls₁₆ .0)))), (tt, (tt, (tt, (tt, (tt, tt))))))) $ says ! (so {X = Left ℕ (List Thread)} (record { answer = V₃; memory = V₂ }) (donate-priority-def (a .0) (a .1 .0) (a .1 .1 .0) (a .1 .1 .1 .0) ys′ ys) (refl)) $
         leaves2 ! (number w64) Ds a (V₃) are (is₂₃)))))))))))))))))))))))
 
 pub donate-priority-spec : {M : Type 1} → stated.statement M

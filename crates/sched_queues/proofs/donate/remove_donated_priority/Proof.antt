@@ -30,24 +30,24 @@ use denote.Triple.Table.{cited}
 use denote.Triple.Clauses.{Clauses}
 use denote.Triple.Walked.{says, Stays, stay-none, stay-slice, walkOf, goes-none, goes-slice, ends-at}
 use denote.Exit.{yes as kept-yes}
-use Rattle.lent.proofs.Walk.{Datum, number, nil, struct, Dens, AreD, listed, spell, lent-as, slice-of, kept, opened, closed, full, told, proved}
-use Rattle.lent.proofs.Lent.{mutable, shared, call-slices, all-freed, so, begins1, leaves1}
-use Rattle.sched_queues.specs.Donate.{removeDonated}
+use Rattle.records.proofs.Walk.{Datum, number, nil, struct, Dens, AreD, listed, spell, lent-as, slice-of, kept, opened, closed, full, told, proved}
+use Rattle.records.proofs.Lent.{mutable, shared, call-slices, all-freed, so, begins1, leaves1}
+use Rattle.sched_queues.specs.Donate.{remove-donated}
 use Rattle.thread.specs.Priority.{remove-donated-priority}
 use Rattle.thread.specs.Thread.{blank}
 use denote.Struct.Laws as LL
 use Rattle.thread.specs.declared.Thread.{Thread}
 use Rattle.thread.proofs.Thread as Thread·
 use Rattle.thread.proofs.Thread.Laws as Thread·laws
-use Rattle.lent.proofs.records.get as fn-lent-records-get
-use Rattle.lent.proofs.records.get.Symbol as fn-lent-records-get-def
-use Rattle.lent.proofs.records.get.Met as fn-lent-records-get-thm
+use Rattle.records.proofs.record.get as fn-records-record-get
+use Rattle.records.proofs.record.get.Symbol as fn-records-record-get-def
+use Rattle.records.proofs.record.get.Met as fn-records-record-get-thm
 use Rattle.thread.proofs.Thread.remove_donated_priority as fn-thread-Thread-remove-donated-priority
 use Rattle.thread.proofs.Thread.remove_donated_priority.Symbol as fn-thread-Thread-remove-donated-priority-def
 use Rattle.thread.proofs.Thread.remove_donated_priority.Met as fn-thread-Thread-remove-donated-priority-thm
-use Rattle.lent.proofs.records.set as fn-lent-records-set
-use Rattle.lent.proofs.records.set.Symbol as fn-lent-records-set-def
-use Rattle.lent.proofs.records.set.Met as fn-lent-records-set-thm
+use Rattle.records.proofs.record.set as fn-records-record-set
+use Rattle.records.proofs.record.set.Symbol as fn-records-record-set-def
+use Rattle.records.proofs.record.set.Met as fn-records-record-set-thm
 use Rattle.sched_queues.proofs.donate.remove_donated_priority.Key.{name as #remove-donated-priority}
 use Rattle.sched_queues.proofs.donate.remove_donated_priority as remove-donated-priority
 use Rattle.sched_queues.proofs.donate.remove_donated_priority.Statement as stated
@@ -96,7 +96,7 @@ module _ {M : Type 1} (𝓤 : URA M) (H : Heap 𝓤) (𝓜 : Model 𝓤 H) (𝓖
     V₁ = remove-donated-priority (getD ys (a .0) blank)
 
     walk : ent 𝓤 (onEntry 𝓤 H A remove-donated-priority.signature (κ, tt) (q, tt) ((lent-as b o γ ys, a)) ((s ∷ [], spell Ds a))) (WpFn 𝓤 H C Λ code.function (s ∷ listed Ds a) Post)
-    unfolding removeDonated
+    unfolding remove-donated
     walk =
         qed W ((‵ (flft κ q) ⊛ (‵ ftrue)) ∷ ‵ (owns (MutSlice (named 0) κ Thread·.the-row ∷ u64 ∷ []) ((lent-as b o γ ys, a)) ((s ∷ [], spell Ds a))) ∷ []) ∵ begins1 ! $ enter ! C _ code.function (s ∷ listed Ds a) _ $
         alloc1 ! (λ l₀. alloc1 ! (λ l₁. alloc1 ! (λ l₂. alloc1 ! (λ l₃. alloc1 ! (λ l₄. alloc1 ! (λ l₅. alloc1 ! (λ l₆. alloc1 ! (λ l₇. alloc1 ! (λ l₈. alloc1 ! (λ l₉. alloc0 ! $ params1 ! $
@@ -109,7 +109,7 @@ module _ {M : Type 1} (𝓤 : URA M) (H : Heap 𝓤) (𝓜 : Model 𝓤 H) (𝓖
         move ! (1 ∷ 0 ∷ []) $
         join ! $
         call-slices Thread° (number w64 ∷ []) ((a .0, tt)) (emp 𝓤) ((shared Thread·.the-row ys b o n refl room) ∷ []) ! fm (λ r ws. r ≡ (getD ys (a .0) blank)) ((are .0, tt)) (id⊢ 𝓤 (emp 𝓤))
-        (λ νs. cited 𝓤 H (tripleOf 𝓤 H A fn-lent-records-get.signature (fn-lent-records-get.spec 𝓤 H A (𝓜 .mem) (𝓡 .run))) 𝓜 𝓡 code.env fn-lent-records-get-def.name fn-lent-records-get-def.routine code.calls-lent·records·get (fn-lent-records-get-thm.met 𝓤 H 𝓜 𝓖 𝓡) (((νs .0 .0 ∷ [], tt), (fullShare, tt), tt, (lent-as b o (νs .0 .1) ys, (a .0, tt)), (slice-of b o ys ∷ [], spell (number w64 ∷ []) ((a .0, tt)))), tt))
+        (λ νs. cited 𝓤 H (tripleOf 𝓤 H A fn-records-record-get.signature (fn-records-record-get.spec 𝓤 H A (𝓜 .mem) (𝓡 .run))) 𝓜 𝓡 code.env fn-records-record-get-def.name fn-records-record-get-def.routine code.calls-records·record·get (fn-records-record-get-thm.met 𝓤 H 𝓜 𝓖 𝓡) (((νs .0 .0 ∷ [], tt), (fullShare, tt), tt, (lent-as b o (νs .0 .1) ys, (a .0, tt)), (slice-of b o ys ∷ [], spell (number w64 ∷ []) ((a .0, tt)))), tt))
         (λ k. and-then ! (load ! (from ! (stop !)) (look ! 8 refl)) (and-then ! (load ! (from ! (stop !)) (look ! 16 refl)) (no-more !))) (λ r₁ ws₂ is₃ ls₄ e₅.
         split ! $
         move ! (1 ∷ []) $
@@ -129,7 +129,7 @@ module _ {M : Type 1} (𝓤 : URA M) (H : Heap 𝓤) (𝓜 : Model 𝓤 H) (𝓖
         move ! (1 ∷ 0 ∷ []) $
         join ! $
         call-slices nil (number w64 ∷ Thread° ∷ []) ((a .0, (V₁, tt))) (emp 𝓤) ((mutable Thread·.the-row ys b o n refl room) ∷ []) ! fm (λ r ws. ws .0 ≡ (set ys (a .0) V₁)) ((are .0, (is₁₂, tt))) (id⊢ 𝓤 (emp 𝓤))
-        (λ νs. cited 𝓤 H (tripleOf 𝓤 H A fn-lent-records-set.signature (fn-lent-records-set.spec 𝓤 H A (𝓜 .mem) (𝓡 .run))) 𝓜 𝓡 code.env fn-lent-records-set-def.name fn-lent-records-set-def.routine code.calls-lent·records·set (fn-lent-records-set-thm.met 𝓤 H 𝓜 𝓖 𝓡) (((νs .0 .0 ∷ [], tt), (fullShare, tt), tt, (lent-as b o (νs .0 .1) ys, (a .0, (V₁, tt))), (slice-of b o ys ∷ [], spell (number w64 ∷ Thread° ∷ []) ((a .0, (V₁, tt))))), tt))
+        (λ νs. cited 𝓤 H (tripleOf 𝓤 H A fn-records-record-set.signature (fn-records-record-set.spec 𝓤 H A (𝓜 .mem) (𝓡 .run))) 𝓜 𝓡 code.env fn-records-record-set-def.name fn-records-record-set-def.routine code.calls-records·record·set (fn-records-record-set-thm.met 𝓤 H 𝓜 𝓖 𝓡) (((νs .0 .0 ∷ [], tt), (fullShare, tt), tt, (lent-as b o (νs .0 .1) ys, (a .0, (V₁, tt))), (slice-of b o ys ∷ [], spell (number w64 ∷ Thread° ∷ []) ((a .0, (V₁, tt))))), tt))
         (λ k. and-then ! (load ! (from ! (stop !)) (look ! 2 refl)) (and-then ! (load ! (from ! (stop !)) (look ! 16 refl)) (and-then ! (load ! (from ! (stop !)) (look ! 12 refl)) (no-more !)))) (λ r₁₃ ws₁₄ is₁₅ ls₁₆ e₁₇.
         split ! $
         move ! (1 ∷ []) $
@@ -141,7 +141,7 @@ module _ {M : Type 1} (𝓤 : URA M) (H : Heap 𝓤) (𝓜 : Model 𝓤 H) (𝓖
         returns ! (look ! 20 refl) $
         move ! (20 ∷ 21 ∷ 18 ∷ 19 ∷ 16 ∷ 17 ∷ 14 ∷ 15 ∷ 12 ∷ 13 ∷ 10 ∷ 11 ∷ 8 ∷ 9 ∷ 6 ∷ 7 ∷ 4 ∷ 5 ∷ 2 ∷ 3 ∷ []) $
         all-freed ! mir.locals (l₀ ∷ l₁ ∷ l₂ ∷ l₃ ∷ l₄ ∷ l₅ ∷ l₆ ∷ l₇ ∷ l₈ ∷ l₉ ∷ []) (full _ ∷ full _ ∷ full _ ∷ full _ ∷ full _ ∷ full _ ∷ full _ ∷ full _ ∷ full _ ∷ full _ ∷ []) tt $
-        suffices ! _ (ends-at 𝓤 H A remove-donated-priority.ended stayed c W y _ (tt) (set ys (a .0) V₁, (tt, tt)) (sym ((refl ∙ sym (subst (λ (us : List Thread). length us ≡ length ys) (e₁₇) (ls₁₆ .0)))), (tt, tt))) $ says ! (so {X = List Thread} ((set ys (a .0) V₁)) (removeDonated (a .0) ys) (refl)) $
+        suffices ! _ (ends-at 𝓤 H A remove-donated-priority.ended stayed c W y _ (tt) (set ys (a .0) V₁, (tt, tt)) (sym ((refl ∙ sym (subst (λ (us : List Thread). length us ≡ length ys) (e₁₇) (ls₁₆ .0)))), (tt, tt))) $ says ! (so {X = List Thread} ((set ys (a .0) V₁)) (remove-donated (a .0) ys) (refl)) $
         leaves1 ! nil Ds a (tt) are (refl))))))))))))))))
 
 pub remove-donated-priority-spec : {M : Type 1} → stated.statement M

@@ -1,4 +1,4 @@
-use Rattle.sched_queues.specs.Queues.{isNobody}
+use Rattle.sched_queues.specs.Queues.{is-nobody}
 use borrow.Author.Needs.{needs}
 use Rattle.sched_queues.proofs.queues.is_nobody.Statement.{statement}
 use Rattle.sched_queues.proofs.queues.is_nobody.Tie as tie
@@ -10,11 +10,11 @@ enum-told-2 : tie.Need-enum-told-2
 enum-told-2 c = search needs
 
 returns : tie.Need-returns
-unfolding isNobody
+unfolding is-nobody
 returns c = search needs
 
 returns-2 : tie.Need-returns-2
-unfolding isNobody
+unfolding is-nobody
 returns-2 c = search needs
 
 pub is-nobody-spec : {M : Type 1} → statement M

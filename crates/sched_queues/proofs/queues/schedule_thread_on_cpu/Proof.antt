@@ -32,39 +32,39 @@ use denote.Triple.Table.{cited}
 use denote.Triple.Clauses.{Clauses}
 use denote.Triple.Walked.{says, Stays, stay-none, stay-slice, walkOf, goes-none, goes-slice, ends-at}
 use denote.Exit.{yes as kept-yes}
-use Rattle.lent.proofs.Walk.{Datum, number, truth, nil, struct, Dens, AreD, listed, spell, lent-as, slice-of, kept, opened, closed, full, told, proved}
-use Rattle.lent.proofs.Lent.{mutable, shared, call-slices, call-left, all-freed, so, begins2, leaves2}
-use Rattle.lent.specs.Left.{Memory, Left}
-use Rattle.lent.specs.Rq.{insertDef}
-use Rattle.sched_queues.specs.Queues.{scheduleThreadOnCpu, movedIn}
-use Rattle.step.specs.Signal.{signal}
-use Rattle.step.specs.Time.{shouldSignal, movedTo}
+use Rattle.records.proofs.Walk.{Datum, number, truth, nil, struct, Dens, AreD, listed, spell, lent-as, slice-of, kept, opened, closed, full, told, proved}
+use Rattle.records.proofs.Lent.{mutable, shared, call-slices, call-left, all-freed, so, begins2, leaves2}
+use Rattle.records.specs.Left.{Memory, Left}
+use Rattle.records.specs.Rq.{insert-def}
+use Rattle.sched_queues.specs.Queues.{schedule-thread-on-cpu-def, moved-in}
+use Rattle.sched_words.specs.Signal.{signal}
+use Rattle.sched_words.specs.Time.{should-signal-def, moved-to}
 use Rattle.thread.specs.Thread.{blank}
 use denote.Struct.Laws as LL
-use Rattle.step.specs.declared.context.Context.{Context}
-use Rattle.step.proofs.context.Context as Context·
-use Rattle.step.proofs.context.Context.Laws as Context·laws
+use Rattle.sched_words.specs.declared.context.Context.{Context}
+use Rattle.sched_words.proofs.context.Context as Context·
+use Rattle.sched_words.proofs.context.Context.Laws as Context·laws
 use Rattle.thread.specs.declared.Thread.{Thread}
 use Rattle.thread.proofs.Thread as Thread·
 use Rattle.thread.proofs.Thread.Laws as Thread·laws
-use Rattle.lent.proofs.records.get as fn-lent-records-get
-use Rattle.lent.proofs.records.get.Symbol as fn-lent-records-get-def
-use Rattle.lent.proofs.records.get.Met as fn-lent-records-get-thm
-use Rattle.step.proofs.time.should_signal as fn-step-time-should-signal
-use Rattle.step.proofs.time.should_signal.Symbol as fn-step-time-should-signal-def
-use Rattle.step.proofs.time.should_signal.Met as fn-step-time-should-signal-thm
-use Rattle.step.proofs.time.moved_to as fn-step-time-moved-to
-use Rattle.step.proofs.time.moved_to.Symbol as fn-step-time-moved-to-def
-use Rattle.step.proofs.time.moved_to.Met as fn-step-time-moved-to-thm
-use Rattle.lent.proofs.records.set as fn-lent-records-set
-use Rattle.lent.proofs.records.set.Symbol as fn-lent-records-set-def
-use Rattle.lent.proofs.records.set.Met as fn-lent-records-set-thm
-use Rattle.lent.proofs.rq.insert as fn-lent-rq-insert
-use Rattle.lent.proofs.rq.insert.Symbol as fn-lent-rq-insert-def
-use Rattle.lent.proofs.rq.insert.Met as fn-lent-rq-insert-thm
-use Rattle.step.proofs.signal.signal as fn-step-signal-signal
-use Rattle.step.proofs.signal.signal.Symbol as fn-step-signal-signal-def
-use Rattle.step.proofs.signal.signal.Met as fn-step-signal-signal-thm
+use Rattle.records.proofs.record.get as fn-records-record-get
+use Rattle.records.proofs.record.get.Symbol as fn-records-record-get-def
+use Rattle.records.proofs.record.get.Met as fn-records-record-get-thm
+use Rattle.sched_words.proofs.time.should_signal as fn-sched-words-time-should-signal
+use Rattle.sched_words.proofs.time.should_signal.Symbol as fn-sched-words-time-should-signal-def
+use Rattle.sched_words.proofs.time.should_signal.Met as fn-sched-words-time-should-signal-thm
+use Rattle.sched_words.proofs.time.moved_to as fn-sched-words-time-moved-to
+use Rattle.sched_words.proofs.time.moved_to.Symbol as fn-sched-words-time-moved-to-def
+use Rattle.sched_words.proofs.time.moved_to.Met as fn-sched-words-time-moved-to-thm
+use Rattle.records.proofs.record.set as fn-records-record-set
+use Rattle.records.proofs.record.set.Symbol as fn-records-record-set-def
+use Rattle.records.proofs.record.set.Met as fn-records-record-set-thm
+use Rattle.records.proofs.rq.insert as fn-records-rq-insert
+use Rattle.records.proofs.rq.insert.Symbol as fn-records-rq-insert-def
+use Rattle.records.proofs.rq.insert.Met as fn-records-rq-insert-thm
+use Rattle.sched_words.proofs.signal.signal as fn-sched-words-signal-signal
+use Rattle.sched_words.proofs.signal.signal.Symbol as fn-sched-words-signal-signal-def
+use Rattle.sched_words.proofs.signal.signal.Met as fn-sched-words-signal-signal-thm
 use Rattle.sched_queues.proofs.queues.schedule_thread_on_cpu.Key.{name as #schedule-thread-on-cpu}
 use Rattle.sched_queues.proofs.queues.schedule_thread_on_cpu as schedule-thread-on-cpu
 use Rattle.sched_queues.proofs.queues.schedule_thread_on_cpu.Statement as stated
@@ -122,19 +122,19 @@ module _ {M : Type 1} (𝓤 : URA M) (H : Heap 𝓤) (𝓜 : Model 𝓤 H) (𝓖
     V₁ = getD ys (a .1 .1 .0) blank
 
     abbrev V₂ : Bool
-    V₂ = shouldSignal ys′ ((a .0) .us) (a .1 .0) V₁
+    V₂ = should-signal-def ys′ ((a .0) .us) (a .1 .0) V₁
 
     abbrev V₃ : Thread
-    V₃ = movedTo ys′ (a .1 .0) ((a .0) .tick) ((a .0) .shortest) V₁
+    V₃ = moved-to ys′ (a .1 .0) ((a .0) .tick) ((a .0) .shortest) V₁
 
     abbrev V₄ : Memory
-    V₄ = insertDef (a .1 .0) (a .1 .1 .0) ((a .0) .tick) false (record { threads = set ys (a .1 .1 .0) V₃; cpus = ys′ })
+    V₄ = insert-def (a .1 .0) (a .1 .1 .0) ((a .0) .tick) false (record { threads = set ys (a .1 .1 .0) V₃; cpus = ys′ })
 
     abbrev V₅ : ℕ
     V₅ = signal (a .1 .1 .1 .0) ((a .0) .us) (a .1 .0) V₂
 
     walk : ent 𝓤 (onEntry 𝓤 H A schedule-thread-on-cpu.signature (κ, (κ′, tt)) (q, (q′, tt)) ((lent-as b o γ ys, (lent-as b′ o′ γ′ ys′, a))) ((s ∷ [], (s′ ∷ [], spell Ds a)))) (WpFn 𝓤 H C Λ code.function (s ∷ s′ ∷ listed Ds a) Post)
-    unfolding scheduleThreadOnCpu movedIn
+    unfolding schedule-thread-on-cpu-def moved-in
     walk =
         qed W ((‵ (flft κ q) ⊛ (‵ (flft κ′ q′) ⊛ (‵ ftrue))) ∷ ‵ (owns (MutSlice (named 0) κ Thread·.the-row ∷ MutSlice (named 1) κ′ (Array u64 96) ∷ Context·.the-row ∷ u64 ∷ u64 ∷ u64 ∷ []) ((lent-as b o γ ys, (lent-as b′ o′ γ′ ys′, a))) ((s ∷ [], (s′ ∷ [], spell Ds a)))) ∷ []) ∵ begins2 ! $ enter ! C _ code.function (s ∷ s′ ∷ listed Ds a) _ $
         alloc1 ! (λ l₀. alloc1 ! (λ l₁. alloc1 ! (λ l₂. alloc1 ! (λ l₃. alloc1 ! (λ l₄. alloc1 ! (λ l₅. alloc1 ! (λ l₆. alloc1 ! (λ l₇. alloc1 ! (λ l₈. alloc1 ! (λ l₉. alloc1 ! (λ l₁₀. alloc1 ! (λ l₁₁. alloc1 ! (λ l₁₂. alloc1 ! (λ l₁₃. alloc1 ! (λ l₁₄. alloc1 ! (λ l₁₅. alloc1 ! (λ l₁₆. alloc1 ! (λ l₁₇. alloc1 ! (λ l₁₈. alloc1 ! (λ l₁₉. alloc1 ! (λ l₂₀. alloc1 ! (λ l₂₁. alloc1 ! (λ l₂₂. alloc1 ! (λ l₂₃. alloc1 ! (λ l₂₄. alloc1 ! (λ l₂₅. alloc0 ! $ params1 ! $
@@ -152,7 +152,7 @@ module _ {M : Type 1} (𝓤 : URA M) (H : Heap 𝓤) (𝓜 : Model 𝓤 H) (𝓖
         move ! (1 ∷ 0 ∷ []) $
         join ! $
         call-slices Thread° (number w64 ∷ []) ((a .1 .1 .0, tt)) (emp 𝓤) ((shared Thread·.the-row ys b o n refl room) ∷ []) ! fm (λ r ws. r ≡ V₁) ((are .1 .1 .0, tt)) (id⊢ 𝓤 (emp 𝓤))
-        (λ νs. cited 𝓤 H (tripleOf 𝓤 H A fn-lent-records-get.signature (fn-lent-records-get.spec 𝓤 H A (𝓜 .mem) (𝓡 .run))) 𝓜 𝓡 code.env fn-lent-records-get-def.name fn-lent-records-get-def.routine code.calls-lent·records·get (fn-lent-records-get-thm.met 𝓤 H 𝓜 𝓖 𝓡) (((νs .0 .0 ∷ [], tt), (fullShare, tt), tt, (lent-as b o (νs .0 .1) ys, (a .1 .1 .0, tt)), (slice-of b o ys ∷ [], spell (number w64 ∷ []) ((a .1 .1 .0, tt)))), tt))
+        (λ νs. cited 𝓤 H (tripleOf 𝓤 H A fn-records-record-get.signature (fn-records-record-get.spec 𝓤 H A (𝓜 .mem) (𝓡 .run))) 𝓜 𝓡 code.env fn-records-record-get-def.name fn-records-record-get-def.routine code.calls-records·record·get (fn-records-record-get-thm.met 𝓤 H 𝓜 𝓖 𝓡) (((νs .0 .0 ∷ [], tt), (fullShare, tt), tt, (lent-as b o (νs .0 .1) ys, (a .1 .1 .0, tt)), (slice-of b o ys ∷ [], spell (number w64 ∷ []) ((a .1 .1 .0, tt)))), tt))
         (λ k. and-then ! (load ! (from ! (stop !)) (look ! 26 refl)) (and-then ! (load ! (from ! (stop !)) (look ! 44 refl)) (no-more !))) (λ r₁ ws₂ is₃ ls₄ e₅.
         split ! $
         move ! (1 ∷ []) $
@@ -165,7 +165,7 @@ module _ {M : Type 1} (𝓤 : URA M) (H : Heap 𝓤) (𝓜 : Model 𝓤 H) (𝓖
         move ! (3 ∷ 0 ∷ []) $
         join ! $
         call-slices truth (number w64 ∷ number w64 ∷ Thread° ∷ []) (((a .0) .us, (a .1 .0, (V₁, tt)))) (emp 𝓤) ((shared (Array u64 96) ys′ b′ o′ n′ refl room′) ∷ []) ! fm (λ r ws. r ≡ V₂) ((LL.owed Context·.the-type Context·laws.the-laws (a .0) _ (are .0) .0, (are .1 .0, (is₆, tt)))) (id⊢ 𝓤 (emp 𝓤))
-        (λ νs. cited 𝓤 H (tripleOf 𝓤 H A fn-step-time-should-signal.signature (fn-step-time-should-signal.spec 𝓤 H A (𝓜 .mem) (𝓡 .run))) 𝓜 𝓡 code.env fn-step-time-should-signal-def.name fn-step-time-should-signal-def.routine code.calls-step·time·should-signal (fn-step-time-should-signal-thm.met 𝓤 H 𝓜 𝓖 𝓡) (((νs .0 .0 ∷ [], tt), (fullShare, tt), tt, (lent-as b′ o′ (νs .0 .1) ys′, ((a .0) .us, (a .1 .0, (V₁, tt)))), (slice-of b′ o′ ys′ ∷ [], spell (number w64 ∷ number w64 ∷ Thread° ∷ []) (((a .0) .us, (a .1 .0, (V₁, tt)))))), tt))
+        (λ νs. cited 𝓤 H (tripleOf 𝓤 H A fn-sched-words-time-should-signal.signature (fn-sched-words-time-should-signal.spec 𝓤 H A (𝓜 .mem) (𝓡 .run))) 𝓜 𝓡 code.env fn-sched-words-time-should-signal-def.name fn-sched-words-time-should-signal-def.routine code.calls-sched-words·time·should-signal (fn-sched-words-time-should-signal-thm.met 𝓤 H 𝓜 𝓖 𝓡) (((νs .0 .0 ∷ [], tt), (fullShare, tt), tt, (lent-as b′ o′ (νs .0 .1) ys′, ((a .0) .us, (a .1 .0, (V₁, tt)))), (slice-of b′ o′ ys′ ∷ [], spell (number w64 ∷ number w64 ∷ Thread° ∷ []) (((a .0) .us, (a .1 .0, (V₁, tt)))))), tt))
         (λ k. and-then ! (load ! (from ! (stop !)) (look ! 22 refl)) (and-then ! (load ! (from ! (stop !)) (look ! 40 refl)) (and-then ! (load ! (from ! (stop !)) (look ! 46 refl)) (and-then ! (load ! (from ! (stop !)) (look ! 34 refl)) (no-more !))))) (λ r₇ ws₈ is₉ ls₁₀ e₁₁.
         split ! $
         move ! (1 ∷ []) $
@@ -178,7 +178,7 @@ module _ {M : Type 1} (𝓤 : URA M) (H : Heap 𝓤) (𝓜 : Model 𝓤 H) (𝓖
         move ! (1 ∷ 0 ∷ []) $
         join ! $
         call-slices Thread° (number w64 ∷ number w64 ∷ number w64 ∷ Thread° ∷ []) ((a .1 .0, ((a .0) .tick, ((a .0) .shortest, (V₁, tt))))) (emp 𝓤) ((shared (Array u64 96) ys′ b′ o′ n′ refl room′) ∷ []) ! fm (λ r ws. r ≡ V₃) ((are .1 .0, (LL.owed Context·.the-type Context·laws.the-laws (a .0) _ (are .0) .1 .0, (LL.owed Context·.the-type Context·laws.the-laws (a .0) _ (are .0) .1 .1 .0, (is₆, tt))))) (id⊢ 𝓤 (emp 𝓤))
-        (λ νs. cited 𝓤 H (tripleOf 𝓤 H A fn-step-time-moved-to.signature (fn-step-time-moved-to.spec 𝓤 H A (𝓜 .mem) (𝓡 .run))) 𝓜 𝓡 code.env fn-step-time-moved-to-def.name fn-step-time-moved-to-def.routine code.calls-step·time·moved-to (fn-step-time-moved-to-thm.met 𝓤 H 𝓜 𝓖 𝓡) (((νs .0 .0 ∷ [], tt), (fullShare, tt), tt, (lent-as b′ o′ (νs .0 .1) ys′, (a .1 .0, ((a .0) .tick, ((a .0) .shortest, (V₁, tt))))), (slice-of b′ o′ ys′ ∷ [], spell (number w64 ∷ number w64 ∷ number w64 ∷ Thread° ∷ []) ((a .1 .0, ((a .0) .tick, ((a .0) .shortest, (V₁, tt))))))), tt))
+        (λ νs. cited 𝓤 H (tripleOf 𝓤 H A fn-sched-words-time-moved-to.signature (fn-sched-words-time-moved-to.spec 𝓤 H A (𝓜 .mem) (𝓡 .run))) 𝓜 𝓡 code.env fn-sched-words-time-moved-to-def.name fn-sched-words-time-moved-to-def.routine code.calls-sched-words·time·moved-to (fn-sched-words-time-moved-to-thm.met 𝓤 H 𝓜 𝓖 𝓡) (((νs .0 .0 ∷ [], tt), (fullShare, tt), tt, (lent-as b′ o′ (νs .0 .1) ys′, (a .1 .0, ((a .0) .tick, ((a .0) .shortest, (V₁, tt))))), (slice-of b′ o′ ys′ ∷ [], spell (number w64 ∷ number w64 ∷ number w64 ∷ Thread° ∷ []) ((a .1 .0, ((a .0) .tick, ((a .0) .shortest, (V₁, tt))))))), tt))
         (λ k. and-then ! (load ! (from ! (stop !)) (look ! 18 refl)) (and-then ! (load ! (from ! (stop !)) (look ! 46 refl)) (and-then ! (load ! (from ! (stop !)) (look ! 38 refl)) (and-then ! (load ! (from ! (stop !)) (look ! 36 refl)) (and-then ! (load ! (from ! (stop !)) (look ! 34 refl)) (no-more !)))))) (λ r₁₃ ws₁₄ is₁₅ ls₁₆ e₁₇.
         split ! $
         move ! (1 ∷ []) $
@@ -191,7 +191,7 @@ module _ {M : Type 1} (𝓤 : URA M) (H : Heap 𝓤) (𝓜 : Model 𝓤 H) (𝓖
         move ! (2 ∷ 0 ∷ []) $
         join ! $
         call-slices nil (number w64 ∷ Thread° ∷ []) ((a .1 .1 .0, (V₃, tt))) (emp 𝓤) ((mutable Thread·.the-row ys b o n refl room) ∷ []) ! fm (λ r ws. ws .0 ≡ (set ys (a .1 .1 .0) V₃)) ((are .1 .1 .0, (is₁₈, tt))) (id⊢ 𝓤 (emp 𝓤))
-        (λ νs. cited 𝓤 H (tripleOf 𝓤 H A fn-lent-records-set.signature (fn-lent-records-set.spec 𝓤 H A (𝓜 .mem) (𝓡 .run))) 𝓜 𝓡 code.env fn-lent-records-set-def.name fn-lent-records-set-def.routine code.calls-lent·records·set (fn-lent-records-set-thm.met 𝓤 H 𝓜 𝓖 𝓡) (((νs .0 .0 ∷ [], tt), (fullShare, tt), tt, (lent-as b o (νs .0 .1) ys, (a .1 .1 .0, (V₃, tt))), (slice-of b o ys ∷ [], spell (number w64 ∷ Thread° ∷ []) ((a .1 .1 .0, (V₃, tt))))), tt))
+        (λ νs. cited 𝓤 H (tripleOf 𝓤 H A fn-records-record-set.signature (fn-records-record-set.spec 𝓤 H A (𝓜 .mem) (𝓡 .run))) 𝓜 𝓡 code.env fn-records-record-set-def.name fn-records-record-set-def.routine code.calls-records·record·set (fn-records-record-set-thm.met 𝓤 H 𝓜 𝓖 𝓡) (((νs .0 .0 ∷ [], tt), (fullShare, tt), tt, (lent-as b o (νs .0 .1) ys, (a .1 .1 .0, (V₃, tt))), (slice-of b o ys ∷ [], spell (number w64 ∷ Thread° ∷ []) ((a .1 .1 .0, (V₃, tt))))), tt))
         (λ k. and-then ! (load ! (from ! (stop !)) (look ! 12 refl)) (and-then ! (load ! (from ! (stop !)) (look ! 44 refl)) (and-then ! (load ! (from ! (stop !)) (look ! 30 refl)) (no-more !)))) (λ r₁₉ ws₂₀ is₂₁ ls₂₂ e₂₃.
         split ! $
         move ! (1 ∷ []) $
@@ -208,7 +208,7 @@ module _ {M : Type 1} (𝓤 : URA M) (H : Heap 𝓤) (𝓜 : Model 𝓤 H) (𝓖
         move ! (1 ∷ 0 ∷ []) $
         join ! $
         call-left nil (number w64 ∷ number w64 ∷ number w64 ∷ truth ∷ []) ((a .1 .0, (a .1 .1 .0, ((a .0) .tick, (false, tt))))) (emp 𝓤) ((mutable Thread·.the-row (set ys (a .1 .1 .0) V₃) b o n ((refl ∙ sym (subst (λ (us : List Thread). length us ≡ length ys) (e₂₃) (ls₂₂ .0)))) room) ∷ (mutable (Array u64 96) ys′ b′ o′ n′ refl room′) ∷ []) ! fm (λ r ws. (ws .0 ≡ (V₄ .threads)) × (ws .1 .0 ≡ (V₄ .cpus))) (λ r ws. _≡_ {A = Memory} (record { threads = ws .0; cpus = ws .1 .0 }) V₄) (λ r ws e. (ap (λ (z : Memory). z .threads) e, ap (λ (z : Memory). z .cpus) e)) ((are .1 .0, (are .1 .1 .0, (LL.owed Context·.the-type Context·laws.the-laws (a .0) _ (are .0) .1 .0, (refl, tt))))) (id⊢ 𝓤 (emp 𝓤))
-        (λ νs. cited 𝓤 H (tripleOf 𝓤 H A fn-lent-rq-insert.signature (fn-lent-rq-insert.spec 𝓤 H A (𝓜 .mem) (𝓡 .run))) 𝓜 𝓡 code.env fn-lent-rq-insert-def.name fn-lent-rq-insert-def.routine code.calls-lent·rq·insert (fn-lent-rq-insert-thm.met 𝓤 H 𝓜 𝓖 𝓡) (((νs .0 .0 ∷ [], (νs .1 .0 .0 ∷ [], tt)), (fullShare, (fullShare, tt)), tt, (lent-as b o (νs .0 .1) (set ys (a .1 .1 .0) V₃), (lent-as b′ o′ (νs .1 .0 .1) ys′, (a .1 .0, (a .1 .1 .0, ((a .0) .tick, (false, tt)))))), (slice-of b o (set ys (a .1 .1 .0) V₃) ∷ [], (slice-of b′ o′ ys′ ∷ [], spell (number w64 ∷ number w64 ∷ number w64 ∷ truth ∷ []) ((a .1 .0, (a .1 .1 .0, ((a .0) .tick, (false, tt)))))))), tt))
+        (λ νs. cited 𝓤 H (tripleOf 𝓤 H A fn-records-rq-insert.signature (fn-records-rq-insert.spec 𝓤 H A (𝓜 .mem) (𝓡 .run))) 𝓜 𝓡 code.env fn-records-rq-insert-def.name fn-records-rq-insert-def.routine code.calls-records·rq·insert (fn-records-rq-insert-thm.met 𝓤 H 𝓜 𝓖 𝓡) (((νs .0 .0 ∷ [], (νs .1 .0 .0 ∷ [], tt)), (fullShare, (fullShare, tt)), tt, (lent-as b o (νs .0 .1) (set ys (a .1 .1 .0) V₃), (lent-as b′ o′ (νs .1 .0 .1) ys′, (a .1 .0, (a .1 .1 .0, ((a .0) .tick, (false, tt)))))), (slice-of b o (set ys (a .1 .1 .0) V₃) ∷ [], (slice-of b′ o′ ys′ ∷ [], spell (number w64 ∷ number w64 ∷ number w64 ∷ truth ∷ []) ((a .1 .0, (a .1 .1 .0, ((a .0) .tick, (false, tt)))))))), tt))
         (λ k. and-then ! (load ! (from ! (stop !)) (look ! 7 refl)) (and-then ! (load ! (from ! (stop !)) (look ! 3 refl)) (and-then ! (load ! (from ! (stop !)) (look ! 45 refl)) (and-then ! (load ! (from ! (stop !)) (look ! 43 refl)) (and-then ! (load ! (from ! (stop !)) (look ! 37 refl)) (and-then ! (false-lit !) (no-more !))))))) (λ r₂₄ ws₂₅ is₂₆ ls₂₇ e₂₈.
         split ! $
         move ! (1 ∷ []) $
@@ -220,7 +220,7 @@ module _ {M : Type 1} (𝓤 : URA M) (H : Heap 𝓤) (𝓜 : Model 𝓤 H) (𝓖
         land ! (from ! (stop !)) (store ! 16 refl (tt, tt)) $
         nothing ! $
         call-slices (number w64) (number w64 ∷ number w64 ∷ number w64 ∷ truth ∷ []) ((a .1 .1 .1 .0, ((a .0) .us, (a .1 .0, (V₂, tt))))) (emp 𝓤) ([]) ! fm (λ r ws. r ≡ V₅) ((are .1 .1 .1 .0, (LL.owed Context·.the-type Context·laws.the-laws (a .0) _ (are .0) .0, (are .1 .0, (is₁₂, tt))))) (id⊢ 𝓤 (emp 𝓤))
-        (λ νs. cited 𝓤 H (tripleOf 𝓤 H A fn-step-signal-signal.signature (fn-step-signal-signal.spec 𝓤 H A (𝓜 .mem) (𝓡 .run))) 𝓜 𝓡 code.env fn-step-signal-signal-def.name fn-step-signal-signal-def.routine code.calls-step·signal·signal (fn-step-signal-signal-thm.met 𝓤 H 𝓜 𝓖 𝓡) ((tt, tt, tt, (a .1 .1 .1 .0, ((a .0) .us, (a .1 .0, (V₂, tt)))), spell (number w64 ∷ number w64 ∷ number w64 ∷ truth ∷ []) ((a .1 .1 .1 .0, ((a .0) .us, (a .1 .0, (V₂, tt)))))), tt))
+        (λ νs. cited 𝓤 H (tripleOf 𝓤 H A fn-sched-words-signal-signal.signature (fn-sched-words-signal-signal.spec 𝓤 H A (𝓜 .mem) (𝓡 .run))) 𝓜 𝓡 code.env fn-sched-words-signal-signal-def.name fn-sched-words-signal-signal-def.routine code.calls-sched-words·signal·signal (fn-sched-words-signal-signal-thm.met 𝓤 H 𝓜 𝓖 𝓡) ((tt, tt, tt, (a .1 .1 .1 .0, ((a .0) .us, (a .1 .0, (V₂, tt)))), spell (number w64 ∷ number w64 ∷ number w64 ∷ truth ∷ []) ((a .1 .1 .1 .0, ((a .0) .us, (a .1 .0, (V₂, tt)))))), tt))
         (λ k. and-then ! (load ! (from ! (stop !)) (look ! 43 refl)) (and-then ! (load ! (from ! (stop !)) (look ! 41 refl)) (and-then ! (load ! (from ! (stop !)) (look ! 47 refl)) (and-then ! (load ! (from ! (stop !)) (look ! 33 refl)) (no-more !))))) (λ r₂₉ ws₃₀ is₃₁ ls₃₂ e₃₃.
         drop ! $
         told ! (number w64) (e₃₃) is₃₁ (λ is₃₄.
@@ -232,7 +232,7 @@ module _ {M : Type 1} (𝓤 : URA M) (H : Heap 𝓤) (𝓜 : Model 𝓤 H) (𝓖
         returns ! (look ! 54 refl) $
         move ! (54 ∷ 55 ∷ 52 ∷ 53 ∷ 50 ∷ 51 ∷ 48 ∷ 49 ∷ 46 ∷ 47 ∷ 44 ∷ 45 ∷ 42 ∷ 43 ∷ 40 ∷ 41 ∷ 38 ∷ 39 ∷ 36 ∷ 37 ∷ 34 ∷ 35 ∷ 32 ∷ 33 ∷ 30 ∷ 31 ∷ 28 ∷ 29 ∷ 26 ∷ 27 ∷ 24 ∷ 25 ∷ 22 ∷ 23 ∷ 20 ∷ 21 ∷ 18 ∷ 19 ∷ 16 ∷ 17 ∷ 14 ∷ 15 ∷ 12 ∷ 13 ∷ 10 ∷ 11 ∷ 8 ∷ 9 ∷ 6 ∷ 7 ∷ 4 ∷ 5 ∷ []) $
         all-freed ! mir.locals (l₀ ∷ l₁ ∷ l₂ ∷ l₃ ∷ l₄ ∷ l₅ ∷ l₆ ∷ l₇ ∷ l₈ ∷ l₉ ∷ l₁₀ ∷ l₁₁ ∷ l₁₂ ∷ l₁₃ ∷ l₁₄ ∷ l₁₅ ∷ l₁₆ ∷ l₁₇ ∷ l₁₈ ∷ l₁₉ ∷ l₂₀ ∷ l₂₁ ∷ l₂₂ ∷ l₂₃ ∷ l₂₄ ∷ l₂₅ ∷ []) (full _ ∷ full _ ∷ full _ ∷ full _ ∷ full _ ∷ full _ ∷ full _ ∷ full _ ∷ full _ ∷ full _ ∷ full _ ∷ full _ ∷ full _ ∷ full _ ∷ full _ ∷ full _ ∷ full _ ∷ full _ ∷ full _ ∷ full _ ∷ full _ ∷ full _ ∷ full _ ∷ full _ ∷ full _ ∷ full _ ∷ []) tt $
-        suffices ! _ (ends-at 𝓤 H A schedule-thread-on-cpu.ended stayed c W y _ (V₅) (V₄ .threads, (V₄ .cpus, (tt, (tt, (tt, (tt, tt)))))) (sym (((refl ∙ sym (subst (λ (us : List Thread). length us ≡ length ys) (e₂₃) (ls₂₂ .0))) ∙ sym (subst (λ (us : List Thread). length us ≡ length (set ys (a .1 .1 .0) V₃)) (e₂₈ .0) (ls₂₇ .0)))), (sym ((refl ∙ sym (subst (λ (us : List (List ℕ)). length us ≡ length ys′) (e₂₈ .1) (ls₂₇ .1 .0)))), (tt, (tt, (tt, (tt, tt))))))) $ says ! (so {X = Left ℕ Memory} (record { answer = V₅; memory = record { threads = (V₄ .threads); cpus = (V₄ .cpus) } }) (scheduleThreadOnCpu (a .0) (a .1 .0) (a .1 .1 .0) (a .1 .1 .1 .0) (record { threads = ys; cpus = ys′ })) (refl)) $
+        suffices ! _ (ends-at 𝓤 H A schedule-thread-on-cpu.ended stayed c W y _ (V₅) (V₄ .threads, (V₄ .cpus, (tt, (tt, (tt, (tt, tt)))))) (sym (((refl ∙ sym (subst (λ (us : List Thread). length us ≡ length ys) (e₂₃) (ls₂₂ .0))) ∙ sym (subst (λ (us : List Thread). length us ≡ length (set ys (a .1 .1 .0) V₃)) (e₂₈ .0) (ls₂₇ .0)))), (sym ((refl ∙ sym (subst (λ (us : List (List ℕ)). length us ≡ length ys′) (e₂₈ .1) (ls₂₇ .1 .0)))), (tt, (tt, (tt, (tt, tt))))))) $ says ! (so {X = Left ℕ Memory} (record { answer = V₅; memory = record { threads = (V₄ .threads); cpus = (V₄ .cpus) } }) (schedule-thread-on-cpu-def (a .0) (a .1 .0) (a .1 .1 .0) (a .1 .1 .1 .0) (record { threads = ys; cpus = ys′ })) (refl)) $
         leaves2 ! (number w64) Ds a (V₅) are (is₃₄)))))))))))))))))))))))))))))))))))))
 
 pub schedule-thread-on-cpu-spec : {M : Type 1} → stated.statement M

@@ -34,38 +34,38 @@ use denote.Triple.Table.{cited}
 use denote.Triple.Clauses.{Clauses}
 use denote.Triple.Walked.{says, Stays, stay-none, stay-slice, walkOf, goes-none, goes-slice, ends-at}
 use denote.Exit.{yes as kept-yes}
-use Rattle.lent.proofs.Walk.{Datum, number, truth, nil, struct, Dens, AreD, listed, spell, lent-as, slice-of, kept, opened, closed, guards, env-of, standing, bare, full, told, proved}
-use Rattle.lent.proofs.Lent.{mutable, shared, choice, call-slices, call-left, all-freed, no, yes, so, begins2, leaves2}
-use Rattle.lent.specs.Left.{Memory, Left}
-use Rattle.lent.specs.Rq.{takeDef}
-use Rattle.sched_queues.specs.Queues.{takeFrom, isNobody, threadOf, movedFor}
+use Rattle.records.proofs.Walk.{Datum, number, truth, nil, struct, Dens, AreD, listed, spell, lent-as, slice-of, kept, opened, closed, guards, env-of, standing, bare, full, told, proved}
+use Rattle.records.proofs.Lent.{mutable, shared, choice, call-slices, call-left, all-freed, no, yes, so, begins2, leaves2}
+use Rattle.records.specs.Left.{Memory, Left}
+use Rattle.records.specs.Rq.{take-def}
+use Rattle.sched_queues.specs.Queues.{take-from, is-nobody, thread-of, moved-for-def}
 use Rattle.thread.specs.Thread.{blank}
 use Rattle.thread.specs.Time.{moving-to-queue}
 use denote.Struct.Laws as LL
-use Rattle.lent.specs.declared.rq.Taken.{Taken}
-use Rattle.lent.proofs.rq.Taken as Taken·
-use Rattle.lent.proofs.rq.Taken.Laws as Taken·laws
+use Rattle.records.specs.declared.rq.Taken.{Taken}
+use Rattle.records.proofs.rq.Taken as Taken·
+use Rattle.records.proofs.rq.Taken.Laws as Taken·laws
 use Rattle.thread.specs.declared.Thread.{Thread}
 use Rattle.thread.proofs.Thread as Thread·
 use Rattle.thread.proofs.Thread.Laws as Thread·laws
-use Rattle.lent.proofs.rq.take as fn-lent-rq-take
-use Rattle.lent.proofs.rq.take.Symbol as fn-lent-rq-take-def
-use Rattle.lent.proofs.rq.take.Met as fn-lent-rq-take-thm
+use Rattle.records.proofs.rq.take as fn-records-rq-take
+use Rattle.records.proofs.rq.take.Symbol as fn-records-rq-take-def
+use Rattle.records.proofs.rq.take.Met as fn-records-rq-take-thm
 use Rattle.sched_queues.proofs.queues.is_nobody as fn-sched-queues-queues-is-nobody
 use Rattle.sched_queues.proofs.queues.is_nobody.Symbol as fn-sched-queues-queues-is-nobody-def
 use Rattle.sched_queues.proofs.queues.is_nobody.Met as fn-sched-queues-queues-is-nobody-thm
 use Rattle.sched_queues.proofs.queues.thread_of as fn-sched-queues-queues-thread-of
 use Rattle.sched_queues.proofs.queues.thread_of.Symbol as fn-sched-queues-queues-thread-of-def
 use Rattle.sched_queues.proofs.queues.thread_of.Met as fn-sched-queues-queues-thread-of-thm
-use Rattle.lent.proofs.records.get as fn-lent-records-get
-use Rattle.lent.proofs.records.get.Symbol as fn-lent-records-get-def
-use Rattle.lent.proofs.records.get.Met as fn-lent-records-get-thm
+use Rattle.records.proofs.record.get as fn-records-record-get
+use Rattle.records.proofs.record.get.Symbol as fn-records-record-get-def
+use Rattle.records.proofs.record.get.Met as fn-records-record-get-thm
 use Rattle.thread.proofs.Thread.moving_to_queue as fn-thread-Thread-moving-to-queue
 use Rattle.thread.proofs.Thread.moving_to_queue.Symbol as fn-thread-Thread-moving-to-queue-def
 use Rattle.thread.proofs.Thread.moving_to_queue.Met as fn-thread-Thread-moving-to-queue-thm
-use Rattle.lent.proofs.records.set as fn-lent-records-set
-use Rattle.lent.proofs.records.set.Symbol as fn-lent-records-set-def
-use Rattle.lent.proofs.records.set.Met as fn-lent-records-set-thm
+use Rattle.records.proofs.record.set as fn-records-record-set
+use Rattle.records.proofs.record.set.Symbol as fn-records-record-set-def
+use Rattle.records.proofs.record.set.Met as fn-records-record-set-thm
 use Rattle.sched_queues.proofs.queues.take_a_thread_from_cpu.Key.{name as #take-a-thread-from-cpu}
 use Rattle.sched_queues.proofs.queues.take_a_thread_from_cpu as take-a-thread-from-cpu
 use Rattle.sched_queues.proofs.queues.take_a_thread_from_cpu.Statement as stated
@@ -120,23 +120,23 @@ module _ {M : Type 1} (𝓤 : URA M) (H : Heap 𝓤) (𝓜 : Model 𝓤 H) (𝓖
     Post = walkOf 𝓤 H A take-a-thread-from-cpu.ended stayed c .post y
 
     abbrev V₁ : Left Taken Memory
-    V₁ = takeDef (a .0) (not (eqb (a .1 .0) (a .0))) (record { threads = ys; cpus = ys′ })
+    V₁ = take-def (a .0) (not (eqb (a .1 .0) (a .0))) (record { threads = ys; cpus = ys′ })
 
     abbrev V₂ : Thread
-    V₂ = getD (V₁ .memory .threads) (threadOf (V₁ .answer)) blank
+    V₂ = getD (V₁ .memory .threads) (thread-of (V₁ .answer)) blank
 
     abbrev V₃ : Thread
     V₃ = moving-to-queue V₂ (a .1 .0)
 
     abbrev V₄ : List Thread
-    V₄ = set (V₁ .memory .threads) (threadOf (V₁ .answer)) V₃
+    V₄ = set (V₁ .memory .threads) (thread-of (V₁ .answer)) V₃
 
     module _ (l₀ l₁ l₂ l₃ l₄ l₅ l₆ l₇ l₈ l₉ l₁₀ l₁₁ l₁₂ l₁₃ l₁₄ l₁₅ l₁₆ l₁₇ l₁₈ l₁₉ : ℕ) where
       abbrev En : Env 𝓤 H
       En = env-of mir.locals (l₀ ∷ l₁ ∷ l₂ ∷ l₃ ∷ l₄ ∷ l₅ ∷ l₆ ∷ l₇ ∷ l₈ ∷ l₉ ∷ l₁₀ ∷ l₁₁ ∷ l₁₂ ∷ l₁₃ ∷ l₁₄ ∷ l₁₅ ∷ l₁₆ ∷ l₁₇ ∷ l₁₈ ∷ l₁₉ ∷ [])
 
-      part-17 : (e₁₀₀ : n ≡ length (V₄)) (e₁₀₁ : n′ ≡ length (V₁ .memory .cpus)) (c₆ : Is Taken·.the-row (V₁ .answer) (Taken° .val (V₁ .answer) ∷ [])) (h₁ : Holds (not (isNobody (V₁ .answer)))) → Sq W (‵ (row Thread·.the-row fullShare (V₄) b o) ∷ ‵ (kept Thread·.the-row κ q γ b o ys) ∷ ‵ (row (Array u64 96) fullShare (V₁ .memory .cpus) b′ o′) ∷ ‵ (kept (Array u64 96) κ′ q′ γ′ b′ o′ ys′) ∷ standing 𝓤 mir.locals (l₀ ∷ l₁ ∷ l₂ ∷ l₃ ∷ l₄ ∷ l₅ ∷ l₆ ∷ l₇ ∷ l₈ ∷ l₉ ∷ l₁₀ ∷ l₁₁ ∷ l₁₂ ∷ l₁₃ ∷ l₁₄ ∷ l₁₅ ∷ l₁₆ ∷ l₁₇ ∷ l₁₈ ∷ l₁₉ ∷ []) (bare ∷ full s ∷ full s′ ∷ full ((number w64) .val (a .0)) ∷ full ((number w64) .val (a .1 .0)) ∷ bare ∷ full (Taken° .val (V₁ .answer)) ∷ bare ∷ bare ∷ bare ∷ bare ∷ bare ∷ bare ∷ bare ∷ bare ∷ bare ∷ bare ∷ bare ∷ bare ∷ bare ∷ []) []) (runs C Λ En mir.t-17 (atRet En Post))
-      unfolding takeFrom movedFor
+      part-17 : (e₁₀₀ : n ≡ length (V₄)) (e₁₀₁ : n′ ≡ length (V₁ .memory .cpus)) (c₆ : Is Taken·.the-row (V₁ .answer) (Taken° .val (V₁ .answer) ∷ [])) (h₁ : Holds (not (is-nobody (V₁ .answer)))) → Sq W (‵ (row Thread·.the-row fullShare (V₄) b o) ∷ ‵ (kept Thread·.the-row κ q γ b o ys) ∷ ‵ (row (Array u64 96) fullShare (V₁ .memory .cpus) b′ o′) ∷ ‵ (kept (Array u64 96) κ′ q′ γ′ b′ o′ ys′) ∷ standing 𝓤 mir.locals (l₀ ∷ l₁ ∷ l₂ ∷ l₃ ∷ l₄ ∷ l₅ ∷ l₆ ∷ l₇ ∷ l₈ ∷ l₉ ∷ l₁₀ ∷ l₁₁ ∷ l₁₂ ∷ l₁₃ ∷ l₁₄ ∷ l₁₅ ∷ l₁₆ ∷ l₁₇ ∷ l₁₈ ∷ l₁₉ ∷ []) (bare ∷ full s ∷ full s′ ∷ full ((number w64) .val (a .0)) ∷ full ((number w64) .val (a .1 .0)) ∷ bare ∷ full (Taken° .val (V₁ .answer)) ∷ bare ∷ bare ∷ bare ∷ bare ∷ bare ∷ bare ∷ bare ∷ bare ∷ bare ∷ bare ∷ bare ∷ bare ∷ bare ∷ []) []) (runs C Λ En mir.t-17 (atRet En Post))
+      unfolding take-from moved-for-def
       part-17 e₁₀₀ e₁₀₁ c₆ h₁ =
           assigns ! (of-opd ! (load ! (from ! (stop !)) (look ! 30 refl))) (from ! (stop !)) (init ! 42 refl (Taken° .typed 𝓤 H A W (V₁ .answer) (c₆) .0)) $
           move ! (2 ∷ 3 ∷ []) $
@@ -146,11 +146,11 @@ module _ {M : Type 1} (𝓤 : URA M) (H : Heap 𝓤) (𝓜 : Model 𝓤 H) (𝓖
           returns ! (look ! 42 refl) $
           move ! (42 ∷ 43 ∷ 40 ∷ 41 ∷ 38 ∷ 39 ∷ 36 ∷ 37 ∷ 34 ∷ 35 ∷ 32 ∷ 33 ∷ 30 ∷ 31 ∷ 28 ∷ 29 ∷ 26 ∷ 27 ∷ 24 ∷ 25 ∷ 22 ∷ 23 ∷ 20 ∷ 21 ∷ 18 ∷ 19 ∷ 16 ∷ 17 ∷ 14 ∷ 15 ∷ 12 ∷ 13 ∷ 10 ∷ 11 ∷ 8 ∷ 9 ∷ 6 ∷ 7 ∷ 4 ∷ 5 ∷ []) $
           all-freed ! mir.locals (l₀ ∷ l₁ ∷ l₂ ∷ l₃ ∷ l₄ ∷ l₅ ∷ l₆ ∷ l₇ ∷ l₈ ∷ l₉ ∷ l₁₀ ∷ l₁₁ ∷ l₁₂ ∷ l₁₃ ∷ l₁₄ ∷ l₁₅ ∷ l₁₆ ∷ l₁₇ ∷ l₁₈ ∷ l₁₉ ∷ []) (full _ ∷ full _ ∷ full _ ∷ full _ ∷ full _ ∷ bare ∷ full _ ∷ bare ∷ bare ∷ bare ∷ bare ∷ bare ∷ bare ∷ bare ∷ bare ∷ bare ∷ bare ∷ bare ∷ bare ∷ bare ∷ []) tt $
-          suffices ! _ (ends-at 𝓤 H A take-a-thread-from-cpu.ended stayed c W y _ (V₁ .answer) (V₄, (V₁ .memory .cpus, (tt, (tt, tt)))) (sym e₁₀₀, (sym e₁₀₁, (tt, (tt, tt))))) $ says ! (so {X = Left Taken Memory} (record { answer = (V₁ .answer); memory = record { threads = V₄; cpus = (V₁ .memory .cpus) } }) (takeFrom (a .0) (a .1 .0) (record { threads = ys; cpus = ys′ })) ((no (isNobody (V₁ .answer)) h₁ _ (refl)))) $
+          suffices ! _ (ends-at 𝓤 H A take-a-thread-from-cpu.ended stayed c W y _ (V₁ .answer) (V₄, (V₁ .memory .cpus, (tt, (tt, tt)))) (sym e₁₀₀, (sym e₁₀₁, (tt, (tt, tt))))) $ says ! (so {X = Left Taken Memory} (record { answer = (V₁ .answer); memory = record { threads = V₄; cpus = (V₁ .memory .cpus) } }) (take-from (a .0) (a .1 .0) (record { threads = ys; cpus = ys′ })) ((no (is-nobody (V₁ .answer)) h₁ _ (refl)))) $
           leaves2 ! Taken° Ds a (V₁ .answer) are (c₆)
 
     walk : ent 𝓤 (onEntry 𝓤 H A take-a-thread-from-cpu.signature (κ, (κ′, tt)) (q, (q′, tt)) ((lent-as b o γ ys, (lent-as b′ o′ γ′ ys′, a))) ((s ∷ [], (s′ ∷ [], spell Ds a)))) (WpFn 𝓤 H C Λ code.function (s ∷ s′ ∷ listed Ds a) Post)
-    unfolding takeFrom movedFor
+    unfolding take-from moved-for-def
     walk =
         qed W ((‵ (flft κ q) ⊛ (‵ (flft κ′ q′) ⊛ (‵ ftrue))) ∷ ‵ (owns (MutSlice (named 0) κ Thread·.the-row ∷ MutSlice (named 1) κ′ (Array u64 96) ∷ u64 ∷ u64 ∷ []) ((lent-as b o γ ys, (lent-as b′ o′ γ′ ys′, a))) ((s ∷ [], (s′ ∷ [], spell Ds a)))) ∷ []) ∵ begins2 ! $ enter ! C _ code.function (s ∷ s′ ∷ listed Ds a) _ $
         alloc1 ! (λ l₀. alloc1 ! (λ l₁. alloc1 ! (λ l₂. alloc1 ! (λ l₃. alloc1 ! (λ l₄. alloc1 ! (λ l₅. alloc1 ! (λ l₆. alloc1 ! (λ l₇. alloc1 ! (λ l₈. alloc1 ! (λ l₉. alloc1 ! (λ l₁₀. alloc1 ! (λ l₁₁. alloc1 ! (λ l₁₂. alloc1 ! (λ l₁₃. alloc1 ! (λ l₁₄. alloc1 ! (λ l₁₅. alloc1 ! (λ l₁₆. alloc1 ! (λ l₁₇. alloc1 ! (λ l₁₈. alloc1 ! (λ l₁₉. alloc0 ! $ params1 ! $
@@ -170,7 +170,7 @@ module _ {M : Type 1} (𝓤 : URA M) (H : Heap 𝓤) (𝓜 : Model 𝓤 H) (𝓖
         move ! (1 ∷ 0 ∷ []) $
         join ! $
         call-left Taken° (number w64 ∷ truth ∷ []) ((a .0, (not (eqb (a .1 .0) (a .0)), tt))) (emp 𝓤) ((mutable Thread·.the-row ys b o n refl room) ∷ (mutable (Array u64 96) ys′ b′ o′ n′ refl room′) ∷ []) ! fm (λ r ws. (r ≡ (V₁ .answer)) × ((ws .0 ≡ (V₁ .memory .threads)) × (ws .1 .0 ≡ (V₁ .memory .cpus)))) (λ r ws. _≡_ {A = Left Taken Memory} (record { answer = r; memory = record { threads = ws .0; cpus = ws .1 .0 } }) V₁) (λ r ws e. (ap (λ (z : Left Taken Memory). z .answer) e, (ap (λ (z : Left Taken Memory). z .memory .threads) e, ap (λ (z : Left Taken Memory). z .memory .cpus) e))) ((are .0, (refl, tt))) (id⊢ 𝓤 (emp 𝓤))
-        (λ νs. cited 𝓤 H (tripleOf 𝓤 H A fn-lent-rq-take.signature (fn-lent-rq-take.spec 𝓤 H A (𝓜 .mem) (𝓡 .run))) 𝓜 𝓡 code.env fn-lent-rq-take-def.name fn-lent-rq-take-def.routine code.calls-lent·rq·take (fn-lent-rq-take-thm.met 𝓤 H 𝓜 𝓖 𝓡) (((νs .0 .0 ∷ [], (νs .1 .0 .0 ∷ [], tt)), (fullShare, (fullShare, tt)), tt, (lent-as b o (νs .0 .1) ys, (lent-as b′ o′ (νs .1 .0 .1) ys′, (a .0, (not (eqb (a .1 .0) (a .0)), tt)))), (slice-of b o ys ∷ [], (slice-of b′ o′ ys′ ∷ [], spell (number w64 ∷ truth ∷ []) ((a .0, (not (eqb (a .1 .0) (a .0)), tt)))))), tt))
+        (λ νs. cited 𝓤 H (tripleOf 𝓤 H A fn-records-rq-take.signature (fn-records-rq-take.spec 𝓤 H A (𝓜 .mem) (𝓡 .run))) 𝓜 𝓡 code.env fn-records-rq-take-def.name fn-records-rq-take-def.routine code.calls-records·rq·take (fn-records-rq-take-thm.met 𝓤 H 𝓜 𝓖 𝓡) (((νs .0 .0 ∷ [], (νs .1 .0 .0 ∷ [], tt)), (fullShare, (fullShare, tt)), tt, (lent-as b o (νs .0 .1) ys, (lent-as b′ o′ (νs .1 .0 .1) ys′, (a .0, (not (eqb (a .1 .0) (a .0)), tt)))), (slice-of b o ys ∷ [], (slice-of b′ o′ ys′ ∷ [], spell (number w64 ∷ truth ∷ []) ((a .0, (not (eqb (a .1 .0) (a .0)), tt)))))), tt))
         (λ k. and-then ! (load ! (from ! (stop !)) (look ! 19 refl)) (and-then ! (load ! (from ! (stop !)) (look ! 15 refl)) (and-then ! (load ! (from ! (stop !)) (look ! 35 refl)) (and-then ! (load ! (from ! (stop !)) (look ! 31 refl)) (no-more !))))) (λ r₁ ws₂ is₃ ls₄ e₅.
         split ! $
         move ! (1 ∷ []) $
@@ -182,7 +182,7 @@ module _ {M : Type 1} (𝓤 : URA M) (H : Heap 𝓤) (𝓜 : Model 𝓤 H) (𝓖
         told ! Taken° (e₅ .0) is₃ (λ is₆.
         land ! (from ! (stop !)) (init ! 30 refl (Taken° .typed 𝓤 H A W (V₁ .answer) (is₆) .0)) $
         nothing ! $
-        call-slices truth (Taken° ∷ []) ((V₁ .answer, tt)) (emp 𝓤) ([]) ! fm (λ r ws. r ≡ (isNobody (V₁ .answer))) ((is₆, tt)) (id⊢ 𝓤 (emp 𝓤))
+        call-slices truth (Taken° ∷ []) ((V₁ .answer, tt)) (emp 𝓤) ([]) ! fm (λ r ws. r ≡ (is-nobody (V₁ .answer))) ((is₆, tt)) (id⊢ 𝓤 (emp 𝓤))
         (λ νs. cited 𝓤 H (tripleOf 𝓤 H A fn-sched-queues-queues-is-nobody.signature (fn-sched-queues-queues-is-nobody.spec 𝓤 H A (𝓜 .mem) (𝓡 .run))) 𝓜 𝓡 code.env fn-sched-queues-queues-is-nobody-def.name fn-sched-queues-queues-is-nobody-def.routine code.calls-sched-queues·queues·is-nobody (fn-sched-queues-queues-is-nobody-thm.met 𝓤 H 𝓜 𝓖 𝓡) ((tt, tt, tt, (V₁ .answer, tt), spell (Taken° ∷ []) ((V₁ .answer, tt))), tt))
         (λ k. and-then ! (load ! (from ! (stop !)) (look ! 31 refl)) (no-more !)) (λ r₇ ws₈ is₉ ls₁₀ e₁₁.
         drop ! $
@@ -198,23 +198,23 @@ module _ {M : Type 1} (𝓤 : URA M) (H : Heap 𝓤) (𝓜 : Model 𝓤 H) (𝓖
         returns-within ! Post refl (look ! 42 refl) $
         move ! (42 ∷ 43 ∷ 40 ∷ 41 ∷ 38 ∷ 39 ∷ 36 ∷ 37 ∷ 34 ∷ 35 ∷ 32 ∷ 33 ∷ 30 ∷ 31 ∷ 28 ∷ 29 ∷ 26 ∷ 27 ∷ 24 ∷ 25 ∷ 22 ∷ 23 ∷ 20 ∷ 21 ∷ 18 ∷ 19 ∷ 16 ∷ 17 ∷ 14 ∷ 15 ∷ 12 ∷ 13 ∷ 10 ∷ 11 ∷ 8 ∷ 9 ∷ 6 ∷ 7 ∷ 4 ∷ 5 ∷ []) $
         all-freed ! mir.locals (l₀ ∷ l₁ ∷ l₂ ∷ l₃ ∷ l₄ ∷ l₅ ∷ l₆ ∷ l₇ ∷ l₈ ∷ l₉ ∷ l₁₀ ∷ l₁₁ ∷ l₁₂ ∷ l₁₃ ∷ l₁₄ ∷ l₁₅ ∷ l₁₆ ∷ l₁₇ ∷ l₁₈ ∷ l₁₉ ∷ []) (full _ ∷ full _ ∷ full _ ∷ full _ ∷ full _ ∷ full _ ∷ full _ ∷ bare ∷ bare ∷ bare ∷ full _ ∷ full _ ∷ full _ ∷ full _ ∷ full _ ∷ bare ∷ bare ∷ bare ∷ bare ∷ bare ∷ []) tt $
-        suffices ! _ (ends-at 𝓤 H A take-a-thread-from-cpu.ended stayed c W y _ (V₁ .answer) (V₁ .memory .threads, (V₁ .memory .cpus, (tt, (tt, tt)))) (sym ((refl ∙ sym (subst (λ (us : List Thread). length us ≡ length ys) (e₅ .1 .0) (ls₄ .0)))), (sym ((refl ∙ sym (subst (λ (us : List (List ℕ)). length us ≡ length ys′) (e₅ .1 .1) (ls₄ .1 .0)))), (tt, (tt, tt))))) $ says ! (so {X = Left Taken Memory} (record { answer = (V₁ .answer); memory = record { threads = (V₁ .memory .threads); cpus = (V₁ .memory .cpus) } }) (takeFrom (a .0) (a .1 .0) (record { threads = ys; cpus = ys′ })) ((yes (isNobody (V₁ .answer)) h₁ _ (refl)))) $
+        suffices ! _ (ends-at 𝓤 H A take-a-thread-from-cpu.ended stayed c W y _ (V₁ .answer) (V₁ .memory .threads, (V₁ .memory .cpus, (tt, (tt, tt)))) (sym ((refl ∙ sym (subst (λ (us : List Thread). length us ≡ length ys) (e₅ .1 .0) (ls₄ .0)))), (sym ((refl ∙ sym (subst (λ (us : List (List ℕ)). length us ≡ length ys′) (e₅ .1 .1) (ls₄ .1 .0)))), (tt, (tt, tt))))) $ says ! (so {X = Left Taken Memory} (record { answer = (V₁ .answer); memory = record { threads = (V₁ .memory .threads); cpus = (V₁ .memory .cpus) } }) (take-from (a .0) (a .1 .0) (record { threads = ys; cpus = ys′ })) ((yes (is-nobody (V₁ .answer)) h₁ _ (refl)))) $
         leaves2 ! Taken° Ds a (V₁ .answer) are (is₆))
         (λ h₁.
         nothing ! $
-        call-slices (number w64) (Taken° ∷ []) ((V₁ .answer, tt)) (emp 𝓤) ([]) ! fm (λ r ws. r ≡ (threadOf (V₁ .answer))) ((is₆, tt)) (id⊢ 𝓤 (emp 𝓤))
+        call-slices (number w64) (Taken° ∷ []) ((V₁ .answer, tt)) (emp 𝓤) ([]) ! fm (λ r ws. r ≡ (thread-of (V₁ .answer))) ((is₆, tt)) (id⊢ 𝓤 (emp 𝓤))
         (λ νs. cited 𝓤 H (tripleOf 𝓤 H A fn-sched-queues-queues-thread-of.signature (fn-sched-queues-queues-thread-of.spec 𝓤 H A (𝓜 .mem) (𝓡 .run))) 𝓜 𝓡 code.env fn-sched-queues-queues-thread-of-def.name fn-sched-queues-queues-thread-of-def.routine code.calls-sched-queues·queues·thread-of (fn-sched-queues-queues-thread-of-thm.met 𝓤 H 𝓜 𝓖 𝓡) ((tt, tt, tt, (V₁ .answer, tt), spell (Taken° ∷ []) ((V₁ .answer, tt))), tt))
         (λ k. and-then ! (load ! (from ! (stop !)) (look ! 31 refl)) (no-more !)) (λ r₁₃ ws₁₄ is₁₅ ls₁₆ e₁₇.
         drop ! $
         told ! (number w64) (e₁₇) is₁₅ (λ is₁₈.
-        land ! (from ! (stop !)) (init ! 28 refl ((number w64) .typed 𝓤 H A W (threadOf (V₁ .answer)) (is₁₈) .0)) $
+        land ! (from ! (stop !)) (init ! 28 refl ((number w64) .typed 𝓤 H A W (thread-of (V₁ .answer)) (is₁₈) .0)) $
         assigns ! (addr ! (from ! (fld ! refl (hop ! (look-in ! 40 (sub ! 0 refl (whole !))) (stop !))))) (from ! (stop !)) (init ! 12 refl (tt, tt)) $
         assigns ! (agg ! (and-then ! (load ! (from ! (stop !)) (look ! 12 refl)) (and-then ! (load ! (from ! (fld ! refl (stop !))) (look-in ! 40 (sub ! 1 refl (whole !)))) (no-more !)))) (from ! (stop !)) (init ! 10 refl (tt, (tt, (record { fits = room .0 }, tt)))) $
         nothing ! $
         move ! (2 ∷ 0 ∷ []) $
         join ! $
-        call-slices Thread° (number w64 ∷ []) ((threadOf (V₁ .answer), tt)) (emp 𝓤) ((shared Thread·.the-row (V₁ .memory .threads) b o n ((refl ∙ sym (subst (λ (us : List Thread). length us ≡ length ys) (e₅ .1 .0) (ls₄ .0)))) room) ∷ []) ! fm (λ r ws. r ≡ V₂) ((is₁₈, tt)) (id⊢ 𝓤 (emp 𝓤))
-        (λ νs. cited 𝓤 H (tripleOf 𝓤 H A fn-lent-records-get.signature (fn-lent-records-get.spec 𝓤 H A (𝓜 .mem) (𝓡 .run))) 𝓜 𝓡 code.env fn-lent-records-get-def.name fn-lent-records-get-def.routine code.calls-lent·records·get (fn-lent-records-get-thm.met 𝓤 H 𝓜 𝓖 𝓡) (((νs .0 .0 ∷ [], tt), (fullShare, tt), tt, (lent-as b o (νs .0 .1) (V₁ .memory .threads), (threadOf (V₁ .answer), tt)), (slice-of b o (V₁ .memory .threads) ∷ [], spell (number w64 ∷ []) ((threadOf (V₁ .answer), tt)))), tt))
+        call-slices Thread° (number w64 ∷ []) ((thread-of (V₁ .answer), tt)) (emp 𝓤) ((shared Thread·.the-row (V₁ .memory .threads) b o n ((refl ∙ sym (subst (λ (us : List Thread). length us ≡ length ys) (e₅ .1 .0) (ls₄ .0)))) room) ∷ []) ! fm (λ r ws. r ≡ V₂) ((is₁₈, tt)) (id⊢ 𝓤 (emp 𝓤))
+        (λ νs. cited 𝓤 H (tripleOf 𝓤 H A fn-records-record-get.signature (fn-records-record-get.spec 𝓤 H A (𝓜 .mem) (𝓡 .run))) 𝓜 𝓡 code.env fn-records-record-get-def.name fn-records-record-get-def.routine code.calls-records·record·get (fn-records-record-get-thm.met 𝓤 H 𝓜 𝓖 𝓡) (((νs .0 .0 ∷ [], tt), (fullShare, tt), tt, (lent-as b o (νs .0 .1) (V₁ .memory .threads), (thread-of (V₁ .answer), tt)), (slice-of b o (V₁ .memory .threads) ∷ [], spell (number w64 ∷ []) ((thread-of (V₁ .answer), tt)))), tt))
         (λ k. and-then ! (load ! (from ! (stop !)) (look ! 10 refl)) (and-then ! (load ! (from ! (stop !)) (look ! 28 refl)) (no-more !))) (λ r₁₉ ws₂₀ is₂₁ ls₂₂ e₂₃.
         split ! $
         move ! (1 ∷ []) $
@@ -233,8 +233,8 @@ module _ {M : Type 1} (𝓤 : URA M) (H : Heap 𝓤) (𝓜 : Model 𝓤 H) (𝓖
         nothing ! $
         move ! (1 ∷ 0 ∷ []) $
         join ! $
-        call-slices nil (number w64 ∷ Thread° ∷ []) ((threadOf (V₁ .answer), (V₃, tt))) (emp 𝓤) ((mutable Thread·.the-row (V₁ .memory .threads) b o n ((refl ∙ sym (subst (λ (us : List Thread). length us ≡ length ys) (e₅ .1 .0) (ls₄ .0)))) room) ∷ []) ! fm (λ r ws. ws .0 ≡ V₄) ((is₁₈, (is₃₀, tt))) (id⊢ 𝓤 (emp 𝓤))
-        (λ νs. cited 𝓤 H (tripleOf 𝓤 H A fn-lent-records-set.signature (fn-lent-records-set.spec 𝓤 H A (𝓜 .mem) (𝓡 .run))) 𝓜 𝓡 code.env fn-lent-records-set-def.name fn-lent-records-set-def.routine code.calls-lent·records·set (fn-lent-records-set-thm.met 𝓤 H 𝓜 𝓖 𝓡) (((νs .0 .0 ∷ [], tt), (fullShare, tt), tt, (lent-as b o (νs .0 .1) (V₁ .memory .threads), (threadOf (V₁ .answer), (V₃, tt))), (slice-of b o (V₁ .memory .threads) ∷ [], spell (number w64 ∷ Thread° ∷ []) ((threadOf (V₁ .answer), (V₃, tt))))), tt))
+        call-slices nil (number w64 ∷ Thread° ∷ []) ((thread-of (V₁ .answer), (V₃, tt))) (emp 𝓤) ((mutable Thread·.the-row (V₁ .memory .threads) b o n ((refl ∙ sym (subst (λ (us : List Thread). length us ≡ length ys) (e₅ .1 .0) (ls₄ .0)))) room) ∷ []) ! fm (λ r ws. ws .0 ≡ V₄) ((is₁₈, (is₃₀, tt))) (id⊢ 𝓤 (emp 𝓤))
+        (λ νs. cited 𝓤 H (tripleOf 𝓤 H A fn-records-record-set.signature (fn-records-record-set.spec 𝓤 H A (𝓜 .mem) (𝓡 .run))) 𝓜 𝓡 code.env fn-records-record-set-def.name fn-records-record-set-def.routine code.calls-records·record·set (fn-records-record-set-thm.met 𝓤 H 𝓜 𝓖 𝓡) (((νs .0 .0 ∷ [], tt), (fullShare, tt), tt, (lent-as b o (νs .0 .1) (V₁ .memory .threads), (thread-of (V₁ .answer), (V₃, tt))), (slice-of b o (V₁ .memory .threads) ∷ [], spell (number w64 ∷ Thread° ∷ []) ((thread-of (V₁ .answer), (V₃, tt))))), tt))
         (λ k. and-then ! (load ! (from ! (stop !)) (look ! 4 refl)) (and-then ! (load ! (from ! (stop !)) (look ! 28 refl)) (and-then ! (load ! (from ! (stop !)) (look ! 24 refl)) (no-more !)))) (λ r₃₁ ws₃₂ is₃₃ ls₃₄ e₃₅.
         split ! $
         move ! (1 ∷ []) $

@@ -1,4 +1,4 @@
-use Rattle.sched_queues.specs.Queues.{threadOf}
+use Rattle.sched_queues.specs.Queues.{thread-of}
 use borrow.Author.Needs.{needs}
 use Rattle.sched_queues.proofs.queues.thread_of.Statement.{statement}
 use Rattle.sched_queues.proofs.queues.thread_of.Tie as tie
@@ -10,11 +10,11 @@ enum-told : tie.Need-enum-told
 enum-told c = search needs
 
 returns : tie.Need-returns
-unfolding threadOf
+unfolding thread-of
 returns c = rw (c .before .t .given .1)
 
 returns-2 : tie.Need-returns-2
-unfolding threadOf
+unfolding thread-of
 returns-2 c = search needs
 
 pub thread-of-spec : {M : Type 1} → statement M

@@ -31,14 +31,14 @@ use denote.Triple.Table.{cited}
 use denote.Triple.Clauses.{Clauses}
 use denote.Triple.Walked.{says, Stays, stay-none, stay-slice, walkOf, goes-none, goes-slice, ends-at}
 use denote.Exit.{yes as kept-yes}
-use Rattle.lent.proofs.Walk.{Datum, number, struct, Dens, AreD, listed, spell, lent-as, slice-of, kept, opened, closed, full, told, proved}
-use Rattle.lent.proofs.Lent.{mutable, call-left, all-freed, so, begins2, leaves2}
-use Rattle.lent.specs.Left.{Memory, Left}
-use Rattle.sched_queues.specs.Queues.{wakeDef, scheduleThreadOnCpu}
+use Rattle.records.proofs.Walk.{Datum, number, struct, Dens, AreD, listed, spell, lent-as, slice-of, kept, opened, closed, full, told, proved}
+use Rattle.records.proofs.Lent.{mutable, call-left, all-freed, so, begins2, leaves2}
+use Rattle.records.specs.Left.{Memory, Left}
+use Rattle.sched_queues.specs.Queues.{wake-def, schedule-thread-on-cpu-def}
 use denote.Struct.Laws as LL
-use Rattle.step.specs.declared.context.Context.{Context}
-use Rattle.step.proofs.context.Context as Context·
-use Rattle.step.proofs.context.Context.Laws as Context·laws
+use Rattle.sched_words.specs.declared.context.Context.{Context}
+use Rattle.sched_words.proofs.context.Context as Context·
+use Rattle.sched_words.proofs.context.Context.Laws as Context·laws
 use Rattle.thread.specs.declared.Thread.{Thread}
 use Rattle.thread.proofs.Thread as Thread·
 use Rattle.thread.proofs.Thread.Laws as Thread·laws
@@ -99,10 +99,10 @@ module _ {M : Type 1} (𝓤 : URA M) (H : Heap 𝓤) (𝓜 : Model 𝓤 H) (𝓖
     Post = walkOf 𝓤 H A wake.ended stayed c .post y
 
     abbrev V₁ : Left ℕ Memory
-    V₁ = scheduleThreadOnCpu (a .0) (a .1 .0) (a .1 .1 .0) (a .1 .1 .1 .0) (record { threads = ys; cpus = ys′ })
+    V₁ = schedule-thread-on-cpu-def (a .0) (a .1 .0) (a .1 .1 .0) (a .1 .1 .1 .0) (record { threads = ys; cpus = ys′ })
 
     walk : ent 𝓤 (onEntry 𝓤 H A wake.signature (κ, (κ′, tt)) (q, (q′, tt)) ((lent-as b o γ ys, (lent-as b′ o′ γ′ ys′, a))) ((s ∷ [], (s′ ∷ [], spell Ds a)))) (WpFn 𝓤 H C Λ code.function (s ∷ s′ ∷ listed Ds a) Post)
-    unfolding wakeDef
+    unfolding wake-def
     walk =
         qed W ((‵ (flft κ q) ⊛ (‵ (flft κ′ q′) ⊛ (‵ ftrue))) ∷ ‵ (owns (MutSlice (named 0) κ Thread·.the-row ∷ MutSlice (named 1) κ′ (Array u64 96) ∷ Context·.the-row ∷ u64 ∷ u64 ∷ u64 ∷ []) ((lent-as b o γ ys, (lent-as b′ o′ γ′ ys′, a))) ((s ∷ [], (s′ ∷ [], spell Ds a)))) ∷ []) ∵ begins2 ! $ enter ! C _ code.function (s ∷ s′ ∷ listed Ds a) _ $
         alloc1 ! (λ l₀. alloc1 ! (λ l₁. alloc1 ! (λ l₂. alloc1 ! (λ l₃. alloc1 ! (λ l₄. alloc1 ! (λ l₅. alloc1 ! (λ l₆. alloc1 ! (λ l₇. alloc1 ! (λ l₈. alloc1 ! (λ l₉. alloc1 ! (λ l₁₀. alloc0 ! $ params1 ! $
@@ -139,7 +139,7 @@ module _ {M : Type 1} (𝓤 : URA M) (H : Heap 𝓤) (𝓜 : Model 𝓤 H) (𝓖
         returns ! (look ! 24 refl) $
         move ! (24 ∷ 25 ∷ 22 ∷ 23 ∷ 20 ∷ 21 ∷ 18 ∷ 19 ∷ 16 ∷ 17 ∷ 14 ∷ 15 ∷ 12 ∷ 13 ∷ 10 ∷ 11 ∷ 8 ∷ 9 ∷ 6 ∷ 7 ∷ 4 ∷ 5 ∷ []) $
         all-freed ! mir.locals (l₀ ∷ l₁ ∷ l₂ ∷ l₃ ∷ l₄ ∷ l₅ ∷ l₆ ∷ l₇ ∷ l₈ ∷ l₉ ∷ l₁₀ ∷ []) (full _ ∷ full _ ∷ full _ ∷ full _ ∷ full _ ∷ full _ ∷ full _ ∷ full _ ∷ full _ ∷ full _ ∷ full _ ∷ []) tt $
-        suffices ! _ (ends-at 𝓤 H A wake.ended stayed c W y _ (V₁ .answer) (V₁ .memory .threads, (V₁ .memory .cpus, (tt, (tt, (tt, (tt, tt)))))) (sym ((refl ∙ sym (subst (λ (us : List Thread). length us ≡ length ys) (e₅ .1 .0) (ls₄ .0)))), (sym ((refl ∙ sym (subst (λ (us : List (List ℕ)). length us ≡ length ys′) (e₅ .1 .1) (ls₄ .1 .0)))), (tt, (tt, (tt, (tt, tt))))))) $ says ! (so {X = Left ℕ Memory} (record { answer = (V₁ .answer); memory = record { threads = (V₁ .memory .threads); cpus = (V₁ .memory .cpus) } }) (wakeDef (a .0) (a .1 .0) (a .1 .1 .0) (a .1 .1 .1 .0) (record { threads = ys; cpus = ys′ })) (refl)) $
+        suffices ! _ (ends-at 𝓤 H A wake.ended stayed c W y _ (V₁ .answer) (V₁ .memory .threads, (V₁ .memory .cpus, (tt, (tt, (tt, (tt, tt)))))) (sym ((refl ∙ sym (subst (λ (us : List Thread). length us ≡ length ys) (e₅ .1 .0) (ls₄ .0)))), (sym ((refl ∙ sym (subst (λ (us : List (List ℕ)). length us ≡ length ys′) (e₅ .1 .1) (ls₄ .1 .0)))), (tt, (tt, (tt, (tt, tt))))))) $ says ! (so {X = Left ℕ Memory} (record { answer = (V₁ .answer); memory = record { threads = (V₁ .memory .threads); cpus = (V₁ .memory .cpus) } }) (wake-def (a .0) (a .1 .0) (a .1 .1 .0) (a .1 .1 .1 .0) (record { threads = ys; cpus = ys′ })) (refl)) $
         leaves2 ! (number w64) Ds a (V₁ .answer) are (is₆))))))))))))))
 
 pub wake-spec : {M : Type 1} → stated.statement M

@@ -31,27 +31,27 @@ use denote.Triple.Table.{cited}
 use denote.Triple.Clauses.{Clauses}
 use denote.Triple.Walked.{says, Stays, stay-none, stay-slice, stay-none-slice, walkOf, goes-none, goes-slice, goes-none-slice, ends-at}
 use denote.Exit.{yes as kept-yes}
-use Rattle.lent.proofs.Walk.{Datum, number, struct, Dens, AreD, listed, spell, lent-as, slice-of, kept, opened, closed, full, told, proved}
-use Rattle.lent.proofs.Lent.{mutable, passed, call-slices, call-left, all-freed, so, begins3, leaves3}
-use Rattle.lent.specs.Left.{Memory, Left}
-use Rattle.sched_ticks.specs.Balance.{balanceDef, moveOne, moveTwo}
-use Rattle.step.specs.Balance.{begun, moved, findMove}
+use Rattle.records.proofs.Walk.{Datum, number, struct, Dens, AreD, listed, spell, lent-as, slice-of, kept, opened, closed, full, told, proved}
+use Rattle.records.proofs.Lent.{mutable, passed, call-slices, call-left, all-freed, so, begins3, leaves3}
+use Rattle.records.specs.Left.{Memory, Left}
+use Rattle.sched_ticks.specs.Balance.{balance-def, move-one-def, move-two}
+use Rattle.sched_words.specs.Balance.{begun, moved, find-move}
 use denote.Struct.Laws as LL
-use Rattle.step.specs.declared.balance.Balancing.{Balancing}
-use Rattle.step.proofs.balance.Balancing as Balancing·
-use Rattle.step.proofs.balance.Balancing.Laws as Balancing·laws
-use Rattle.step.specs.declared.context.Context.{Context}
-use Rattle.step.proofs.context.Context as Context·
-use Rattle.step.proofs.context.Context.Laws as Context·laws
+use Rattle.sched_words.specs.declared.balance.Balancing.{Balancing}
+use Rattle.sched_words.proofs.balance.Balancing as Balancing·
+use Rattle.sched_words.proofs.balance.Balancing.Laws as Balancing·laws
+use Rattle.sched_words.specs.declared.context.Context.{Context}
+use Rattle.sched_words.proofs.context.Context as Context·
+use Rattle.sched_words.proofs.context.Context.Laws as Context·laws
 use Rattle.thread.specs.declared.Thread.{Thread}
 use Rattle.thread.proofs.Thread as Thread·
 use Rattle.thread.proofs.Thread.Laws as Thread·laws
-use Rattle.step.proofs.balance.Balancing.begun as fn-step-balance-Balancing-begun
-use Rattle.step.proofs.balance.Balancing.begun.Symbol as fn-step-balance-Balancing-begun-def
-use Rattle.step.proofs.balance.Balancing.begun.Met as fn-step-balance-Balancing-begun-thm
-use Rattle.step.proofs.balance.find_move as fn-step-balance-find-move
-use Rattle.step.proofs.balance.find_move.Symbol as fn-step-balance-find-move-def
-use Rattle.step.proofs.balance.find_move.Met as fn-step-balance-find-move-thm
+use Rattle.sched_words.proofs.balance.Balancing.begun as fn-sched-words-balance-Balancing-begun
+use Rattle.sched_words.proofs.balance.Balancing.begun.Symbol as fn-sched-words-balance-Balancing-begun-def
+use Rattle.sched_words.proofs.balance.Balancing.begun.Met as fn-sched-words-balance-Balancing-begun-thm
+use Rattle.sched_words.proofs.balance.find_move as fn-sched-words-balance-find-move
+use Rattle.sched_words.proofs.balance.find_move.Symbol as fn-sched-words-balance-find-move-def
+use Rattle.sched_words.proofs.balance.find_move.Met as fn-sched-words-balance-find-move-thm
 use Rattle.sched_ticks.proofs.balance.move_one as fn-sched-ticks-balance-move-one
 use Rattle.sched_ticks.proofs.balance.move_one.Symbol as fn-sched-ticks-balance-move-one-def
 use Rattle.sched_ticks.proofs.balance.move_one.Met as fn-sched-ticks-balance-move-one-thm
@@ -118,25 +118,25 @@ module _ {M : Type 1} (𝓤 : URA M) (H : Heap 𝓤) (𝓜 : Model 𝓤 H) (𝓖
     Post = walkOf 𝓤 H A balance.ended stayed c .post y
 
     abbrev V₁ : Balancing
-    V₁ = findMove 20 ys′ ys″ ((a .0) .us) ((a .0) .limit) (moved begun) .balancing
+    V₁ = find-move 20 ys′ ys″ ((a .0) .us) ((a .0) .limit) (moved begun) .balancing
 
     abbrev V₂ : List (List ℕ)
-    V₂ = findMove 20 ys′ ys″ ((a .0) .us) ((a .0) .limit) (moved begun) .cpus
+    V₂ = find-move 20 ys′ ys″ ((a .0) .us) ((a .0) .limit) (moved begun) .cpus
 
     abbrev V₃ : Left ℕ Memory
-    V₃ = moveOne (a .0) V₁ (a .1 .0) (record { threads = ys; cpus = V₂ })
+    V₃ = move-one-def (a .0) V₁ (a .1 .0) (record { threads = ys; cpus = V₂ })
 
     abbrev V₄ : Balancing
-    V₄ = findMove 20 (V₃ .memory .cpus) ys″ ((a .0) .us) ((a .0) .limit) (moved V₁) .balancing
+    V₄ = find-move 20 (V₃ .memory .cpus) ys″ ((a .0) .us) ((a .0) .limit) (moved V₁) .balancing
 
     abbrev V₅ : List (List ℕ)
-    V₅ = findMove 20 (V₃ .memory .cpus) ys″ ((a .0) .us) ((a .0) .limit) (moved V₁) .cpus
+    V₅ = find-move 20 (V₃ .memory .cpus) ys″ ((a .0) .us) ((a .0) .limit) (moved V₁) .cpus
 
     abbrev V₆ : Left ℕ Memory
-    V₆ = moveOne (a .0) V₄ (V₃ .answer) (record { threads = V₃ .memory .threads; cpus = V₅ })
+    V₆ = move-one-def (a .0) V₄ (V₃ .answer) (record { threads = V₃ .memory .threads; cpus = V₅ })
 
     walk : ent 𝓤 (onEntry 𝓤 H A balance.signature (κ, (κ′, (κ″, tt))) (q, (q′, (q″, tt))) ((lent-as b o γ ys, (lent-as b′ o′ γ′ ys′, (lent-as b″ o″ γ″ ys″, a)))) ((s ∷ [], (s′ ∷ [], (s″ ∷ [], spell Ds a))))) (WpFn 𝓤 H C Λ code.function (s ∷ s′ ∷ s″ ∷ listed Ds a) Post)
-    unfolding balanceDef moveTwo
+    unfolding balance-def move-two
     walk =
         qed W ((‵ (flft κ q) ⊛ (‵ (flft κ′ q′) ⊛ (‵ (flft κ″ q″) ⊛ (‵ ftrue)))) ∷ ‵ (owns (MutSlice (named 0) κ Thread·.the-row ∷ MutSlice (named 1) κ′ (Array u64 96) ∷ ShrSlice (named 2) κ″ (Array u64 32) ∷ Context·.the-row ∷ u64 ∷ []) ((lent-as b o γ ys, (lent-as b′ o′ γ′ ys′, (lent-as b″ o″ γ″ ys″, a)))) ((s ∷ [], (s′ ∷ [], (s″ ∷ [], spell Ds a))))) ∷ []) ∵ begins3 ! $ enter ! C _ code.function (s ∷ s′ ∷ s″ ∷ listed Ds a) _ $
         alloc1 ! (λ l₀. alloc1 ! (λ l₁. alloc1 ! (λ l₂. alloc1 ! (λ l₃. alloc1 ! (λ l₄. alloc1 ! (λ l₅. alloc1 ! (λ l₆. alloc1 ! (λ l₇. alloc1 ! (λ l₈. alloc1 ! (λ l₉. alloc1 ! (λ l₁₀. alloc1 ! (λ l₁₁. alloc1 ! (λ l₁₂. alloc1 ! (λ l₁₃. alloc1 ! (λ l₁₄. alloc1 ! (λ l₁₅. alloc1 ! (λ l₁₆. alloc1 ! (λ l₁₇. alloc1 ! (λ l₁₈. alloc1 ! (λ l₁₉. alloc1 ! (λ l₂₀. alloc1 ! (λ l₂₁. alloc1 ! (λ l₂₂. alloc1 ! (λ l₂₃. alloc0 ! $ params1 ! $
@@ -150,7 +150,7 @@ module _ {M : Type 1} (𝓤 : URA M) (H : Heap 𝓤) (𝓜 : Model 𝓤 H) (𝓖
         assigns ! (of-opd ! (load ! (from ! (fld ! refl (stop !))) (look-in ! 44 (sub ! 3 refl (whole !))))) (from ! (stop !)) (init ! 38 refl ((number w64) .typed 𝓤 H A W ((a .0) .limit) (LL.owed Context·.the-type Context·laws.the-laws (a .0) _ (are .0) .1 .1 .1 .0) .0)) $
         nothing ! $
         call-slices Balancing° ([]) tt (emp 𝓤) ([]) ! fm (λ r ws. r ≡ begun) tt (id⊢ 𝓤 (emp 𝓤))
-        (λ νs. cited 𝓤 H (tripleOf 𝓤 H A fn-step-balance-Balancing-begun.signature (fn-step-balance-Balancing-begun.spec 𝓤 H A (𝓜 .mem) (𝓡 .run))) 𝓜 𝓡 code.env fn-step-balance-Balancing-begun-def.name fn-step-balance-Balancing-begun-def.routine code.calls-step·balance·Balancing·begun (fn-step-balance-Balancing-begun-thm.met 𝓤 H 𝓜 𝓖 𝓡) ((tt, tt, tt, tt, spell ([]) tt), tt))
+        (λ νs. cited 𝓤 H (tripleOf 𝓤 H A fn-sched-words-balance-Balancing-begun.signature (fn-sched-words-balance-Balancing-begun.spec 𝓤 H A (𝓜 .mem) (𝓡 .run))) 𝓜 𝓡 code.env fn-sched-words-balance-Balancing-begun-def.name fn-sched-words-balance-Balancing-begun-def.routine code.calls-sched-words·balance·Balancing·begun (fn-sched-words-balance-Balancing-begun-thm.met 𝓤 H 𝓜 𝓖 𝓡) ((tt, tt, tt, tt, spell ([]) tt), tt))
         (λ k. no-more !) (λ r₁ ws₂ is₃ ls₄ e₅.
         drop ! $
         told ! Balancing° (e₅) is₃ (λ is₆.
@@ -164,7 +164,7 @@ module _ {M : Type 1} (𝓤 : URA M) (H : Heap 𝓤) (𝓜 : Model 𝓤 H) (𝓖
         move ! (3 ∷ 0 ∷ []) $
         join ! $
         call-slices Balancing° (number w64 ∷ number w64 ∷ Balancing° ∷ []) (((a .0) .us, ((a .0) .limit, (begun, tt)))) (emp 𝓤) ((mutable (Array u64 96) ys′ b′ o′ n′ refl room′) ∷ (passed (Array u64 32) ys″ b″ o″ κ″ q″ γ″) ∷ []) ! fm (λ r ws. (r ≡ V₁) × (ws .0 ≡ V₂)) ((LL.owed Context·.the-type Context·laws.the-laws (a .0) _ (are .0) .0, (LL.owed Context·.the-type Context·laws.the-laws (a .0) _ (are .0) .1 .1 .1 .0, (is₆, tt)))) (id⊢ 𝓤 (emp 𝓤))
-        (λ νs. cited 𝓤 H (tripleOf 𝓤 H A fn-step-balance-find-move.signature (fn-step-balance-find-move.spec 𝓤 H A (𝓜 .mem) (𝓡 .run))) 𝓜 𝓡 code.env fn-step-balance-find-move-def.name fn-step-balance-find-move-def.routine code.calls-step·balance·find-move (fn-step-balance-find-move-thm.met 𝓤 H 𝓜 𝓖 𝓡) (((νs .0 .0 ∷ [], (κ″, tt)), (fullShare, (q″, tt)), tt, (lent-as b′ o′ (νs .0 .1) ys′, (lent-as b″ o″ γ″ ys″, ((a .0) .us, ((a .0) .limit, (begun, tt))))), (slice-of b′ o′ ys′ ∷ [], (slice-of b″ o″ ys″ ∷ [], spell (number w64 ∷ number w64 ∷ Balancing° ∷ []) (((a .0) .us, ((a .0) .limit, (begun, tt))))))), tt))
+        (λ νs. cited 𝓤 H (tripleOf 𝓤 H A fn-sched-words-balance-find-move.signature (fn-sched-words-balance-find-move.spec 𝓤 H A (𝓜 .mem) (𝓡 .run))) 𝓜 𝓡 code.env fn-sched-words-balance-find-move-def.name fn-sched-words-balance-find-move-def.routine code.calls-sched-words·balance·find-move (fn-sched-words-balance-find-move-thm.met 𝓤 H 𝓜 𝓖 𝓡) (((νs .0 .0 ∷ [], (κ″, tt)), (fullShare, (q″, tt)), tt, (lent-as b′ o′ (νs .0 .1) ys′, (lent-as b″ o″ γ″ ys″, ((a .0) .us, ((a .0) .limit, (begun, tt))))), (slice-of b′ o′ ys′ ∷ [], (slice-of b″ o″ ys″ ∷ [], spell (number w64 ∷ number w64 ∷ Balancing° ∷ []) (((a .0) .us, ((a .0) .limit, (begun, tt))))))), tt))
         (λ k. and-then ! (load ! (from ! (stop !)) (look ! 24 refl)) (and-then ! (load ! (from ! (stop !)) (look ! 44 refl)) (and-then ! (load ! (from ! (stop !)) (look ! 38 refl)) (and-then ! (load ! (from ! (stop !)) (look ! 36 refl)) (and-then ! (load ! (from ! (stop !)) (look ! 34 refl)) (no-more !)))))) (λ r₇ ws₈ is₉ ls₁₀ e₁₁.
         split ! $
         move ! (1 ∷ []) $
@@ -205,7 +205,7 @@ module _ {M : Type 1} (𝓤 : URA M) (H : Heap 𝓤) (𝓜 : Model 𝓤 H) (𝓖
         move ! (1 ∷ 0 ∷ []) $
         join ! $
         call-slices Balancing° (number w64 ∷ number w64 ∷ Balancing° ∷ []) (((a .0) .us, ((a .0) .limit, (V₁, tt)))) (emp 𝓤) ((mutable (Array u64 96) (V₃ .memory .cpus) b′ o′ n′ (((refl ∙ sym (subst (λ (us : List (List ℕ)). length us ≡ length ys′) (e₁₁ .1) (ls₁₀ .0))) ∙ sym (subst (λ (us : List (List ℕ)). length us ≡ length V₂) (e₁₇ .1 .1) (ls₁₆ .1 .0)))) room′) ∷ (passed (Array u64 32) ys″ b″ o″ κ″ q″ γ″) ∷ []) ! fm (λ r ws. (r ≡ V₄) × (ws .0 ≡ V₅)) ((LL.owed Context·.the-type Context·laws.the-laws (a .0) _ (are .0) .0, (LL.owed Context·.the-type Context·laws.the-laws (a .0) _ (are .0) .1 .1 .1 .0, (is₁₂, tt)))) (id⊢ 𝓤 (emp 𝓤))
-        (λ νs. cited 𝓤 H (tripleOf 𝓤 H A fn-step-balance-find-move.signature (fn-step-balance-find-move.spec 𝓤 H A (𝓜 .mem) (𝓡 .run))) 𝓜 𝓡 code.env fn-step-balance-find-move-def.name fn-step-balance-find-move-def.routine code.calls-step·balance·find-move (fn-step-balance-find-move-thm.met 𝓤 H 𝓜 𝓖 𝓡) (((νs .0 .0 ∷ [], (κ″, tt)), (fullShare, (q″, tt)), tt, (lent-as b′ o′ (νs .0 .1) (V₃ .memory .cpus), (lent-as b″ o″ γ″ ys″, ((a .0) .us, ((a .0) .limit, (V₁, tt))))), (slice-of b′ o′ (V₃ .memory .cpus) ∷ [], (slice-of b″ o″ ys″ ∷ [], spell (number w64 ∷ number w64 ∷ Balancing° ∷ []) (((a .0) .us, ((a .0) .limit, (V₁, tt))))))), tt))
+        (λ νs. cited 𝓤 H (tripleOf 𝓤 H A fn-sched-words-balance-find-move.signature (fn-sched-words-balance-find-move.spec 𝓤 H A (𝓜 .mem) (𝓡 .run))) 𝓜 𝓡 code.env fn-sched-words-balance-find-move-def.name fn-sched-words-balance-find-move-def.routine code.calls-sched-words·balance·find-move (fn-sched-words-balance-find-move-thm.met 𝓤 H 𝓜 𝓖 𝓡) (((νs .0 .0 ∷ [], (κ″, tt)), (fullShare, (q″, tt)), tt, (lent-as b′ o′ (νs .0 .1) (V₃ .memory .cpus), (lent-as b″ o″ γ″ ys″, ((a .0) .us, ((a .0) .limit, (V₁, tt))))), (slice-of b′ o′ (V₃ .memory .cpus) ∷ [], (slice-of b″ o″ ys″ ∷ [], spell (number w64 ∷ number w64 ∷ Balancing° ∷ []) (((a .0) .us, ((a .0) .limit, (V₁, tt))))))), tt))
         (λ k. and-then ! (load ! (from ! (stop !)) (look ! 12 refl)) (and-then ! (load ! (from ! (stop !)) (look ! 44 refl)) (and-then ! (load ! (from ! (stop !)) (look ! 38 refl)) (and-then ! (load ! (from ! (stop !)) (look ! 36 refl)) (and-then ! (load ! (from ! (stop !)) (look ! 32 refl)) (no-more !)))))) (λ r₁₉ ws₂₀ is₂₁ ls₂₂ e₂₃.
         split ! $
         move ! (1 ∷ []) $
@@ -245,7 +245,7 @@ module _ {M : Type 1} (𝓤 : URA M) (H : Heap 𝓤) (𝓜 : Model 𝓤 H) (𝓖
         returns ! (look ! 52 refl) $
         move ! (52 ∷ 53 ∷ 50 ∷ 51 ∷ 48 ∷ 49 ∷ 46 ∷ 47 ∷ 44 ∷ 45 ∷ 42 ∷ 43 ∷ 40 ∷ 41 ∷ 38 ∷ 39 ∷ 36 ∷ 37 ∷ 34 ∷ 35 ∷ 32 ∷ 33 ∷ 30 ∷ 31 ∷ 28 ∷ 29 ∷ 26 ∷ 27 ∷ 24 ∷ 25 ∷ 22 ∷ 23 ∷ 20 ∷ 21 ∷ 18 ∷ 19 ∷ 16 ∷ 17 ∷ 14 ∷ 15 ∷ 12 ∷ 13 ∷ 10 ∷ 11 ∷ 8 ∷ 9 ∷ 6 ∷ 7 ∷ []) $
         all-freed ! mir.locals (l₀ ∷ l₁ ∷ l₂ ∷ l₃ ∷ l₄ ∷ l₅ ∷ l₆ ∷ l₇ ∷ l₈ ∷ l₉ ∷ l₁₀ ∷ l₁₁ ∷ l₁₂ ∷ l₁₃ ∷ l₁₄ ∷ l₁₅ ∷ l₁₆ ∷ l₁₇ ∷ l₁₈ ∷ l₁₉ ∷ l₂₀ ∷ l₂₁ ∷ l₂₂ ∷ l₂₃ ∷ []) (full _ ∷ full _ ∷ full _ ∷ full _ ∷ full _ ∷ full _ ∷ full _ ∷ full _ ∷ full _ ∷ full _ ∷ full _ ∷ full _ ∷ full _ ∷ full _ ∷ full _ ∷ full _ ∷ full _ ∷ full _ ∷ full _ ∷ full _ ∷ full _ ∷ full _ ∷ full _ ∷ full _ ∷ []) tt $
-        suffices ! _ (ends-at 𝓤 H A balance.ended stayed c W y _ (V₆ .answer) (V₆ .memory .threads, (V₆ .memory .cpus, (tt, (tt, (tt, tt))))) (sym (((refl ∙ sym (subst (λ (us : List Thread). length us ≡ length ys) (e₁₇ .1 .0) (ls₁₆ .0))) ∙ sym (subst (λ (us : List Thread). length us ≡ length (V₃ .memory .threads)) (e₂₉ .1 .0) (ls₂₈ .0)))), (sym (((((refl ∙ sym (subst (λ (us : List (List ℕ)). length us ≡ length ys′) (e₁₁ .1) (ls₁₀ .0))) ∙ sym (subst (λ (us : List (List ℕ)). length us ≡ length V₂) (e₁₇ .1 .1) (ls₁₆ .1 .0))) ∙ sym (subst (λ (us : List (List ℕ)). length us ≡ length (V₃ .memory .cpus)) (e₂₃ .1) (ls₂₂ .0))) ∙ sym (subst (λ (us : List (List ℕ)). length us ≡ length V₅) (e₂₉ .1 .1) (ls₂₈ .1 .0)))), (tt, (tt, (tt, tt)))))) $ says ! (so {X = Left ℕ Memory} (record { answer = (V₆ .answer); memory = record { threads = (V₆ .memory .threads); cpus = (V₆ .memory .cpus) } }) (balanceDef (a .0) (a .1 .0) ys″ (record { threads = ys; cpus = ys′ })) (refl)) $
+        suffices ! _ (ends-at 𝓤 H A balance.ended stayed c W y _ (V₆ .answer) (V₆ .memory .threads, (V₆ .memory .cpus, (tt, (tt, (tt, tt))))) (sym (((refl ∙ sym (subst (λ (us : List Thread). length us ≡ length ys) (e₁₇ .1 .0) (ls₁₆ .0))) ∙ sym (subst (λ (us : List Thread). length us ≡ length (V₃ .memory .threads)) (e₂₉ .1 .0) (ls₂₈ .0)))), (sym (((((refl ∙ sym (subst (λ (us : List (List ℕ)). length us ≡ length ys′) (e₁₁ .1) (ls₁₀ .0))) ∙ sym (subst (λ (us : List (List ℕ)). length us ≡ length V₂) (e₁₇ .1 .1) (ls₁₆ .1 .0))) ∙ sym (subst (λ (us : List (List ℕ)). length us ≡ length (V₃ .memory .cpus)) (e₂₃ .1) (ls₂₂ .0))) ∙ sym (subst (λ (us : List (List ℕ)). length us ≡ length V₅) (e₂₉ .1 .1) (ls₂₈ .1 .0)))), (tt, (tt, (tt, tt)))))) $ says ! (so {X = Left ℕ Memory} (record { answer = (V₆ .answer); memory = record { threads = (V₆ .memory .threads); cpus = (V₆ .memory .cpus) } }) (balance-def (a .0) (a .1 .0) ys″ (record { threads = ys; cpus = ys′ })) (refl)) $
         leaves3 ! (number w64) Ds a (V₆ .answer) are (is₃₀)))))))))))))))))))))))))))))))))))
 
 pub balance-spec : {M : Type 1} → stated.statement M

@@ -34,21 +34,21 @@ use denote.Triple.Table.{cited}
 use denote.Triple.Clauses.{Clauses}
 use denote.Triple.Walked.{says, Stays, stay-none, stay-slice, walkOf, goes-none, goes-slice, ends-at}
 use denote.Exit.{yes as kept-yes}
-use Rattle.lent.proofs.Walk.{Datum, number, truth, struct, Dens, AreD, listed, spell, lent-as, slice-of, kept, opened, closed, guards, env-of, standing, bare, full, told, proved}
-use Rattle.lent.proofs.Lent.{mutable, choice, call-slices, call-left, all-freed, no, yes, so, begins2, leaves2}
-use Rattle.lent.specs.Left.{Memory, Left}
-use Rattle.sched_queues.specs.Queues.{takeFrom, isNobody, threadOf, scheduleThreadOnCpu}
-use Rattle.sched_ticks.specs.Balance.{moveOne, received}
+use Rattle.records.proofs.Walk.{Datum, number, truth, struct, Dens, AreD, listed, spell, lent-as, slice-of, kept, opened, closed, guards, env-of, standing, bare, full, told, proved}
+use Rattle.records.proofs.Lent.{mutable, choice, call-slices, call-left, all-freed, no, yes, so, begins2, leaves2}
+use Rattle.records.specs.Left.{Memory, Left}
+use Rattle.sched_queues.specs.Queues.{take-from, is-nobody, thread-of, schedule-thread-on-cpu-def}
+use Rattle.sched_ticks.specs.Balance.{move-one-def, received}
 use denote.Struct.Laws as LL
-use Rattle.step.specs.declared.balance.Balancing.{Balancing}
-use Rattle.step.proofs.balance.Balancing as Balancing·
-use Rattle.step.proofs.balance.Balancing.Laws as Balancing·laws
-use Rattle.step.specs.declared.context.Context.{Context}
-use Rattle.step.proofs.context.Context as Context·
-use Rattle.step.proofs.context.Context.Laws as Context·laws
-use Rattle.lent.specs.declared.rq.Taken.{Taken}
-use Rattle.lent.proofs.rq.Taken as Taken·
-use Rattle.lent.proofs.rq.Taken.Laws as Taken·laws
+use Rattle.sched_words.specs.declared.balance.Balancing.{Balancing}
+use Rattle.sched_words.proofs.balance.Balancing as Balancing·
+use Rattle.sched_words.proofs.balance.Balancing.Laws as Balancing·laws
+use Rattle.sched_words.specs.declared.context.Context.{Context}
+use Rattle.sched_words.proofs.context.Context as Context·
+use Rattle.sched_words.proofs.context.Context.Laws as Context·laws
+use Rattle.records.specs.declared.rq.Taken.{Taken}
+use Rattle.records.proofs.rq.Taken as Taken·
+use Rattle.records.proofs.rq.Taken.Laws as Taken·laws
 use Rattle.thread.specs.declared.Thread.{Thread}
 use Rattle.thread.proofs.Thread as Thread·
 use Rattle.thread.proofs.Thread.Laws as Thread·laws
@@ -127,17 +127,17 @@ module _ {M : Type 1} (𝓤 : URA M) (H : Heap 𝓤) (𝓜 : Model 𝓤 H) (𝓖
     Post = walkOf 𝓤 H A move-one.ended stayed c .post y
 
     abbrev V₁ : Left Taken Memory
-    V₁ = takeFrom ((a .1 .0) .donor) ((a .1 .0) .recipient) (record { threads = ys; cpus = ys′ })
+    V₁ = take-from ((a .1 .0) .donor) ((a .1 .0) .recipient) (record { threads = ys; cpus = ys′ })
 
     abbrev V₂ : Left ℕ Memory
-    V₂ = scheduleThreadOnCpu (a .0) ((a .1 .0) .recipient) (threadOf (V₁ .answer)) (a .1 .1 .0) (record { threads = V₁ .memory .threads; cpus = V₁ .memory .cpus })
+    V₂ = schedule-thread-on-cpu-def (a .0) ((a .1 .0) .recipient) (thread-of (V₁ .answer)) (a .1 .1 .0) (record { threads = V₁ .memory .threads; cpus = V₁ .memory .cpus })
 
     module _ (l₀ l₁ l₂ l₃ l₄ l₅ l₆ l₇ l₈ l₉ l₁₀ l₁₁ l₁₂ l₁₃ l₁₄ l₁₅ l₁₆ l₁₇ l₁₈ l₁₉ : ℕ) where
       abbrev En : Env 𝓤 H
       En = env-of mir.locals (l₀ ∷ l₁ ∷ l₂ ∷ l₃ ∷ l₄ ∷ l₅ ∷ l₆ ∷ l₇ ∷ l₈ ∷ l₉ ∷ l₁₀ ∷ l₁₁ ∷ l₁₂ ∷ l₁₃ ∷ l₁₄ ∷ l₁₅ ∷ l₁₆ ∷ l₁₇ ∷ l₁₈ ∷ l₁₉ ∷ [])
 
-      part-13 : (e₁₀₀ : n ≡ length (V₁ .memory .threads)) (e₁₀₁ : n′ ≡ length (V₁ .memory .cpus)) (c₇ : Is u64 ((a .1 .0) .recipient) ((number w64) .val ((a .1 .0) .recipient) ∷ [])) (c₉ : Is u64 (threadOf (V₁ .answer)) ((number w64) .val (threadOf (V₁ .answer)) ∷ [])) (h₁ : Holds (not (not ((a .1 .0) .moves)))) (h₂ : Holds (not (isNobody (V₁ .answer)))) → Sq W (‵ (row Thread·.the-row fullShare (V₁ .memory .threads) b o) ∷ ‵ (kept Thread·.the-row κ q γ b o ys) ∷ ‵ (row (Array u64 96) fullShare (V₁ .memory .cpus) b′ o′) ∷ ‵ (kept (Array u64 96) κ′ q′ γ′ b′ o′ ys′) ∷ standing 𝓤 mir.locals (l₀ ∷ l₁ ∷ l₂ ∷ l₃ ∷ l₄ ∷ l₅ ∷ l₆ ∷ l₇ ∷ l₈ ∷ l₉ ∷ l₁₀ ∷ l₁₁ ∷ l₁₂ ∷ l₁₃ ∷ l₁₄ ∷ l₁₅ ∷ l₁₆ ∷ l₁₇ ∷ l₁₈ ∷ l₁₉ ∷ []) (bare ∷ full s ∷ full s′ ∷ full (Context° .val (a .0)) ∷ full (Balancing° .val (a .1 .0)) ∷ full ((number w64) .val (a .1 .1 .0)) ∷ bare ∷ full ((number w64) .val ((a .1 .0) .recipient)) ∷ bare ∷ full ((number w64) .val (threadOf (V₁ .answer))) ∷ bare ∷ bare ∷ bare ∷ bare ∷ bare ∷ bare ∷ bare ∷ bare ∷ bare ∷ bare ∷ []) []) (runs C Λ En mir.t-13 (atRet En Post))
-      unfolding moveOne received
+      part-13 : (e₁₀₀ : n ≡ length (V₁ .memory .threads)) (e₁₀₁ : n′ ≡ length (V₁ .memory .cpus)) (c₇ : Is u64 ((a .1 .0) .recipient) ((number w64) .val ((a .1 .0) .recipient) ∷ [])) (c₉ : Is u64 (thread-of (V₁ .answer)) ((number w64) .val (thread-of (V₁ .answer)) ∷ [])) (h₁ : Holds (not (not ((a .1 .0) .moves)))) (h₂ : Holds (not (is-nobody (V₁ .answer)))) → Sq W (‵ (row Thread·.the-row fullShare (V₁ .memory .threads) b o) ∷ ‵ (kept Thread·.the-row κ q γ b o ys) ∷ ‵ (row (Array u64 96) fullShare (V₁ .memory .cpus) b′ o′) ∷ ‵ (kept (Array u64 96) κ′ q′ γ′ b′ o′ ys′) ∷ standing 𝓤 mir.locals (l₀ ∷ l₁ ∷ l₂ ∷ l₃ ∷ l₄ ∷ l₅ ∷ l₆ ∷ l₇ ∷ l₈ ∷ l₉ ∷ l₁₀ ∷ l₁₁ ∷ l₁₂ ∷ l₁₃ ∷ l₁₄ ∷ l₁₅ ∷ l₁₆ ∷ l₁₇ ∷ l₁₈ ∷ l₁₉ ∷ []) (bare ∷ full s ∷ full s′ ∷ full (Context° .val (a .0)) ∷ full (Balancing° .val (a .1 .0)) ∷ full ((number w64) .val (a .1 .1 .0)) ∷ bare ∷ full ((number w64) .val ((a .1 .0) .recipient)) ∷ bare ∷ full ((number w64) .val (thread-of (V₁ .answer))) ∷ bare ∷ bare ∷ bare ∷ bare ∷ bare ∷ bare ∷ bare ∷ bare ∷ bare ∷ bare ∷ []) []) (runs C Λ En mir.t-13 (atRet En Post))
+      unfolding move-one-def received
       part-13 e₁₀₀ e₁₀₁ c₇ c₉ h₁ h₂ =
           assigns ! (addr ! (from ! (fld ! refl (hop ! (look-in ! 40 (sub ! 0 refl (whole !))) (stop !))))) (from ! (stop !)) (init ! 10 refl (tt, tt)) $
           assigns ! (agg ! (and-then ! (load ! (from ! (stop !)) (look ! 10 refl)) (and-then ! (load ! (from ! (fld ! refl (stop !))) (look-in ! 40 (sub ! 1 refl (whole !)))) (no-more !)))) (from ! (stop !)) (init ! 8 refl (tt, (tt, (record { fits = room .0 }, tt)))) $
@@ -148,8 +148,8 @@ module _ {M : Type 1} (𝓤 : URA M) (H : Heap 𝓤) (𝓜 : Model 𝓤 H) (𝓖
           join ! $
           move ! (1 ∷ 0 ∷ []) $
           join ! $
-          call-left (number w64) (Context° ∷ number w64 ∷ number w64 ∷ number w64 ∷ []) ((a .0, ((a .1 .0) .recipient, (threadOf (V₁ .answer), (a .1 .1 .0, tt))))) (emp 𝓤) ((mutable Thread·.the-row (V₁ .memory .threads) b o n e₁₀₀ room) ∷ (mutable (Array u64 96) (V₁ .memory .cpus) b′ o′ n′ e₁₀₁ room′) ∷ []) ! fm (λ r ws. (r ≡ (V₂ .answer)) × ((ws .0 ≡ (V₂ .memory .threads)) × (ws .1 .0 ≡ (V₂ .memory .cpus)))) (λ r ws. _≡_ {A = Left ℕ Memory} (record { answer = r; memory = record { threads = ws .0; cpus = ws .1 .0 } }) V₂) (λ r ws e. (ap (λ (z : Left ℕ Memory). z .answer) e, (ap (λ (z : Left ℕ Memory). z .memory .threads) e, ap (λ (z : Left ℕ Memory). z .memory .cpus) e))) ((are .0, (c₇, (c₉, (are .1 .1 .0, tt))))) (id⊢ 𝓤 (emp 𝓤))
-          (λ νs. cited 𝓤 H (tripleOf 𝓤 H A fn-sched-queues-queues-schedule-thread-on-cpu.signature (fn-sched-queues-queues-schedule-thread-on-cpu.spec 𝓤 H A (𝓜 .mem) (𝓡 .run))) 𝓜 𝓡 code.env fn-sched-queues-queues-schedule-thread-on-cpu-def.name fn-sched-queues-queues-schedule-thread-on-cpu-def.routine code.calls-sched-queues·queues·schedule-thread-on-cpu (fn-sched-queues-queues-schedule-thread-on-cpu-thm.met 𝓤 H 𝓜 𝓖 𝓡) (((νs .0 .0 ∷ [], (νs .1 .0 .0 ∷ [], tt)), (fullShare, (fullShare, tt)), tt, (lent-as b o (νs .0 .1) (V₁ .memory .threads), (lent-as b′ o′ (νs .1 .0 .1) (V₁ .memory .cpus), (a .0, ((a .1 .0) .recipient, (threadOf (V₁ .answer), (a .1 .1 .0, tt)))))), (slice-of b o (V₁ .memory .threads) ∷ [], (slice-of b′ o′ (V₁ .memory .cpus) ∷ [], spell (Context° ∷ number w64 ∷ number w64 ∷ number w64 ∷ []) ((a .0, ((a .1 .0) .recipient, (threadOf (V₁ .answer), (a .1 .1 .0, tt)))))))), tt))
+          call-left (number w64) (Context° ∷ number w64 ∷ number w64 ∷ number w64 ∷ []) ((a .0, ((a .1 .0) .recipient, (thread-of (V₁ .answer), (a .1 .1 .0, tt))))) (emp 𝓤) ((mutable Thread·.the-row (V₁ .memory .threads) b o n e₁₀₀ room) ∷ (mutable (Array u64 96) (V₁ .memory .cpus) b′ o′ n′ e₁₀₁ room′) ∷ []) ! fm (λ r ws. (r ≡ (V₂ .answer)) × ((ws .0 ≡ (V₂ .memory .threads)) × (ws .1 .0 ≡ (V₂ .memory .cpus)))) (λ r ws. _≡_ {A = Left ℕ Memory} (record { answer = r; memory = record { threads = ws .0; cpus = ws .1 .0 } }) V₂) (λ r ws e. (ap (λ (z : Left ℕ Memory). z .answer) e, (ap (λ (z : Left ℕ Memory). z .memory .threads) e, ap (λ (z : Left ℕ Memory). z .memory .cpus) e))) ((are .0, (c₇, (c₉, (are .1 .1 .0, tt))))) (id⊢ 𝓤 (emp 𝓤))
+          (λ νs. cited 𝓤 H (tripleOf 𝓤 H A fn-sched-queues-queues-schedule-thread-on-cpu.signature (fn-sched-queues-queues-schedule-thread-on-cpu.spec 𝓤 H A (𝓜 .mem) (𝓡 .run))) 𝓜 𝓡 code.env fn-sched-queues-queues-schedule-thread-on-cpu-def.name fn-sched-queues-queues-schedule-thread-on-cpu-def.routine code.calls-sched-queues·queues·schedule-thread-on-cpu (fn-sched-queues-queues-schedule-thread-on-cpu-thm.met 𝓤 H 𝓜 𝓖 𝓡) (((νs .0 .0 ∷ [], (νs .1 .0 .0 ∷ [], tt)), (fullShare, (fullShare, tt)), tt, (lent-as b o (νs .0 .1) (V₁ .memory .threads), (lent-as b′ o′ (νs .1 .0 .1) (V₁ .memory .cpus), (a .0, ((a .1 .0) .recipient, (thread-of (V₁ .answer), (a .1 .1 .0, tt)))))), (slice-of b o (V₁ .memory .threads) ∷ [], (slice-of b′ o′ (V₁ .memory .cpus) ∷ [], spell (Context° ∷ number w64 ∷ number w64 ∷ number w64 ∷ []) ((a .0, ((a .1 .0) .recipient, (thread-of (V₁ .answer), (a .1 .1 .0, tt)))))))), tt))
           (λ k. and-then ! (load ! (from ! (stop !)) (look ! 7 refl)) (and-then ! (load ! (from ! (stop !)) (look ! 3 refl)) (and-then ! (load ! (from ! (stop !)) (look ! 35 refl)) (and-then ! (load ! (from ! (stop !)) (look ! 27 refl)) (and-then ! (load ! (from ! (stop !)) (look ! 23 refl)) (and-then ! (load ! (from ! (stop !)) (look ! 31 refl)) (no-more !))))))) (λ r₂₅ ws₂₆ is₂₇ ls₂₈ e₂₉.
           split ! $
           move ! (1 ∷ []) $
@@ -167,11 +167,11 @@ module _ {M : Type 1} (𝓤 : URA M) (H : Heap 𝓤) (𝓜 : Model 𝓤 H) (𝓖
           returns ! (look ! 42 refl) $
           move ! (42 ∷ 43 ∷ 40 ∷ 41 ∷ 38 ∷ 39 ∷ 36 ∷ 37 ∷ 34 ∷ 35 ∷ 32 ∷ 33 ∷ 30 ∷ 31 ∷ 28 ∷ 29 ∷ 26 ∷ 27 ∷ 24 ∷ 25 ∷ 22 ∷ 23 ∷ 20 ∷ 21 ∷ 18 ∷ 19 ∷ 16 ∷ 17 ∷ 14 ∷ 15 ∷ 12 ∷ 13 ∷ 10 ∷ 11 ∷ 8 ∷ 9 ∷ 6 ∷ 7 ∷ 4 ∷ 5 ∷ []) $
           all-freed ! mir.locals (l₀ ∷ l₁ ∷ l₂ ∷ l₃ ∷ l₄ ∷ l₅ ∷ l₆ ∷ l₇ ∷ l₈ ∷ l₉ ∷ l₁₀ ∷ l₁₁ ∷ l₁₂ ∷ l₁₃ ∷ l₁₄ ∷ l₁₅ ∷ l₁₆ ∷ l₁₇ ∷ l₁₈ ∷ l₁₉ ∷ []) (full _ ∷ full _ ∷ full _ ∷ full _ ∷ full _ ∷ full _ ∷ bare ∷ full _ ∷ bare ∷ full _ ∷ bare ∷ bare ∷ bare ∷ bare ∷ bare ∷ bare ∷ full _ ∷ full _ ∷ full _ ∷ full _ ∷ []) tt $
-          suffices ! _ (ends-at 𝓤 H A move-one.ended stayed c W y _ (V₂ .answer) (V₂ .memory .threads, (V₂ .memory .cpus, (tt, (tt, (tt, tt))))) (sym ((e₁₀₀ ∙ sym (subst (λ (us : List Thread). length us ≡ length (V₁ .memory .threads)) (e₂₉ .1 .0) (ls₂₈ .0)))), (sym ((e₁₀₁ ∙ sym (subst (λ (us : List (List ℕ)). length us ≡ length (V₁ .memory .cpus)) (e₂₉ .1 .1) (ls₂₈ .1 .0)))), (tt, (tt, (tt, tt)))))) $ says ! (so {X = Left ℕ Memory} (record { answer = (V₂ .answer); memory = record { threads = (V₂ .memory .threads); cpus = (V₂ .memory .cpus) } }) (moveOne (a .0) (a .1 .0) (a .1 .1 .0) (record { threads = ys; cpus = ys′ })) ((no (not ((a .1 .0) .moves)) h₁ _ (no (isNobody (V₁ .answer)) h₂ _ (refl))))) $
+          suffices ! _ (ends-at 𝓤 H A move-one.ended stayed c W y _ (V₂ .answer) (V₂ .memory .threads, (V₂ .memory .cpus, (tt, (tt, (tt, tt))))) (sym ((e₁₀₀ ∙ sym (subst (λ (us : List Thread). length us ≡ length (V₁ .memory .threads)) (e₂₉ .1 .0) (ls₂₈ .0)))), (sym ((e₁₀₁ ∙ sym (subst (λ (us : List (List ℕ)). length us ≡ length (V₁ .memory .cpus)) (e₂₉ .1 .1) (ls₂₈ .1 .0)))), (tt, (tt, (tt, tt)))))) $ says ! (so {X = Left ℕ Memory} (record { answer = (V₂ .answer); memory = record { threads = (V₂ .memory .threads); cpus = (V₂ .memory .cpus) } }) (move-one-def (a .0) (a .1 .0) (a .1 .1 .0) (record { threads = ys; cpus = ys′ })) ((no (not ((a .1 .0) .moves)) h₁ _ (no (is-nobody (V₁ .answer)) h₂ _ (refl))))) $
           leaves2 ! (number w64) Ds a (V₂ .answer) are (is₃₀)))
 
     walk : ent 𝓤 (onEntry 𝓤 H A move-one.signature (κ, (κ′, tt)) (q, (q′, tt)) ((lent-as b o γ ys, (lent-as b′ o′ γ′ ys′, a))) ((s ∷ [], (s′ ∷ [], spell Ds a)))) (WpFn 𝓤 H C Λ code.function (s ∷ s′ ∷ listed Ds a) Post)
-    unfolding moveOne received
+    unfolding move-one-def received
     walk =
         qed W ((‵ (flft κ q) ⊛ (‵ (flft κ′ q′) ⊛ (‵ ftrue))) ∷ ‵ (owns (MutSlice (named 0) κ Thread·.the-row ∷ MutSlice (named 1) κ′ (Array u64 96) ∷ Context·.the-row ∷ Balancing·.the-row ∷ u64 ∷ []) ((lent-as b o γ ys, (lent-as b′ o′ γ′ ys′, a))) ((s ∷ [], (s′ ∷ [], spell Ds a)))) ∷ []) ∵ begins2 ! $ enter ! C _ code.function (s ∷ s′ ∷ listed Ds a) _ $
         alloc1 ! (λ l₀. alloc1 ! (λ l₁. alloc1 ! (λ l₂. alloc1 ! (λ l₃. alloc1 ! (λ l₄. alloc1 ! (λ l₅. alloc1 ! (λ l₆. alloc1 ! (λ l₇. alloc1 ! (λ l₈. alloc1 ! (λ l₉. alloc1 ! (λ l₁₀. alloc1 ! (λ l₁₁. alloc1 ! (λ l₁₂. alloc1 ! (λ l₁₃. alloc1 ! (λ l₁₄. alloc1 ! (λ l₁₅. alloc1 ! (λ l₁₆. alloc1 ! (λ l₁₇. alloc1 ! (λ l₁₈. alloc1 ! (λ l₁₉. alloc0 ! $ params1 ! $
@@ -197,7 +197,7 @@ module _ {M : Type 1} (𝓤 : URA M) (H : Heap 𝓤) (𝓜 : Model 𝓤 H) (𝓖
         returns-within ! Post refl (look ! 42 refl) $
         move ! (42 ∷ 43 ∷ 40 ∷ 41 ∷ 38 ∷ 39 ∷ 36 ∷ 37 ∷ 34 ∷ 35 ∷ 32 ∷ 33 ∷ 30 ∷ 31 ∷ 28 ∷ 29 ∷ 26 ∷ 27 ∷ 24 ∷ 25 ∷ 22 ∷ 23 ∷ 20 ∷ 21 ∷ 18 ∷ 19 ∷ 16 ∷ 17 ∷ 14 ∷ 15 ∷ 12 ∷ 13 ∷ 10 ∷ 11 ∷ 8 ∷ 9 ∷ 6 ∷ 7 ∷ 4 ∷ 5 ∷ []) $
         all-freed ! mir.locals (l₀ ∷ l₁ ∷ l₂ ∷ l₃ ∷ l₄ ∷ l₅ ∷ l₆ ∷ l₇ ∷ l₈ ∷ l₉ ∷ l₁₀ ∷ l₁₁ ∷ l₁₂ ∷ l₁₃ ∷ l₁₄ ∷ l₁₅ ∷ l₁₆ ∷ l₁₇ ∷ l₁₈ ∷ l₁₉ ∷ []) (full _ ∷ full _ ∷ full _ ∷ full _ ∷ full _ ∷ full _ ∷ bare ∷ bare ∷ bare ∷ bare ∷ full _ ∷ bare ∷ bare ∷ bare ∷ bare ∷ bare ∷ bare ∷ bare ∷ bare ∷ bare ∷ []) tt $
-        suffices ! _ (ends-at 𝓤 H A move-one.ended stayed c W y _ (a .1 .1 .0) (ys, (ys′, (tt, (tt, (tt, tt))))) (sym refl, (sym refl, (tt, (tt, (tt, tt)))))) $ says ! (so {X = Left ℕ Memory} (record { answer = (a .1 .1 .0); memory = record { threads = ys; cpus = ys′ } }) (moveOne (a .0) (a .1 .0) (a .1 .1 .0) (record { threads = ys; cpus = ys′ })) ((yes (not ((a .1 .0) .moves)) h₁ _ (refl)))) $
+        suffices ! _ (ends-at 𝓤 H A move-one.ended stayed c W y _ (a .1 .1 .0) (ys, (ys′, (tt, (tt, (tt, tt))))) (sym refl, (sym refl, (tt, (tt, (tt, tt)))))) $ says ! (so {X = Left ℕ Memory} (record { answer = (a .1 .1 .0); memory = record { threads = ys; cpus = ys′ } }) (move-one-def (a .0) (a .1 .0) (a .1 .1 .0) (record { threads = ys; cpus = ys′ })) ((yes (not ((a .1 .0) .moves)) h₁ _ (refl)))) $
         leaves2 ! (number w64) Ds a (a .1 .1 .0) are (are .1 .1 .0))
         (λ h₁.
         assigns ! (of-opd ! (load ! (from ! (fld ! refl (stop !))) (look-in ! 34 (sub ! 4 refl (whole !))))) (from ! (stop !)) (init ! 30 refl ((number w64) .typed 𝓤 H A W ((a .1 .0) .donor) (LL.owed Balancing·.the-type Balancing·laws.the-laws (a .1 .0) _ (are .1 .0) .1 .1 .1 .1 .0) .0)) $
@@ -224,7 +224,7 @@ module _ {M : Type 1} (𝓤 : URA M) (H : Heap 𝓤) (𝓜 : Model 𝓤 H) (𝓖
         told ! Taken° (e₁₁ .0) is₉ (λ is₁₂.
         land ! (from ! (stop !)) (init ! 26 refl (Taken° .typed 𝓤 H A W (V₁ .answer) (is₁₂) .0)) $
         nothing ! $
-        call-slices truth (Taken° ∷ []) ((V₁ .answer, tt)) (emp 𝓤) ([]) ! fm (λ r ws. r ≡ (isNobody (V₁ .answer))) ((is₁₂, tt)) (id⊢ 𝓤 (emp 𝓤))
+        call-slices truth (Taken° ∷ []) ((V₁ .answer, tt)) (emp 𝓤) ([]) ! fm (λ r ws. r ≡ (is-nobody (V₁ .answer))) ((is₁₂, tt)) (id⊢ 𝓤 (emp 𝓤))
         (λ νs. cited 𝓤 H (tripleOf 𝓤 H A fn-sched-queues-queues-is-nobody.signature (fn-sched-queues-queues-is-nobody.spec 𝓤 H A (𝓜 .mem) (𝓡 .run))) 𝓜 𝓡 code.env fn-sched-queues-queues-is-nobody-def.name fn-sched-queues-queues-is-nobody-def.routine code.calls-sched-queues·queues·is-nobody (fn-sched-queues-queues-is-nobody-thm.met 𝓤 H 𝓜 𝓖 𝓡) ((tt, tt, tt, (V₁ .answer, tt), spell (Taken° ∷ []) ((V₁ .answer, tt))), tt))
         (λ k. and-then ! (load ! (from ! (stop !)) (look ! 27 refl)) (no-more !)) (λ r₁₃ ws₁₄ is₁₅ ls₁₆ e₁₇.
         drop ! $
@@ -240,16 +240,16 @@ module _ {M : Type 1} (𝓤 : URA M) (H : Heap 𝓤) (𝓜 : Model 𝓤 H) (𝓖
         returns-within ! Post refl (look ! 42 refl) $
         move ! (42 ∷ 43 ∷ 40 ∷ 41 ∷ 38 ∷ 39 ∷ 36 ∷ 37 ∷ 34 ∷ 35 ∷ 32 ∷ 33 ∷ 30 ∷ 31 ∷ 28 ∷ 29 ∷ 26 ∷ 27 ∷ 24 ∷ 25 ∷ 22 ∷ 23 ∷ 20 ∷ 21 ∷ 18 ∷ 19 ∷ 16 ∷ 17 ∷ 14 ∷ 15 ∷ 12 ∷ 13 ∷ 10 ∷ 11 ∷ 8 ∷ 9 ∷ 6 ∷ 7 ∷ 4 ∷ 5 ∷ []) $
         all-freed ! mir.locals (l₀ ∷ l₁ ∷ l₂ ∷ l₃ ∷ l₄ ∷ l₅ ∷ l₆ ∷ l₇ ∷ l₈ ∷ l₉ ∷ l₁₀ ∷ l₁₁ ∷ l₁₂ ∷ l₁₃ ∷ l₁₄ ∷ l₁₅ ∷ l₁₆ ∷ l₁₇ ∷ l₁₈ ∷ l₁₉ ∷ []) (full _ ∷ full _ ∷ full _ ∷ full _ ∷ full _ ∷ full _ ∷ full _ ∷ full _ ∷ full _ ∷ bare ∷ full _ ∷ full _ ∷ full _ ∷ full _ ∷ full _ ∷ full _ ∷ bare ∷ bare ∷ bare ∷ bare ∷ []) tt $
-        suffices ! _ (ends-at 𝓤 H A move-one.ended stayed c W y _ (a .1 .1 .0) (V₁ .memory .threads, (V₁ .memory .cpus, (tt, (tt, (tt, tt))))) (sym ((refl ∙ sym (subst (λ (us : List Thread). length us ≡ length ys) (e₁₁ .1 .0) (ls₁₀ .0)))), (sym ((refl ∙ sym (subst (λ (us : List (List ℕ)). length us ≡ length ys′) (e₁₁ .1 .1) (ls₁₀ .1 .0)))), (tt, (tt, (tt, tt)))))) $ says ! (so {X = Left ℕ Memory} (record { answer = (a .1 .1 .0); memory = record { threads = (V₁ .memory .threads); cpus = (V₁ .memory .cpus) } }) (moveOne (a .0) (a .1 .0) (a .1 .1 .0) (record { threads = ys; cpus = ys′ })) ((no (not ((a .1 .0) .moves)) h₁ _ (yes (isNobody (V₁ .answer)) h₂ _ (refl))))) $
+        suffices ! _ (ends-at 𝓤 H A move-one.ended stayed c W y _ (a .1 .1 .0) (V₁ .memory .threads, (V₁ .memory .cpus, (tt, (tt, (tt, tt))))) (sym ((refl ∙ sym (subst (λ (us : List Thread). length us ≡ length ys) (e₁₁ .1 .0) (ls₁₀ .0)))), (sym ((refl ∙ sym (subst (λ (us : List (List ℕ)). length us ≡ length ys′) (e₁₁ .1 .1) (ls₁₀ .1 .0)))), (tt, (tt, (tt, tt)))))) $ says ! (so {X = Left ℕ Memory} (record { answer = (a .1 .1 .0); memory = record { threads = (V₁ .memory .threads); cpus = (V₁ .memory .cpus) } }) (move-one-def (a .0) (a .1 .0) (a .1 .1 .0) (record { threads = ys; cpus = ys′ })) ((no (not ((a .1 .0) .moves)) h₁ _ (yes (is-nobody (V₁ .answer)) h₂ _ (refl))))) $
         leaves2 ! (number w64) Ds a (a .1 .1 .0) are (are .1 .1 .0))
         (λ h₂.
         nothing ! $
-        call-slices (number w64) (Taken° ∷ []) ((V₁ .answer, tt)) (emp 𝓤) ([]) ! fm (λ r ws. r ≡ (threadOf (V₁ .answer))) ((is₁₂, tt)) (id⊢ 𝓤 (emp 𝓤))
+        call-slices (number w64) (Taken° ∷ []) ((V₁ .answer, tt)) (emp 𝓤) ([]) ! fm (λ r ws. r ≡ (thread-of (V₁ .answer))) ((is₁₂, tt)) (id⊢ 𝓤 (emp 𝓤))
         (λ νs. cited 𝓤 H (tripleOf 𝓤 H A fn-sched-queues-queues-thread-of.signature (fn-sched-queues-queues-thread-of.spec 𝓤 H A (𝓜 .mem) (𝓡 .run))) 𝓜 𝓡 code.env fn-sched-queues-queues-thread-of-def.name fn-sched-queues-queues-thread-of-def.routine code.calls-sched-queues·queues·thread-of (fn-sched-queues-queues-thread-of-thm.met 𝓤 H 𝓜 𝓖 𝓡) ((tt, tt, tt, (V₁ .answer, tt), spell (Taken° ∷ []) ((V₁ .answer, tt))), tt))
         (λ k. and-then ! (load ! (from ! (stop !)) (look ! 27 refl)) (no-more !)) (λ r₁₉ ws₂₀ is₂₁ ls₂₂ e₂₃.
         drop ! $
         told ! (number w64) (e₂₃) is₂₁ (λ is₂₄.
-        land ! (from ! (stop !)) (init ! 24 refl ((number w64) .typed 𝓤 H A W (threadOf (V₁ .answer)) (is₂₄) .0)) $
+        land ! (from ! (stop !)) (init ! 24 refl ((number w64) .typed 𝓤 H A W (thread-of (V₁ .answer)) (is₂₄) .0)) $
         forget ! 30 refl $
         forget ! 26 refl $
         forget ! 22 refl $

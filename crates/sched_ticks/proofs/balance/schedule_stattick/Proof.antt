@@ -31,24 +31,24 @@ use denote.Triple.Table.{cited}
 use denote.Triple.Clauses.{Clauses}
 use denote.Triple.Walked.{says, Stays, stay-none, stay-slice, stay-none-slice, walkOf, goes-none, goes-slice, goes-none-slice, ends-at}
 use denote.Exit.{yes as kept-yes}
-use Rattle.lent.proofs.Walk.{Datum, number, nil, struct, Dens, AreD, listed, spell, lent-as, slice-of, kept, opened, closed, full, told, proved}
-use Rattle.lent.proofs.Lent.{mutable, passed, call-left, all-freed, so, begins3, leaves3}
-use Rattle.lent.specs.Left.{Memory, Left}
-use Rattle.lent.specs.Rq.{clockDef}
-use Rattle.sched_ticks.specs.Balance.{scheduleStattick, maybeRebalance, clocked}
+use Rattle.records.proofs.Walk.{Datum, number, nil, struct, Dens, AreD, listed, spell, lent-as, slice-of, kept, opened, closed, full, told, proved}
+use Rattle.records.proofs.Lent.{mutable, passed, call-left, all-freed, so, begins3, leaves3}
+use Rattle.records.specs.Left.{Memory, Left}
+use Rattle.records.specs.Rq.{clock-def}
+use Rattle.sched_ticks.specs.Balance.{schedule-stattick-def, maybe-rebalance-def, clocked}
 use denote.Struct.Laws as LL
-use Rattle.step.specs.declared.context.Context.{Context}
-use Rattle.step.proofs.context.Context as Context·
-use Rattle.step.proofs.context.Context.Laws as Context·laws
+use Rattle.sched_words.specs.declared.context.Context.{Context}
+use Rattle.sched_words.proofs.context.Context as Context·
+use Rattle.sched_words.proofs.context.Context.Laws as Context·laws
 use Rattle.thread.specs.declared.Thread.{Thread}
 use Rattle.thread.proofs.Thread as Thread·
 use Rattle.thread.proofs.Thread.Laws as Thread·laws
 use Rattle.sched_ticks.proofs.balance.schedule_maybe_rebalance as fn-sched-ticks-balance-schedule-maybe-rebalance
 use Rattle.sched_ticks.proofs.balance.schedule_maybe_rebalance.Symbol as fn-sched-ticks-balance-schedule-maybe-rebalance-def
 use Rattle.sched_ticks.proofs.balance.schedule_maybe_rebalance.Met as fn-sched-ticks-balance-schedule-maybe-rebalance-thm
-use Rattle.lent.proofs.rq.clock as fn-lent-rq-clock
-use Rattle.lent.proofs.rq.clock.Symbol as fn-lent-rq-clock-def
-use Rattle.lent.proofs.rq.clock.Met as fn-lent-rq-clock-thm
+use Rattle.records.proofs.rq.clock as fn-records-rq-clock
+use Rattle.records.proofs.rq.clock.Symbol as fn-records-rq-clock-def
+use Rattle.records.proofs.rq.clock.Met as fn-records-rq-clock-thm
 use Rattle.sched_ticks.proofs.balance.schedule_stattick.Key.{name as #schedule-stattick}
 use Rattle.sched_ticks.proofs.balance.schedule_stattick as schedule-stattick
 use Rattle.sched_ticks.proofs.balance.schedule_stattick.Statement as stated
@@ -109,13 +109,13 @@ module _ {M : Type 1} (𝓤 : URA M) (H : Heap 𝓤) (𝓜 : Model 𝓤 H) (𝓖
     Post = walkOf 𝓤 H A schedule-stattick.ended stayed c .post y
 
     abbrev V₁ : Left ℕ Memory
-    V₁ = maybeRebalance (a .0) (a .1 .0) (a .1 .1 .0) ys″ (record { threads = ys; cpus = ys′ })
+    V₁ = maybe-rebalance-def (a .0) (a .1 .0) (a .1 .1 .0) ys″ (record { threads = ys; cpus = ys′ })
 
     abbrev V₂ : List (List ℕ)
-    V₂ = clockDef ((a .0) .us) (V₁ .memory .cpus)
+    V₂ = clock-def ((a .0) .us) (V₁ .memory .cpus)
 
     walk : ent 𝓤 (onEntry 𝓤 H A schedule-stattick.signature (κ, (κ′, (κ″, tt))) (q, (q′, (q″, tt))) ((lent-as b o γ ys, (lent-as b′ o′ γ′ ys′, (lent-as b″ o″ γ″ ys″, a)))) ((s ∷ [], (s′ ∷ [], (s″ ∷ [], spell Ds a))))) (WpFn 𝓤 H C Λ code.function (s ∷ s′ ∷ s″ ∷ listed Ds a) Post)
-    unfolding scheduleStattick clocked
+    unfolding schedule-stattick-def clocked
     walk =
         qed W ((‵ (flft κ q) ⊛ (‵ (flft κ′ q′) ⊛ (‵ (flft κ″ q″) ⊛ (‵ ftrue)))) ∷ ‵ (owns (MutSlice (named 0) κ Thread·.the-row ∷ MutSlice (named 1) κ′ (Array u64 96) ∷ ShrSlice (named 2) κ″ (Array u64 32) ∷ Context·.the-row ∷ u64 ∷ u64 ∷ []) ((lent-as b o γ ys, (lent-as b′ o′ γ′ ys′, (lent-as b″ o″ γ″ ys″, a)))) ((s ∷ [], (s′ ∷ [], (s″ ∷ [], spell Ds a))))) ∷ []) ∵ begins3 ! $ enter ! C _ code.function (s ∷ s′ ∷ s″ ∷ listed Ds a) _ $
         alloc1 ! (λ l₀. alloc1 ! (λ l₁. alloc1 ! (λ l₂. alloc1 ! (λ l₃. alloc1 ! (λ l₄. alloc1 ! (λ l₅. alloc1 ! (λ l₆. alloc1 ! (λ l₇. alloc1 ! (λ l₈. alloc1 ! (λ l₉. alloc1 ! (λ l₁₀. alloc1 ! (λ l₁₁. alloc1 ! (λ l₁₂. alloc1 ! (λ l₁₃. alloc1 ! (λ l₁₄. alloc1 ! (λ l₁₅. alloc0 ! $ params1 ! $
@@ -159,7 +159,7 @@ module _ {M : Type 1} (𝓤 : URA M) (H : Heap 𝓤) (𝓜 : Model 𝓤 H) (𝓖
         move ! (3 ∷ 0 ∷ []) $
         join ! $
         call-left nil (number w64 ∷ []) (((a .0) .us, tt)) (emp 𝓤) ((mutable (Array u64 96) (V₁ .memory .cpus) b′ o′ n′ ((refl ∙ sym (subst (λ (us : List (List ℕ)). length us ≡ length ys′) (e₅ .1 .1) (ls₄ .1 .0)))) room′) ∷ []) ! fm (λ r ws. ws .0 ≡ (V₂)) (λ r ws. _≡_ {A = List (List ℕ)} (ws .0) V₂) (λ r ws e. e) ((LL.owed Context·.the-type Context·laws.the-laws (a .0) _ (are .0) .0, tt)) (id⊢ 𝓤 (emp 𝓤))
-        (λ νs. cited 𝓤 H (tripleOf 𝓤 H A fn-lent-rq-clock.signature (fn-lent-rq-clock.spec 𝓤 H A (𝓜 .mem) (𝓡 .run))) 𝓜 𝓡 code.env fn-lent-rq-clock-def.name fn-lent-rq-clock-def.routine code.calls-lent·rq·clock (fn-lent-rq-clock-thm.met 𝓤 H 𝓜 𝓖 𝓡) (((νs .0 .0 ∷ [], tt), (fullShare, tt), tt, (lent-as b′ o′ (νs .0 .1) (V₁ .memory .cpus), ((a .0) .us, tt)), (slice-of b′ o′ (V₁ .memory .cpus) ∷ [], spell (number w64 ∷ []) (((a .0) .us, tt)))), tt))
+        (λ νs. cited 𝓤 H (tripleOf 𝓤 H A fn-records-rq-clock.signature (fn-records-rq-clock.spec 𝓤 H A (𝓜 .mem) (𝓡 .run))) 𝓜 𝓡 code.env fn-records-rq-clock-def.name fn-records-rq-clock-def.routine code.calls-records·rq·clock (fn-records-rq-clock-thm.met 𝓤 H 𝓜 𝓖 𝓡) (((νs .0 .0 ∷ [], tt), (fullShare, tt), tt, (lent-as b′ o′ (νs .0 .1) (V₁ .memory .cpus), ((a .0) .us, tt)), (slice-of b′ o′ (V₁ .memory .cpus) ∷ [], spell (number w64 ∷ []) (((a .0) .us, tt)))), tt))
         (λ k. and-then ! (load ! (from ! (stop !)) (look ! 6 refl)) (and-then ! (load ! (from ! (stop !)) (look ! 22 refl)) (no-more !))) (λ r₇ ws₈ is₉ ls₁₀ e₁₁.
         split ! $
         move ! (1 ∷ []) $
@@ -175,7 +175,7 @@ module _ {M : Type 1} (𝓤 : URA M) (H : Heap 𝓤) (𝓜 : Model 𝓤 H) (𝓖
         returns ! (look ! 36 refl) $
         move ! (36 ∷ 37 ∷ 34 ∷ 35 ∷ 32 ∷ 33 ∷ 30 ∷ 31 ∷ 28 ∷ 29 ∷ 26 ∷ 27 ∷ 24 ∷ 25 ∷ 22 ∷ 23 ∷ 20 ∷ 21 ∷ 18 ∷ 19 ∷ 16 ∷ 17 ∷ 14 ∷ 15 ∷ 12 ∷ 13 ∷ 10 ∷ 11 ∷ 8 ∷ 9 ∷ 6 ∷ 7 ∷ []) $
         all-freed ! mir.locals (l₀ ∷ l₁ ∷ l₂ ∷ l₃ ∷ l₄ ∷ l₅ ∷ l₆ ∷ l₇ ∷ l₈ ∷ l₉ ∷ l₁₀ ∷ l₁₁ ∷ l₁₂ ∷ l₁₃ ∷ l₁₄ ∷ l₁₅ ∷ []) (full _ ∷ full _ ∷ full _ ∷ full _ ∷ full _ ∷ full _ ∷ full _ ∷ full _ ∷ full _ ∷ full _ ∷ full _ ∷ full _ ∷ full _ ∷ full _ ∷ full _ ∷ full _ ∷ []) tt $
-        suffices ! _ (ends-at 𝓤 H A schedule-stattick.ended stayed c W y _ (V₁ .answer) (V₁ .memory .threads, (V₂, (tt, (tt, (tt, (tt, tt)))))) (sym ((refl ∙ sym (subst (λ (us : List Thread). length us ≡ length ys) (e₅ .1 .0) (ls₄ .0)))), (sym (((refl ∙ sym (subst (λ (us : List (List ℕ)). length us ≡ length ys′) (e₅ .1 .1) (ls₄ .1 .0))) ∙ sym (subst (λ (us : List (List ℕ)). length us ≡ length (V₁ .memory .cpus)) (e₁₁) (ls₁₀ .0)))), (tt, (tt, (tt, (tt, tt))))))) $ says ! (so {X = Left ℕ Memory} (record { answer = (V₁ .answer); memory = record { threads = (V₁ .memory .threads); cpus = (V₂) } }) (scheduleStattick (a .0) (a .1 .0) (a .1 .1 .0) ys″ (record { threads = ys; cpus = ys′ })) (refl)) $
+        suffices ! _ (ends-at 𝓤 H A schedule-stattick.ended stayed c W y _ (V₁ .answer) (V₁ .memory .threads, (V₂, (tt, (tt, (tt, (tt, tt)))))) (sym ((refl ∙ sym (subst (λ (us : List Thread). length us ≡ length ys) (e₅ .1 .0) (ls₄ .0)))), (sym (((refl ∙ sym (subst (λ (us : List (List ℕ)). length us ≡ length ys′) (e₅ .1 .1) (ls₄ .1 .0))) ∙ sym (subst (λ (us : List (List ℕ)). length us ≡ length (V₁ .memory .cpus)) (e₁₁) (ls₁₀ .0)))), (tt, (tt, (tt, (tt, tt))))))) $ says ! (so {X = Left ℕ Memory} (record { answer = (V₁ .answer); memory = record { threads = (V₁ .memory .threads); cpus = (V₂) } }) (schedule-stattick-def (a .0) (a .1 .0) (a .1 .1 .0) ys″ (record { threads = ys; cpus = ys′ })) (refl)) $
         leaves3 ! (number w64) Ds a (V₁ .answer) are (is₆))))))))))))))))))))
 
 pub schedule-stattick-spec : {M : Type 1} → stated.statement M

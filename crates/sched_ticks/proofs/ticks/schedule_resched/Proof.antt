@@ -31,25 +31,25 @@ use denote.Triple.Table.{cited}
 use denote.Triple.Clauses.{Clauses}
 use denote.Triple.Walked.{says, Stays, stay-none, stay-slice, stay-none-slice, walkOf, goes-none, goes-slice, goes-none-slice, ends-at}
 use denote.Exit.{yes as kept-yes}
-use Rattle.lent.proofs.Walk.{Datum, number, nil, struct, Dens, AreD, listed, spell, lent-as, slice-of, kept, opened, closed, full, told, proved}
-use Rattle.lent.proofs.Lent.{mutable, shared, passed, call-slices, all-freed, so, begins2, leaves2}
-use Rattle.sched_ticks.specs.Ticks.{scheduleResched}
-use Rattle.step.specs.Preempt.{rescheds}
-use Rattle.step.specs.Running.{runningAt}
+use Rattle.records.proofs.Walk.{Datum, number, nil, struct, Dens, AreD, listed, spell, lent-as, slice-of, kept, opened, closed, full, told, proved}
+use Rattle.records.proofs.Lent.{mutable, shared, passed, call-slices, all-freed, so, begins2, leaves2}
+use Rattle.sched_ticks.specs.Ticks.{schedule-resched-def}
+use Rattle.sched_words.specs.Preempt.{rescheds}
+use Rattle.sched_words.specs.Running.{running-at}
 use Rattle.thread.specs.Thread.{blank}
 use denote.Struct.Laws as LL
 use Rattle.thread.specs.declared.Thread.{Thread}
 use Rattle.thread.proofs.Thread as Thread·
 use Rattle.thread.proofs.Thread.Laws as Thread·laws
-use Rattle.step.proofs.running.running as fn-step-running-running
-use Rattle.step.proofs.running.running.Symbol as fn-step-running-running-def
-use Rattle.step.proofs.running.running.Met as fn-step-running-running-thm
-use Rattle.lent.proofs.records.get as fn-lent-records-get
-use Rattle.lent.proofs.records.get.Symbol as fn-lent-records-get-def
-use Rattle.lent.proofs.records.get.Met as fn-lent-records-get-thm
-use Rattle.step.proofs.preempt.resched as fn-step-preempt-resched
-use Rattle.step.proofs.preempt.resched.Symbol as fn-step-preempt-resched-def
-use Rattle.step.proofs.preempt.resched.Met as fn-step-preempt-resched-thm
+use Rattle.sched_words.proofs.running.running as fn-sched-words-running-running
+use Rattle.sched_words.proofs.running.running.Symbol as fn-sched-words-running-running-def
+use Rattle.sched_words.proofs.running.running.Met as fn-sched-words-running-running-thm
+use Rattle.records.proofs.record.get as fn-records-record-get
+use Rattle.records.proofs.record.get.Symbol as fn-records-record-get-def
+use Rattle.records.proofs.record.get.Met as fn-records-record-get-thm
+use Rattle.sched_words.proofs.preempt.resched as fn-sched-words-preempt-resched
+use Rattle.sched_words.proofs.preempt.resched.Symbol as fn-sched-words-preempt-resched-def
+use Rattle.sched_words.proofs.preempt.resched.Met as fn-sched-words-preempt-resched-thm
 use Rattle.sched_ticks.proofs.ticks.schedule_resched.Key.{name as #schedule-resched}
 use Rattle.sched_ticks.proofs.ticks.schedule_resched as schedule-resched
 use Rattle.sched_ticks.proofs.ticks.schedule_resched.Statement as stated
@@ -101,10 +101,10 @@ module _ {M : Type 1} (𝓤 : URA M) (H : Heap 𝓤) (𝓜 : Model 𝓤 H) (𝓖
     Post = walkOf 𝓤 H A schedule-resched.ended stayed c .post y
 
     abbrev V₁ : Thread
-    V₁ = getD ys (runningAt ys′ (a .0)) blank
+    V₁ = getD ys (running-at ys′ (a .0)) blank
 
     walk : ent 𝓤 (onEntry 𝓤 H A schedule-resched.signature (κ, (κ′, tt)) (q, (q′, tt)) ((lent-as b o γ ys, (lent-as b′ o′ γ′ ys′, a))) ((s ∷ [], (s′ ∷ [], spell Ds a)))) (WpFn 𝓤 H C Λ code.function (s ∷ s′ ∷ listed Ds a) Post)
-    unfolding scheduleResched
+    unfolding schedule-resched-def
     walk =
         qed W ((‵ (flft κ q) ⊛ (‵ (flft κ′ q′) ⊛ (‵ ftrue))) ∷ ‵ (owns (ShrSlice (named 0) κ Thread·.the-row ∷ MutSlice (named 1) κ′ (Array u64 96) ∷ u64 ∷ []) ((lent-as b o γ ys, (lent-as b′ o′ γ′ ys′, a))) ((s ∷ [], (s′ ∷ [], spell Ds a)))) ∷ []) ∵ begins2 ! $ enter ! C _ code.function (s ∷ s′ ∷ listed Ds a) _ $
         alloc1 ! (λ l₀. alloc1 ! (λ l₁. alloc1 ! (λ l₂. alloc1 ! (λ l₃. alloc1 ! (λ l₄. alloc1 ! (λ l₅. alloc1 ! (λ l₆. alloc1 ! (λ l₇. alloc1 ! (λ l₈. alloc1 ! (λ l₉. alloc1 ! (λ l₁₀. alloc0 ! $ params1 ! $
@@ -117,20 +117,20 @@ module _ {M : Type 1} (𝓤 : URA M) (H : Heap 𝓤) (𝓜 : Model 𝓤 H) (𝓖
         nothing ! $
         move ! (3 ∷ 0 ∷ []) $
         join ! $
-        call-slices (number w64) (number w64 ∷ []) ((a .0, tt)) (emp 𝓤) ((shared (Array u64 96) ys′ b′ o′ n′ refl room′) ∷ []) ! fm (λ r ws. r ≡ (runningAt ys′ (a .0))) ((are .0, tt)) (id⊢ 𝓤 (emp 𝓤))
-        (λ νs. cited 𝓤 H (tripleOf 𝓤 H A fn-step-running-running.signature (fn-step-running-running.spec 𝓤 H A (𝓜 .mem) (𝓡 .run))) 𝓜 𝓡 code.env fn-step-running-running-def.name fn-step-running-running-def.routine code.calls-step·running·running (fn-step-running-running-thm.met 𝓤 H 𝓜 𝓖 𝓡) (((νs .0 .0 ∷ [], tt), (fullShare, tt), tt, (lent-as b′ o′ (νs .0 .1) ys′, (a .0, tt)), (slice-of b′ o′ ys′ ∷ [], spell (number w64 ∷ []) ((a .0, tt)))), tt))
+        call-slices (number w64) (number w64 ∷ []) ((a .0, tt)) (emp 𝓤) ((shared (Array u64 96) ys′ b′ o′ n′ refl room′) ∷ []) ! fm (λ r ws. r ≡ (running-at ys′ (a .0))) ((are .0, tt)) (id⊢ 𝓤 (emp 𝓤))
+        (λ νs. cited 𝓤 H (tripleOf 𝓤 H A fn-sched-words-running-running.signature (fn-sched-words-running-running.spec 𝓤 H A (𝓜 .mem) (𝓡 .run))) 𝓜 𝓡 code.env fn-sched-words-running-running-def.name fn-sched-words-running-running-def.routine code.calls-sched-words·running·running (fn-sched-words-running-running-thm.met 𝓤 H 𝓜 𝓖 𝓡) (((νs .0 .0 ∷ [], tt), (fullShare, tt), tt, (lent-as b′ o′ (νs .0 .1) ys′, (a .0, tt)), (slice-of b′ o′ ys′ ∷ [], spell (number w64 ∷ []) ((a .0, tt)))), tt))
         (λ k. and-then ! (load ! (from ! (stop !)) (look ! 10 refl)) (and-then ! (load ! (from ! (stop !)) (look ! 18 refl)) (no-more !))) (λ r₁ ws₂ is₃ ls₄ e₅.
         split ! $
         move ! (1 ∷ []) $
         drop ! $
         told ! (number w64) (e₅) is₃ (λ is₆.
-        land ! (from ! (stop !)) (init ! 16 refl ((number w64) .typed 𝓤 H A W (runningAt ys′ (a .0)) (is₆) .0)) $
+        land ! (from ! (stop !)) (init ! 16 refl ((number w64) .typed 𝓤 H A W (running-at ys′ (a .0)) (is₆) .0)) $
         nothing ! $
         move ! (2 ∷ 3 ∷ []) $
         join ! $
         join ! $
-        call-slices Thread° (number w64 ∷ []) ((runningAt ys′ (a .0), tt)) (emp 𝓤) ((passed Thread·.the-row ys b o κ q γ) ∷ []) ! fm (λ r ws. r ≡ V₁) ((is₆, tt)) (id⊢ 𝓤 (emp 𝓤))
-        (λ νs. cited 𝓤 H (tripleOf 𝓤 H A fn-lent-records-get.signature (fn-lent-records-get.spec 𝓤 H A (𝓜 .mem) (𝓡 .run))) 𝓜 𝓡 code.env fn-lent-records-get-def.name fn-lent-records-get-def.routine code.calls-lent·records·get (fn-lent-records-get-thm.met 𝓤 H 𝓜 𝓖 𝓡) (((κ, tt), (q, tt), tt, (lent-as b o γ ys, (runningAt ys′ (a .0), tt)), (slice-of b o ys ∷ [], spell (number w64 ∷ []) ((runningAt ys′ (a .0), tt)))), tt))
+        call-slices Thread° (number w64 ∷ []) ((running-at ys′ (a .0), tt)) (emp 𝓤) ((passed Thread·.the-row ys b o κ q γ) ∷ []) ! fm (λ r ws. r ≡ V₁) ((is₆, tt)) (id⊢ 𝓤 (emp 𝓤))
+        (λ νs. cited 𝓤 H (tripleOf 𝓤 H A fn-records-record-get.signature (fn-records-record-get.spec 𝓤 H A (𝓜 .mem) (𝓡 .run))) 𝓜 𝓡 code.env fn-records-record-get-def.name fn-records-record-get-def.routine code.calls-records·record·get (fn-records-record-get-thm.met 𝓤 H 𝓜 𝓖 𝓡) (((κ, tt), (q, tt), tt, (lent-as b o γ ys, (running-at ys′ (a .0), tt)), (slice-of b o ys ∷ [], spell (number w64 ∷ []) ((running-at ys′ (a .0), tt)))), tt))
         (λ k. and-then ! (load ! (from ! (stop !)) (look ! 21 refl)) (and-then ! (load ! (from ! (stop !)) (look ! 15 refl)) (no-more !))) (λ r₇ ws₈ is₉ ls₁₀ e₁₁.
         split ! $
         split ! $
@@ -144,7 +144,7 @@ module _ {M : Type 1} (𝓤 : URA M) (H : Heap 𝓤) (𝓜 : Model 𝓤 H) (𝓖
         move ! (3 ∷ 0 ∷ []) $
         join ! $
         call-slices nil (number w64 ∷ Thread° ∷ []) ((a .0, (V₁, tt))) (emp 𝓤) ((mutable (Array u64 96) ys′ b′ o′ n′ refl room′) ∷ []) ! fm (λ r ws. ws .0 ≡ (rescheds ys′ (a .0) V₁)) ((are .0, (is₁₂, tt))) (id⊢ 𝓤 (emp 𝓤))
-        (λ νs. cited 𝓤 H (tripleOf 𝓤 H A fn-step-preempt-resched.signature (fn-step-preempt-resched.spec 𝓤 H A (𝓜 .mem) (𝓡 .run))) 𝓜 𝓡 code.env fn-step-preempt-resched-def.name fn-step-preempt-resched-def.routine code.calls-step·preempt·resched (fn-step-preempt-resched-thm.met 𝓤 H 𝓜 𝓖 𝓡) (((νs .0 .0 ∷ [], tt), (fullShare, tt), tt, (lent-as b′ o′ (νs .0 .1) ys′, (a .0, (V₁, tt))), (slice-of b′ o′ ys′ ∷ [], spell (number w64 ∷ Thread° ∷ []) ((a .0, (V₁, tt))))), tt))
+        (λ νs. cited 𝓤 H (tripleOf 𝓤 H A fn-sched-words-preempt-resched.signature (fn-sched-words-preempt-resched.spec 𝓤 H A (𝓜 .mem) (𝓡 .run))) 𝓜 𝓡 code.env fn-sched-words-preempt-resched-def.name fn-sched-words-preempt-resched-def.routine code.calls-sched-words·preempt·resched (fn-sched-words-preempt-resched-thm.met 𝓤 H 𝓜 𝓖 𝓡) (((νs .0 .0 ∷ [], tt), (fullShare, tt), tt, (lent-as b′ o′ (νs .0 .1) ys′, (a .0, (V₁, tt))), (slice-of b′ o′ ys′ ∷ [], spell (number w64 ∷ Thread° ∷ []) ((a .0, (V₁, tt))))), tt))
         (λ k. and-then ! (load ! (from ! (stop !)) (look ! 4 refl)) (and-then ! (load ! (from ! (stop !)) (look ! 18 refl)) (and-then ! (load ! (from ! (stop !)) (look ! 14 refl)) (no-more !)))) (λ r₁₃ ws₁₄ is₁₅ ls₁₆ e₁₇.
         split ! $
         move ! (1 ∷ []) $
@@ -158,7 +158,7 @@ module _ {M : Type 1} (𝓤 : URA M) (H : Heap 𝓤) (𝓜 : Model 𝓤 H) (𝓖
         returns ! (look ! 24 refl) $
         move ! (24 ∷ 25 ∷ 22 ∷ 23 ∷ 20 ∷ 21 ∷ 18 ∷ 19 ∷ 16 ∷ 17 ∷ 14 ∷ 15 ∷ 12 ∷ 13 ∷ 10 ∷ 11 ∷ 8 ∷ 9 ∷ 6 ∷ 7 ∷ 4 ∷ 5 ∷ []) $
         all-freed ! mir.locals (l₀ ∷ l₁ ∷ l₂ ∷ l₃ ∷ l₄ ∷ l₅ ∷ l₆ ∷ l₇ ∷ l₈ ∷ l₉ ∷ l₁₀ ∷ []) (full _ ∷ full _ ∷ full _ ∷ full _ ∷ full _ ∷ full _ ∷ full _ ∷ full _ ∷ full _ ∷ full _ ∷ full _ ∷ []) tt $
-        suffices ! _ (ends-at 𝓤 H A schedule-resched.ended stayed c W y _ (tt) (tt, (rescheds ys′ (a .0) V₁, (tt, tt))) (tt, (sym ((refl ∙ sym (subst (λ (us : List (List ℕ)). length us ≡ length ys′) (e₁₇) (ls₁₆ .0)))), (tt, tt)))) $ says ! (so {X = List (List ℕ)} ((rescheds ys′ (a .0) V₁)) (scheduleResched (a .0) ys ys′) (refl)) $
+        suffices ! _ (ends-at 𝓤 H A schedule-resched.ended stayed c W y _ (tt) (tt, (rescheds ys′ (a .0) V₁, (tt, tt))) (tt, (sym ((refl ∙ sym (subst (λ (us : List (List ℕ)). length us ≡ length ys′) (e₁₇) (ls₁₆ .0)))), (tt, tt)))) $ says ! (so {X = List (List ℕ)} ((rescheds ys′ (a .0) V₁)) (schedule-resched-def (a .0) ys ys′) (refl)) $
         leaves2 ! nil Ds a (tt) are (refl)))))))))))))))))
 
 pub schedule-resched-spec : {M : Type 1} → stated.statement M

@@ -8,20 +8,20 @@ use Rattle.queue.specs.Lists.{scan-start}
 use Rattle.rules.specs.Queue.{nr-buckets}
 use native.Mathlib.Omega.{arith}
 use Prim.Native.Nat.{_+_, _-_, _≤_}
-use Rattle.queue.specs.Lists.{firstFrom, scanHeads}
+use Rattle.queue.specs.Lists.{first-from, scan-heads}
 use mathlib.Core.Path.{_≡_}
 use borrow.Author.Needs.{needs}
 use Rattle.queue.proofs.lists.Lists.first_from.Statement.{statement}
 use Rattle.queue.proofs.lists.Lists.first_from.Tie as tie
 
 abbrev Inv-loop : tie.InvT-loop
-Inv-loop from self start i₀ i = (i ≤ 8) × (firstFrom self from ≡ scanHeads 8 (self .heads) (start + i) (8 - i))
+Inv-loop from self start i₀ i = (i ≤ 8) × (first-from self from ≡ scan-heads 8 (self .heads) (start + i) (8 - i))
 
 abbrev μ-loop : tie.MeasureT-loop
 μ-loop from self start i₀ i = 8 - i
 
 loop-holds : tie.Need-loop-holds Inv-loop μ-loop
-unfolding firstFrom nr-buckets
+unfolding first-from nr-buckets
 loop-holds c = (omega arith, scan-start _ _ _ _)
 
 add-q : tie.Need-add-q Inv-loop μ-loop

@@ -8,20 +8,20 @@ use Rattle.rules.specs.Queue.{nr-buckets}
 use mathlib.Core.Path.{refl}
 use native.Mathlib.Omega.{arith}
 use Prim.Native.Nat.{_≤_}
-use Rattle.queue.specs.Lists.{highestHeld, topHeads}
+use Rattle.queue.specs.Lists.{highest-held, top-heads}
 use mathlib.Core.Path.{_≡_}
 use borrow.Author.Needs.{needs}
 use Rattle.queue.proofs.lists.Lists.highest.Statement.{statement}
 use Rattle.queue.proofs.lists.Lists.highest.Tie as tie
 
 abbrev Inv-loop : tie.InvT-loop
-Inv-loop self i₀ i = (i ≤ 8) × (highestHeld self ≡ topHeads (self .heads) i)
+Inv-loop self i₀ i = (i ≤ 8) × (highest-held self ≡ top-heads (self .heads) i)
 
 abbrev μ-loop : tie.MeasureT-loop
 μ-loop self i₀ i = i
 
 loop-holds : tie.Need-loop-holds Inv-loop μ-loop
-unfolding highestHeld nr-buckets
+unfolding highest-held nr-buckets
 loop-holds c = (omega arith, refl)
 
 sub-i : tie.Need-sub-i Inv-loop μ-loop
@@ -43,7 +43,7 @@ loop-again : tie.Need-loop-again Inv-loop μ-loop
 loop-again c = (omega arith, c .before .before .before .loop .inv .1 ∙ top-step _ _ (omega arith) ∙ rw (eq-eqb _ _ (c .if2 .left)))
 
 returns : tie.Need-returns Inv-loop μ-loop
-unfolding topHeads
+unfolding top-heads
 returns c = sym (c .before .loop .inv .1 ∙ rw (c .if1 .taken))
 
 returns-2 : tie.Need-returns-2 Inv-loop μ-loop

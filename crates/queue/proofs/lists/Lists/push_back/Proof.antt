@@ -1,5 +1,5 @@
 use borrow.Author.Tests.{ne-eqb}
-use Rattle.queue.specs.Lists.{pushBack}
+use Rattle.queue.specs.Lists.{push-back}
 use Rattle.rules.specs.Queue.{nr-buckets}
 use borrow.Author.Tests.{eq-eqb}
 use borrow.Author.Needs.{needs}
@@ -31,11 +31,11 @@ element-write-self-2 : tie.Need-element-write-self-2
 element-write-self-2 c = search needs
 
 returns : tie.Need-returns
-unfolding pushBack nr-buckets
+unfolding push-back nr-buckets
 returns c = simp (eq-eqb _ _ (c .if1 .taken))
 
 returns-2 : tie.Need-returns-2
-unfolding pushBack nr-buckets
+unfolding push-back nr-buckets
 returns-2 c = simp (ne-eqb _ _ (c .if1 .left))
 
 pub push-back-spec : {M : Type 1} → statement M

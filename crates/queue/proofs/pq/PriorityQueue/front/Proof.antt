@@ -1,19 +1,19 @@
 use borrow.Author.Tests.{ne-eqb}
-use Rattle.queue.specs.PriorityQueue.{pqFront}
+use Rattle.queue.specs.PriorityQueue.{pq-front}
 use borrow.Author.Tests.{eq-eqb}
 use borrow.Author.Needs.{needs}
 use Rattle.queue.proofs.pq.PriorityQueue.front.Statement.{statement}
 use Rattle.queue.proofs.pq.PriorityQueue.front.Tie as tie
 
 returns : tie.Need-returns
-unfolding pqFront
+unfolding pq-front
 returns c = simp (eq-eqb _ _ (c .if1 .taken))
 
 first-from-requires : tie.Need-first-from-requires
 first-from-requires c κs = search needs
 
 returns-2 : tie.Need-returns-2
-unfolding pqFront
+unfolding pq-front
 returns-2 c = simp (ne-eqb _ _ (c .before .before .if1 .left)) (c .first-from .ensures)
 
 pub front-spec : {M : Type 1} → statement M

@@ -1,5 +1,5 @@
 use Rattle.queue.specs.Num.{sum}
-use Rattle.queue.specs.PriorityQueue.{pqInsert}
+use Rattle.queue.specs.PriorityQueue.{pq-insert}
 use borrow.Author.Needs.{needs}
 use Rattle.queue.proofs.pq.PriorityQueue.insert.Statement.{statement}
 use Rattle.queue.proofs.pq.PriorityQueue.insert.Tie as tie
@@ -14,7 +14,7 @@ wrapping-add-u64-requires : tie.Need-wrapping-add-u64-requires
 wrapping-add-u64-requires c κs = search needs
 
 returns : tie.Need-returns
-unfolding pqInsert sum
+unfolding pq-insert sum
 returns c = cc
 
 pub insert-spec : {M : Type 1} → statement M

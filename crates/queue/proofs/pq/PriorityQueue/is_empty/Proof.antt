@@ -1,10 +1,10 @@
 use borrow.Author.Needs.{needs}
-use Rattle.queue.specs.PriorityQueue.{pqEmpty}
+use Rattle.queue.specs.PriorityQueue.{pq-empty}
 use Rattle.queue.proofs.pq.PriorityQueue.is_empty.Statement.{statement}
 use Rattle.queue.proofs.pq.PriorityQueue.is_empty.Tie as tie
 
 returns : tie.Need-returns
-unfolding pqEmpty
+unfolding pq-empty
 returns c = search needs
 
 pub is-empty-spec : {M : Type 1} → statement M

@@ -1,4 +1,4 @@
-use Rattle.queue.specs.PriorityQueue.{noPriority}
+use Rattle.queue.specs.PriorityQueue.{no-priority}
 use borrow.Author.Needs.{needs}
 use Rattle.queue.proofs.pq.PriorityQueue.new.Statement.{statement}
 use Rattle.queue.proofs.pq.PriorityQueue.new.Tie as tie
@@ -7,7 +7,7 @@ new-requires : tie.Need-new-requires
 new-requires c κs = search needs
 
 returns : tie.Need-returns
-unfolding noPriority
+unfolding no-priority
 returns c = cc
 
 pub new-spec : {M : Type 1} → statement M

@@ -1,4 +1,4 @@
-use Rattle.queue.specs.PriorityQueue.{pqTaken}
+use Rattle.queue.specs.PriorityQueue.{pq-taken}
 use borrow.Author.Needs.{needs}
 use Rattle.queue.proofs.pq.PriorityQueue.taken.Statement.{statement}
 use Rattle.queue.proofs.pq.PriorityQueue.taken.Tie as tie
@@ -10,7 +10,7 @@ difference-requires : tie.Need-difference-requires
 difference-requires c κs = search needs
 
 returns : tie.Need-returns
-unfolding pqTaken
+unfolding pq-taken
 returns c = cc
 
 pub taken-spec : {M : Type 1} → statement M

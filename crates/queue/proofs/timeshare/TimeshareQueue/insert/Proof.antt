@@ -2,7 +2,7 @@ use Rattle.queue.specs.Num.{sum}
 use Rattle.queue.specs.Timeshare.{slot}
 use Rattle.rules.specs.Buckets.{bucket}
 use Rattle.rules.specs.Queue.{nr-buckets, width}
-use Rattle.queue.specs.Timeshare.{tsInsert}
+use Rattle.queue.specs.Timeshare.{ts-insert}
 use borrow.Author.Needs.{needs}
 use Rattle.queue.proofs.timeshare.TimeshareQueue.insert.Statement.{statement}
 use Rattle.queue.proofs.timeshare.TimeshareQueue.insert.Tie as tie
@@ -32,7 +32,7 @@ wrapping-add-u64-requires-2 : tie.Need-wrapping-add-u64-requires-2
 wrapping-add-u64-requires-2 c κs = search needs
 
 returns : tie.Need-returns
-unfolding tsInsert slot width nr-buckets sum
+unfolding ts-insert slot width nr-buckets sum
 returns c = rw (c .before .before .before .before .push-back .ensures, c .wrapping-add-u642 .ensures, c .before .wrapping-add-u64 .ensures, c .before .before .before .before .before .before .bucket .ensures)
 
 pub insert-spec : {M : Type 1} → statement M

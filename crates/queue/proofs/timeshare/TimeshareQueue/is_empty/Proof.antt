@@ -1,10 +1,10 @@
 use borrow.Author.Needs.{needs}
-use Rattle.queue.specs.Timeshare.{tsEmpty}
+use Rattle.queue.specs.Timeshare.{ts-empty}
 use Rattle.queue.proofs.timeshare.TimeshareQueue.is_empty.Statement.{statement}
 use Rattle.queue.proofs.timeshare.TimeshareQueue.is_empty.Tie as tie
 
 returns : tie.Need-returns
-unfolding tsEmpty
+unfolding ts-empty
 returns c = search needs
 
 pub is-empty-spec : {M : Type 1} → statement M

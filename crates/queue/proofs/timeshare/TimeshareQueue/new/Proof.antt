@@ -1,4 +1,4 @@
-use Rattle.queue.specs.Timeshare.{noTimeshare}
+use Rattle.queue.specs.Timeshare.{no-timeshare}
 use Rattle.rules.specs.Queue.{nr-buckets}
 use borrow.Author.Needs.{needs}
 use Rattle.queue.proofs.timeshare.TimeshareQueue.new.Statement.{statement}
@@ -8,7 +8,7 @@ new-requires : tie.Need-new-requires
 new-requires c κs = search needs
 
 returns : tie.Need-returns
-unfolding noTimeshare nr-buckets
+unfolding no-timeshare nr-buckets
 returns c = cc
 
 pub new-spec : {M : Type 1} → statement M

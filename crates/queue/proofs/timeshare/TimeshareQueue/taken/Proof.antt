@@ -1,4 +1,4 @@
-use Rattle.queue.specs.Timeshare.{slot, tsTaken}
+use Rattle.queue.specs.Timeshare.{slot, ts-taken}
 use Rattle.rules.specs.Queue.{nr-buckets, width}
 use borrow.Author.Needs.{needs}
 use Rattle.queue.proofs.timeshare.TimeshareQueue.taken.Statement.{statement}
@@ -29,7 +29,7 @@ difference-requires : tie.Need-difference-requires
 difference-requires c κs = search needs
 
 returns : tie.Need-returns
-unfolding tsTaken slot width nr-buckets
+unfolding ts-taken slot width nr-buckets
 returns c = cc
 
 pub taken-spec : {M : Type 1} → statement M

@@ -1,4 +1,4 @@
-use Rattle.runqueue.specs.RunQueue.{frontThread}
+use Rattle.runqueue.specs.RunQueue.{front-thread}
 use borrow.Author.Needs.{needs}
 use Rattle.runqueue.proofs.rq.Front.thread.Statement.{statement}
 use Rattle.runqueue.proofs.rq.Front.thread.Tie as tie
@@ -10,11 +10,11 @@ enum-told : tie.Need-enum-told
 enum-told c = search needs
 
 returns : tie.Need-returns
-unfolding frontThread
+unfolding front-thread
 returns c = search needs
 
 returns-2 : tie.Need-returns-2
-unfolding frontThread
+unfolding front-thread
 returns-2 c = search needs
 
 pub thread-spec : {M : Type 1} → statement M

@@ -1,7 +1,7 @@
 use Rattle.queue.specs.declared.lists.Found.{Found}
 use Rattle.runqueue.specs.declared.rq.Front.the-variants as front
 use Rattle.rules.specs.declared.Part.the-variants as part
-use Rattle.runqueue.specs.RunQueue.{firstIn, rqFrontIdle}
+use Rattle.runqueue.specs.RunQueue.{first-in-def, rq-front-idle}
 use mathlib.Core.Path.{_∙_, ap, sym}
 use borrow.Author.Needs.{needs}
 use Rattle.runqueue.proofs.rq.RunQueue.front_idle.Statement.{statement}
@@ -17,12 +17,12 @@ enum-told : tie.Need-enum-told
 enum-told c = search needs
 
 returns : tie.Need-returns
-unfolding rqFrontIdle firstIn
-returns c = ap (λ (f : Found). firstIn part.Idle f front.Nothing) (sym (c .before .found .given .1) ∙ c .before .before .before .front .ensures)
+unfolding rq-front-idle first-in-def
+returns c = ap (λ (f : Found). first-in-def part.Idle f front.Nothing) (sym (c .before .found .given .1) ∙ c .before .before .before .front .ensures)
 
 returns-2 : tie.Need-returns-2
-unfolding rqFrontIdle firstIn
-returns-2 c = ap (λ (f : Found). firstIn part.Idle f front.Nothing) (sym (c .enum-told .given .1) ∙ c .before .before .front .ensures)
+unfolding rq-front-idle first-in-def
+returns-2 c = ap (λ (f : Found). first-in-def part.Idle f front.Nothing) (sym (c .enum-told .given .1) ∙ c .before .before .front .ensures)
 
 pub front-idle-spec : {M : Type 1} → statement M
 front-idle-spec = tie.close (tie.spec front-requires enum-known-found enum-told returns returns-2)

@@ -1,6 +1,6 @@
 use Rattle.queue.specs.declared.lists.Found.{Found}
 use Rattle.rules.specs.declared.Part.the-variants as part
-use Rattle.runqueue.specs.RunQueue.{firstIn, rqFrontIdle, rqFrontTimeshare}
+use Rattle.runqueue.specs.RunQueue.{first-in-def, rq-front-idle, rq-front-timeshare}
 use mathlib.Core.Path.{_∙_, ap, sym}
 use borrow.Author.Needs.{needs}
 use Rattle.runqueue.proofs.rq.RunQueue.front_timeshare.Statement.{statement}
@@ -19,12 +19,12 @@ front-idle-requires : tie.Need-front-idle-requires
 front-idle-requires c κs = search needs
 
 returns : tie.Need-returns
-unfolding rqFrontTimeshare firstIn
-returns c = ap (λ (f : Found). firstIn part.Timeshare f (rqFrontIdle (c .before .before .before .before .before .args .self))) (sym (c .before .found .given .1) ∙ c .before .before .before .front .ensures)
+unfolding rq-front-timeshare first-in-def
+returns c = ap (λ (f : Found). first-in-def part.Timeshare f (rq-front-idle (c .before .before .before .before .before .args .self))) (sym (c .before .found .given .1) ∙ c .before .before .before .front .ensures)
 
 returns-2 : tie.Need-returns-2
-unfolding rqFrontTimeshare firstIn
-returns-2 c = c .front-idle .ensures ∙ ap (λ (f : Found). firstIn part.Timeshare f (rqFrontIdle (c .before .before .before .before .before .args .self))) (sym (c .before .enum-told .given .1) ∙ c .before .before .before .front .ensures)
+unfolding rq-front-timeshare first-in-def
+returns-2 c = c .front-idle .ensures ∙ ap (λ (f : Found). first-in-def part.Timeshare f (rq-front-idle (c .before .before .before .before .before .args .self))) (sym (c .before .enum-told .given .1) ∙ c .before .before .before .front .ensures)
 
 pub front-timeshare-spec : {M : Type 1} → statement M
 front-timeshare-spec =

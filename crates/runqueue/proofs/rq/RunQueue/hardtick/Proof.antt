@@ -1,4 +1,4 @@
-use Rattle.runqueue.specs.RunQueue.{rqHardtick}
+use Rattle.runqueue.specs.RunQueue.{rq-hardtick}
 use borrow.Author.Needs.{needs}
 use Rattle.runqueue.proofs.rq.RunQueue.hardtick.Statement.{statement}
 use Rattle.runqueue.proofs.rq.RunQueue.hardtick.Tie as tie
@@ -7,7 +7,7 @@ difference-requires : tie.Need-difference-requires
 difference-requires c κs = search needs
 
 returns : tie.Need-returns
-unfolding rqHardtick
+unfolding rq-hardtick
 returns c = cc
 
 pub hardtick-spec : {M : Type 1} → statement M

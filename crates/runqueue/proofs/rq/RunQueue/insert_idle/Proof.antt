@@ -1,5 +1,5 @@
 use Rattle.rules.specs.Queue.{insert}
-use Rattle.runqueue.specs.RunQueue.{counted, rqInsertIdle, withIdle}
+use Rattle.runqueue.specs.RunQueue.{counted, rq-insert-idle, with-idle}
 use borrow.Author.Needs.{needs}
 use Rattle.runqueue.proofs.rq.RunQueue.insert_idle.Statement.{statement}
 use Rattle.runqueue.proofs.rq.RunQueue.insert_idle.Tie as tie
@@ -11,7 +11,7 @@ insert-requires : tie.Need-insert-requires
 insert-requires c κs = search needs
 
 returns : tie.Need-returns
-unfolding rqInsertIdle withIdle counted
+unfolding rq-insert-idle with-idle counted
 returns c = rw (c .before .insert .ensures, c .before .before .before .counted .ensures)
 
 pub insert-idle-spec : {M : Type 1} → statement M

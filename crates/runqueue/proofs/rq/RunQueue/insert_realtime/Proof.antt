@@ -1,5 +1,5 @@
 use Rattle.rules.specs.Queue.{insert}
-use Rattle.runqueue.specs.RunQueue.{counted, rqInsertRealtime, withRealtime}
+use Rattle.runqueue.specs.RunQueue.{counted, rq-insert-realtime, with-realtime}
 use borrow.Author.Needs.{needs}
 use Rattle.runqueue.proofs.rq.RunQueue.insert_realtime.Statement.{statement}
 use Rattle.runqueue.proofs.rq.RunQueue.insert_realtime.Tie as tie
@@ -11,7 +11,7 @@ insert-requires : tie.Need-insert-requires
 insert-requires c κs = search needs
 
 returns : tie.Need-returns
-unfolding rqInsertRealtime withRealtime counted
+unfolding rq-insert-realtime with-realtime counted
 returns c = rw (c .before .insert .ensures, c .before .before .before .counted .ensures)
 
 pub insert-realtime-spec : {M : Type 1} → statement M

@@ -1,6 +1,6 @@
 use Rattle.queue.specs.Num.{sum}
 use Rattle.rules.specs.Queue.{insert}
-use Rattle.runqueue.specs.RunQueue.{counted, rqInsertTimeshare, withTimeshare}
+use Rattle.runqueue.specs.RunQueue.{counted, rq-insert-timeshare, with-timeshare}
 use borrow.Author.Needs.{needs}
 use Rattle.runqueue.proofs.rq.RunQueue.insert_timeshare.Statement.{statement}
 use Rattle.runqueue.proofs.rq.RunQueue.insert_timeshare.Tie as tie
@@ -15,7 +15,7 @@ wrapping-add-u64-requires : tie.Need-wrapping-add-u64-requires
 wrapping-add-u64-requires c κs = search needs
 
 returns : tie.Need-returns
-unfolding rqInsertTimeshare withTimeshare counted sum
+unfolding rq-insert-timeshare with-timeshare counted sum
 returns c = rw (c .before .before .insert .ensures, c .wrapping-add-u64 .ensures, c .before .before .before .before .counted .ensures)
 
 pub insert-timeshare-spec : {M : Type 1} → statement M

@@ -1,4 +1,4 @@
-use Rattle.runqueue.specs.RunQueue.{noRunQueue}
+use Rattle.runqueue.specs.RunQueue.{no-run-queue}
 use borrow.Author.Needs.{needs}
 use Rattle.runqueue.proofs.rq.RunQueue.new.Statement.{statement}
 use Rattle.runqueue.proofs.rq.RunQueue.new.Tie as tie
@@ -13,7 +13,7 @@ new-requires-3 : tie.Need-new-requires-3
 new-requires-3 c κs = search needs
 
 returns : tie.Need-returns
-unfolding noRunQueue
+unfolding no-run-queue
 returns c = cc
 
 pub new-spec : {M : Type 1} → statement M

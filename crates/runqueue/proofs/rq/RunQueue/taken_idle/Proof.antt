@@ -1,4 +1,4 @@
-use Rattle.runqueue.specs.RunQueue.{advertising, rqTakenIdle, uncounted, withIdle}
+use Rattle.runqueue.specs.RunQueue.{advertising, rq-taken-idle, uncounted, with-idle}
 use borrow.Author.Needs.{needs}
 use Rattle.runqueue.proofs.rq.RunQueue.taken_idle.Statement.{statement}
 use Rattle.runqueue.proofs.rq.RunQueue.taken_idle.Tie as tie
@@ -16,7 +16,7 @@ advertised-requires : tie.Need-advertised-requires
 advertised-requires c κs = search needs
 
 returns : tie.Need-returns
-unfolding rqTakenIdle advertising withIdle uncounted
+unfolding rq-taken-idle advertising with-idle uncounted
 returns c = rw (c .advertised .ensures, c .before .highest-priority .ensures, c .before .before .taken .ensures, c .before .before .before .before .uncounted .ensures)
 
 pub taken-idle-spec : {M : Type 1} → statement M

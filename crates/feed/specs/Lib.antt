@@ -1,4 +1,0 @@
-pub mod Fed
-pub mod Feed
-pub mod Start
-pub mod Block

@@ -1,3 +1,0 @@
-// Functions over the thread records that the caller lends, and over the words of the CPUs.
-pub mod records;
-pub mod rq;

@@ -1,3 +1,0 @@
-// The tree of nodes (CPUTopoNode, processor/sched.rs) in lent words. Node 0 is the root; a node's children come after it and are in number order.
-pub mod node;
-pub mod words;

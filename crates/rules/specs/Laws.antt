@@ -1,0 +1,15 @@
+pub mod Bound
+pub mod Buckets
+pub mod Computed
+pub mod Distance
+pub mod Effect
+pub mod Held
+pub mod InOrder
+pub mod Kept
+pub mod Line
+pub mod Places
+pub mod Reached
+pub mod Refused
+pub mod Sound
+pub mod Steps
+pub mod Waiting

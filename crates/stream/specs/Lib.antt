@@ -1,0 +1,4 @@
+pub mod Block
+pub mod Feed
+pub mod Progress
+pub mod Start
