@@ -14,6 +14,7 @@ unfoldable pub Chain : (ℕ → ℕ) → ℕ → List ℕ → Type 0
 Chain next h [] = h ≡ NONE
 Chain next h (x ∷ l) = (h ≡ x) × Chain next (next x) l
 
+-- the last of the threads from x on
 unfoldable pub last : ℕ → List ℕ → ℕ
 last x [] = x
 last x (y ∷ l) = last y l
@@ -23,6 +24,7 @@ unfoldable pub Ends : ℕ → List ℕ → Type 0
 Ends t [] = Unit {0}
 Ends t (x ∷ l) = t ≡ last x l
 
+-- from h, the first, to t, the last
 pub record Linked (next : ℕ → ℕ) (h t : ℕ) (l : List ℕ) : Type 0 where
   pub runs : Chain next h l
   pub ends : Ends t l

@@ -6,7 +6,7 @@ use mathlib.Core.List.{List, [], _∷_}
 use lib.ListN.{length, getD}
 use lib.Dec.{eqb}
 use Rattle.rules.specs.Line.{has, count, Distinct, Below}
-use Rattle.rules.specs.Queue.{width, movable, nr-buckets, Queue, order, next, load, timeshare-load}
+use Rattle.rules.specs.Queue.{width, movable, nr-buckets, Queue, order, load, timeshare-load}
 use Rattle.rules.specs.Buckets.{Buckets, around}
 use Rattle.rules.specs.Priority.{nr-values, from-raw}
 use Rattle.queue.specs.declared.pq.PriorityQueue.{PriorityQueue}
@@ -64,6 +64,7 @@ pub record Queue-rep (limit : ℕ) (m : Marks) (q : RunQueue) (R : Queue-reading
   pub advertised-is : from-raw (q .«current_priority») ≡ R .advertised
   pub last-tick-is : q .«last_tick» ≡ R .last-tick
 
+-- thread z waits at CPU c
 abbrev pub waits : (ℕ → Queue-reading) → ℕ → ℕ → Bool
 waits Rs c z = has z (order (Rs c .queue))
 

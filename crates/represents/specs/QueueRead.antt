@@ -11,7 +11,7 @@ use Rattle.thread.specs.Reads.{reads}
 use Rattle.records.specs.Rq.{record-at}
 use Rattle.runqueue.specs.declared.rq.RunQueue.{RunQueue}
 
--- the list, read off the links: at most k threads
+-- from thread h along the links, at most k threads; NONE ends the list
 unfoldable pub walk : (ℕ → ℕ) → ℕ → ℕ → List ℕ
 walk next zero h = []
 walk next (suc k) h = cond (eqb h NONE) [] (h ∷ walk next k (next h))
@@ -30,6 +30,7 @@ marks ts = record {
   value = λ z. reads (record-at ts z) .stable .value;
 }
 
+-- the queue: from each head along the links, at most `limit` threads
 unfoldable pub queue-read : ℕ → Marks → RunQueue → Queue
 queue-read limit m q = record {
   realtime = map (walk (m .next) limit) (q .realtime .queues .heads);

@@ -26,6 +26,7 @@ met ch (suc k) n = join-all (met ch k) (ch n) ++ (n ∷ [])
 unfoldable pub met-first : Limits → Topology → List ℕ
 met-first limits t = join-all (met (children limits t) (nr-nodes limits t)) (children limits t 0)
 
+-- what holds of every topology that commands make
 pub record Topology-sound (limits : Limits) (t : Topology) : Type 0 where
   pub root : 0 < nr-nodes limits t
   pub parents : (m : ℕ) → 0 < m → m < nr-nodes limits t → parent-of limits t m < m
@@ -39,6 +40,7 @@ pub record Topology-sound (limits : Limits) (t : Topology) : Type 0 where
 unfoldable pub Sized : List (List ℕ) → Type 0
 Sized rows = (n : ℕ) → n < length rows → length (getD rows n []) ≡ width
 
+-- the type that node n was given
 unfoldable pub type-of : Topology → ℕ → ℕ
 type-of t n = getD (t .nodes) n (record { parent = 0; type = 0 }) .type
 
