@@ -41,8 +41,6 @@ use Rattle.questions.specs.declared.state.State.{State}
 use Rattle.represents.specs.State.{limits-in, runs, State-rep}
 use Rattle.stream.specs.Start.{new-marks, new-numbers, new-cpu-def, new-cpus}
 
--- what a reader reads
-
 -- A CPU as the start leaves it: no queue, and words that show a new CPU of the rules, undeclared and on no node.
 pub record New (limits : Limits) (cs : List (List ℕ)) (c : ℕ) : Type 0 where
   pub row : length (getD cs c []) ≡ width

@@ -151,8 +151,6 @@ length-stored ws at q =
     length-place _ (at + 64) (last-two q) 8 ∙ length-place _ (at + 56) (first-eight q) 8 ∙ length-lists _ (at + 40) (q .idle .queues)
     ∙ length-lists _ (at + 24) (q .timeshare .queues) ∙ length-place _ (at + 16) (q .timeshare .priorities) 8 ∙ length-lists ws at (q .realtime .queues)
 
--- ---- the queue of one CPU
-
 -- ---- laws
 
 -- the arrays of a run queue have eight elements each

@@ -48,8 +48,6 @@ module _ (limits : Limits) (t : Topology) where
   unfolding visited met-first met
   visited-met = visits-met (suc (nr-nodes limits t)) 0
 
--- ---- what holds of every topology that commands make
-
 -- ---- a new last child of p
 
 module _ (limits : Limits) (t : Topology) (p k : ℕ) where

@@ -24,8 +24,6 @@ use Rattle.represents.specs.Topology.{met-first, Topology-sound}
 use Rattle.represents.specs.Laws.Order.{leaf-list, visited-met}
 use Rattle.represents.specs.Topology.{type-of, Ranged, Topology-rep}
 
--- ---- the relation
-
 -- ---- general
 
 pub lesser-most : (a b : ℕ) → lesser a b ≤ b

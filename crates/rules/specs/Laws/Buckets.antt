@@ -14,8 +14,6 @@ use native.Mathlib.Omega.{arith}
 use Rattle.rules.specs.Laws.Line.{Comes, both}
 use Rattle.rules.specs.Buckets.{Buckets, bucket, around, Found, oldest, scan, join, pop, nothing, found}
 
--- ---- what a reader of the theorem reads
-
 -- ---- counting round
 
 -- below twice n, the remainder is the number, or n less

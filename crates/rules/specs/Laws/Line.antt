@@ -11,8 +11,6 @@ use borrow.Author.Tests.{eqb-true, eqb-false, eq-eqb, ne-eqb, lt-ltb}
 use native.Mathlib.Omega.{arith}
 use Rattle.rules.specs.Line.{has, ahead, count, Distinct, Below}
 
--- ---- what a reader of the theorem reads
-
 -- ---- for proofs
 
 -- a case split on a test, with the equation in each case
