@@ -50,7 +50,7 @@ use Rattle.records.specs.Left.{Memory, mem, Left}
 use Rattle.sched_words.specs.declared.context.Context.{Context}
 use Rattle.sched_queues.specs.Queues.{is-nobody, thread-of, schedule-thread-on-cpu-def, moved-for-def, take-from}
 use Rattle.sched_ticks.specs.Balance.{received, move-one-def}
-use Rattle.sched_laws.specs.Frames.{from-wakeups}
+use Rattle.sched_laws.specs.Frames.{from-wakeups, put-one}
 use Rattle.sched_laws.specs.Hardtick.{context}
 use Rattle.sched_laws.specs.Queues.{nobody-moved, shows-scheduled, counts-scheduled, from-handed, shows-taken-from}
 use Rattle.balance_laws.specs.Pairs.{PairUnder, chosen-in}
@@ -93,10 +93,6 @@ unfolding received is-nobody thread-of
 received-some k r n g x e =
     ap (λ (a : lent.Taken). cond (is-nobody a) (record { answer = n; memory = g .memory }) (schedule-thread-on-cpu-def k r (thread-of a) n (g .memory))) e
 
-one-at-most : (b : Bool) (n : ℕ) → cond b (n + 1) n ≤ n + 1
-one-at-most true n = omega arith
-one-at-most false n = omega arith
-
 -- us: the CPU that runs the command; base: the wake-ups counted before, which leave room for those of two moves
 module _ (limits : Limits) (topology : Topology) (tick us : ℕ) (known : ℕ → Bool) (numbered : (x : ℕ) → known x ≡ true → x < limits .threads) (small : Small limits)
     (early : tick ≤ most-tick) (H : ℕ → List PutOrTake) (us-in : us < limits .cpus) (active : ℕ → Bool) (base : ℕ) (room : base + 2 ≤ NONE) where
@@ -118,10 +114,6 @@ module _ (limits : Limits) (topology : Topology) (tick us : ℕ) (known : ℕ �
     pub few : B .world .wakeups * 11 ≤ base * 11 + B .steps
 
   -- ---- the rules
-
-  put-few : (w : World) (c x : ℕ) → sched.schedule-thread-on-cpu limits topology tick us w c x .wakeups ≤ w .wakeups + 1
-  unfolding sched.schedule-thread-on-cpu sched.wakeup sched.insert-thread sched.noted sched.with-thread sched.with-cpu sched.reset-thread-time
-  put-few w c x = one-at-most (sched.should-signal limits topology tick us w c x) (w .wakeups)
 
   handed-waited : (w : World) (c : ℕ) (s : Bool) (x : ℕ) → OK w → (n : Next) → asked (pinned-in w) (w .cpus c .queue) s ≡ n
       → sched.handed-out limits topology tick us w c s n .got ≡ some x → waits w c x ≡ true
@@ -242,7 +234,7 @@ module _ (limits : Limits) (topology : Topology) (tick us : ℕ) (known : ℕ �
 
       put-wakeups-few : sched.schedule-thread-on-cpu limits topology tick us (g .world) recipient x .wakeups ≤ w .wakeups + 1
       put-wakeups-few =
-          subst (λ i. sched.schedule-thread-on-cpu limits topology tick us (g .world) recipient x .wakeups ≤ i + 1) (from-wakeups limits topology tick us w donor recipient) (put-few (g .world) recipient x)
+          subst (λ i. sched.schedule-thread-on-cpu limits topology tick us (g .world) recipient x .wakeups ≤ i + 1) (from-wakeups limits topology tick us w donor recipient) (put-one limits topology tick us (g .world) recipient x)
 
   -- ---- one choice
 

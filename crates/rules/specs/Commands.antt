@@ -23,6 +23,7 @@ pub data Running : Type 0 where
   idle : Running
 
 -- "number from 0, refusal (0 if obeyed), CPU, thread it now runs or `idle`, queue load, calls of `wakeup` made by this command": none is shown as `-`.
+-- Of the calls, those to a different CPU (Schedule, `wakeup`).
 pub record Answer : Type 0 where
   pub refused : ℕ
   pub cpu : Option ℕ

@@ -20,4 +20,5 @@ pub mod State
 pub mod Times
 pub mod Topology
 pub mod Waits
+pub mod Wakeups
 pub mod Witnesses

@@ -48,6 +48,7 @@ running-or-dash (some idle) = idle-word
 running-or-dash (some (thread x)) = decimal x
 
 -- "Per command: number from 0, refusal (0 if obeyed), CPU, thread it now runs or `idle`, queue load, calls of `wakeup` made by this command."
+-- 2026-01: "It shall count only calls to a different CPU."
 unfoldable pub line : ℕ → Answer → List ℕ
 line number a =
     decimal number ++ (space ++ (decimal (a .refused) ++ (space ++ (number-or-dash (a .cpu) ++ (space ++ (running-or-dash (a .running)

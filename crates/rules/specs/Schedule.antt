@@ -17,7 +17,7 @@ use Rattle.rules.specs.Topology.{cpus-of, visited, nearest}
 use Rattle.rules.specs.Choice.{Best, none-yet, best, Searched, find-cpu, first-that, may-steal-from, Pair, no-pair, pair, Chosen, choose-cpu-balance}
 
 -- What a command may change: the CPUs and the threads. Beside them its puts and takes so far, in their order, for each CPU's queue,
--- and its calls of `wakeup`.
+-- and its calls of `wakeup` to a different CPU.
 pub record World : Type 0 where
   pub cpus : ℕ → Cpu
   pub threads : ℕ → Thread
@@ -53,9 +53,9 @@ with-thread w x t = record { cpus = w .cpus; threads = at (w .threads) x t; log 
 unfoldable pub noted : World → ℕ → PutOrTake → World
 noted w c e = record { cpus = w .cpus; threads = w .threads; log = at (w .log) c (w .log c ++ (e ∷ [])); wakeups = w .wakeups }
 
--- "`wakeup` is only counted."
-unfoldable pub wakeup : World → Bool → World
-wakeup w signal = record { cpus = w .cpus; threads = w .threads; log = w .log; wakeups = cond signal (w .wakeups + 1) (w .wakeups) }
+-- "`wakeup` is only counted", and 2026-01: "It shall count only calls to a different CPU": CPU us, which runs the command, calls CPU c, if it is to call.
+unfoldable pub wakeup : ℕ → World → ℕ → Bool → World
+wakeup us w c called = record { cpus = w .cpus; threads = w .threads; log = w .log; wakeups = cond (not (eqb c us) && called) (w .wakeups + 1) (w .wakeups) }
 
 unfoldable pub with-queue : Cpu → Queue → Priority → Cpu
 with-queue p q said = record {
@@ -240,7 +240,7 @@ module _ (limits : Limits) (topology : Topology) (tick us : ℕ) where
 
   unfoldable pub schedule-thread-on-cpu : World → ℕ → ℕ → World
   schedule-thread-on-cpu w c x =
-      wakeup (insert-thread (reset-thread-time (with-thread w x (moving-to-queue (w .threads x) c)) c x) c x false) (should-signal w c x)
+      wakeup us (insert-thread (reset-thread-time (with-thread w x (moving-to-queue (w .threads x) c)) c x) c x false) c (should-signal w c x)
 
   -- ---- the choice of a CPU
 
@@ -458,7 +458,7 @@ module _ (limits : Limits) (topology : Topology) (tick us : ℕ) where
   -- a wake-up is sent to the CPU in whose queue the thread was put, if somebody waits there and it advertises more than the thread's priority
   unfoldable pub maybe-wakeup : World → ℕ → Option ℕ → World
   maybe-wakeup w x none = w
-  maybe-wakeup w x (some c) = wakeup w (not (is-empty (w .cpus c)) && less (effective-priority (w .threads x)) (w .cpus c .advertised))
+  maybe-wakeup w x (some c) = wakeup us w c (not (is-empty (w .cpus c)) && less (effective-priority (w .threads x)) (w .cpus c .advertised))
 
   unfoldable pub donate-priority : World → ℕ → Priority → World
   donate-priority w x p =

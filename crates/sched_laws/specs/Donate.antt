@@ -97,7 +97,7 @@ module _ (limits : Limits) (topology : Topology) (tick us : ℕ) (known : ℕ �
           → World-rep limits topology known active (set ts x (donate-priority r p .thread)) cs (sched.maybe-wakeup limits topology tick us v x q)
       unfolding sched.maybe-wakeup
       shows-maybe none a = a
-      shows-maybe (some c) a = shows-wakeup _ a
+      shows-maybe (some c) a = shows-wakeup us c _ a
 
       pub shows-donated : (wakeups : ℕ) → World-rep limits topology known active (donate-priority-def us x p wakeups cs ts .memory) cs (sched.donate-priority limits topology tick us w x p)
       unfolding donate-priority-def sched.donate-priority
@@ -129,7 +129,7 @@ module _ (limits : Limits) (topology : Topology) (tick us : ℕ) (known : ℕ �
         unfolding named maybe-reschedule woken-in sched.maybe-wakeup Under with-thread
         woken (cpu.Some c) (some d) e h =
             let z : c ≡ d = cc in
-            rw z (signal-counts v wakeups us d (wakeup-due cs d t) count few ∙ ap (λ (b : Bool). wakeup v b .wakeups) (due-shown d h))
+            rw z (signal-counts v wakeups us d (wakeup-due cs d t) count few ∙ ap (λ (b : Bool). wakeup us v d b .wakeups) (due-shown d h))
         woken (cpu.Some c) none e h = cc
         woken cpu.None (some d) e h = cc
         woken cpu.None none e h = count

@@ -1,9 +1,10 @@
 -- Frame lemmas: fields of a world that a put, a take, a choice, a switch, a mark, a hard tick, a donation or `balance` leaves unchanged.
-use Prim.Native.Nat.{ℕ, zero, suc}
+use Prim.Native.Nat.{ℕ, zero, suc, _+_, _≤_}
 use mathlib.Core.Path.{_≡_, refl, _∙_}
 use mathlib.Core.Bool.{Bool, _&&_, false, not, true}
 use mathlib.Core.Option.{Option, none, some}
 use lib.Dec.{eqb, ltb}
+use native.Mathlib.Omega.{arith}
 use Rattle.rules.specs.declared.Priority.{Priority}
 use Rattle.rules.specs.Laws.Line.{both}
 use Rattle.rules.specs.Times.{Thread, effective-priority}
@@ -108,15 +109,15 @@ module _ (limits : Limits) (topology : Topology) (tick us : ℕ) where
         hardtick w = mark-preempt _ _ ∙ paid-by w _ _
 
     -- nor the wake-ups
-    module _ (wakes : (w : World) (b : Bool) → f (wakeup w b) ≡ f w) where
+    module _ (wakes : (w : World) (c : ℕ) (b : Bool) → f (wakeup us w c b) ≡ f w) where
       put : (w : World) (c x : ℕ) → f (sched.schedule-thread-on-cpu limits topology tick us w c x) ≡ f w
       unfolding sched.schedule-thread-on-cpu sched.reset-thread-time sched.insert-thread
-      put w c x = wakes _ _ ∙ a .log _ c _ ∙ a .thread _ x _ ∙ a .queue _ c _ _ ∙ a .thread _ x _ ∙ a .thread w x _
+      put w c x = wakes _ c _ ∙ a .log _ c _ ∙ a .thread _ x _ ∙ a .queue _ c _ _ ∙ a .thread _ x _ ∙ a .thread w x _
 
       maybe-wakeup : (w : World) (x : ℕ) (o : Option ℕ) → f (sched.maybe-wakeup limits topology tick us w x o) ≡ f w
       unfolding sched.maybe-wakeup
       maybe-wakeup w x none = refl
-      maybe-wakeup w x (some c) = wakes w _
+      maybe-wakeup w x (some c) = wakes w c _
 
       donate : (w : World) (x : ℕ) (p : Priority) → f (sched.donate-priority limits topology tick us w x p) ≡ f w
       unfolding sched.donate-priority
@@ -177,6 +178,16 @@ module _ (limits : Limits) (topology : Topology) (tick us : ℕ) where
   pub hardtick-wakeups : (w : World) → sched.schedule-hardtick limits topology tick us w .wakeups ≡ w .wakeups
   hardtick-wakeups = hardtick count count-apart (λ w b. unfold with-cpu in refl) (λ w last paid. unfold with-cpu in refl)
 
+  -- a call of `wakeup` counts one at most, and so does a put
+
+  pub call-one : (w : World) (c : ℕ) (b : Bool) → wakeup us w c b .wakeups ≤ w .wakeups + 1
+  unfolding wakeup
+  call-one w c b = both (not (eqb c us) && b) (λ e. rw e (omega arith)) (λ e. rw e (omega arith))
+
+  pub put-one : (w : World) (c x : ℕ) → sched.schedule-thread-on-cpu limits topology tick us w c x .wakeups ≤ w .wakeups + 1
+  unfolding sched.schedule-thread-on-cpu sched.insert-thread sched.reset-thread-time noted with-thread with-cpu
+  put-one w c x = call-one _ c (sched.should-signal limits topology tick us w c x)
+
   -- ---- a field of CPU c
 
   module _ {A : Type 0} (field : Cpu → A) (c : ℕ) where
@@ -197,9 +208,9 @@ module _ (limits : Limits) (topology : Topology) (tick us : ℕ) where
       mark = λ w e. cpu-kept w e _ (m (w .cpus e));
     }
 
-    wakes-kept : (w : World) (b : Bool) → of-cpu (wakeup w b) ≡ of-cpu w
+    wakes-kept : (w : World) (d : ℕ) (b : Bool) → of-cpu (wakeup us w d b) ≡ of-cpu w
     unfolding wakeup
-    wakes-kept w b = refl
+    wakes-kept w d b = refl
 
   -- ---- the thread that it runs
 

@@ -43,14 +43,14 @@ use Rattle.represents.specs.Laws.PutTake.{shows-insert}
 use Rattle.represents.specs.Laws.Numbers.{advertised-shown, empty-shown, deadline-shown, none-number}
 
 -- the count of wake-ups is not shown
-pub shows-wakeup : {limits : Limits} {topology : Topology} {known active : ℕ → Bool} {ts : List Thread} {cs : List (List ℕ)} {w : World} (b : Bool)
-    → World-rep limits topology known active ts cs w → World-rep limits topology known active ts cs (wakeup w b)
+pub shows-wakeup : {limits : Limits} {topology : Topology} {known active : ℕ → Bool} {ts : List Thread} {cs : List (List ℕ)} {w : World} (us c : ℕ) (b : Bool)
+    → World-rep limits topology known active ts cs w → World-rep limits topology known active ts cs (wakeup us w c b)
 unfolding wakeup
-shows-wakeup {w = w} b s = shows-alike w (wakeup w b) (λ c. refl) (λ x. refl) s
+shows-wakeup {w = w} us d b s = shows-alike w (wakeup us w d b) (λ c. refl) (λ x. refl) s
 
-pub signal-counts : (w : World) (wakeups from to : ℕ) (b : Bool) → wakeups ≡ w .wakeups → w .wakeups < NONE → signal wakeups from to b ≡ wakeup w b .wakeups
+pub signal-counts : (w : World) (wakeups from to : ℕ) (b : Bool) → wakeups ≡ w .wakeups → w .wakeups < NONE → signal wakeups from to b ≡ wakeup from w to b .wakeups
 unfolding signal wakeup
-signal-counts w wakeups from to b e h = rw e (both b (λ t. rw t (sum-exact (w .wakeups) 1 (omega arith))) (λ t. rw t))
+signal-counts w wakeups from to b e h = rw e (both (not (eqb to from) && b) (λ t. rw t (sum-exact (w .wakeups) 1 (omega arith))) (λ t. rw t))
 
 critical-reads : (t : Thread) → critical-in (t .critical) ≡ reads t .critical
 unfolding reads
@@ -136,7 +136,7 @@ module _ (limits : Limits) (topology : Topology) (tick us : ℕ) (known : ℕ �
     pub shows-put : (let d = insert-def c x tick false (mem (set ts x (moved-to cs c tick (limits .shortest) (record-at ts x))) cs) in
         World-rep limits topology known (at active x false) (d .threads) (d .cpus) (sched.schedule-thread-on-cpu limits topology tick us w c x))
     unfolding sched.schedule-thread-on-cpu
-    shows-put = shows-wakeup (sched.should-signal limits topology tick us w c x) (shows-insert limits topology tick us known numbered small shows-moved c x still-new false)
+    shows-put = shows-wakeup us c (sched.should-signal limits topology tick us w c x) (shows-insert limits topology tick us known numbered small shows-moved c x still-new false)
 
     -- and its count of wake-ups
     pub put-counts : (wakeups : ℕ) → wakeups ≡ w .wakeups → w .wakeups < NONE

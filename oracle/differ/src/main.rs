@@ -12,6 +12,7 @@ use std::{
 };
 
 use r#gen::{PROFILES, draws::PROFILE, generate, split};
+use second::{Answer, Place, State};
 
 const SHRUNK: &str = "oracle/build/difference.stream";
 
@@ -185,6 +186,30 @@ impl Pair<'_> {
     }
 }
 
+/// How often a donation calls `wakeup` for a thread that waits: of the CPU that runs the command, and of another.
+#[derive(Default)]
+struct DonationCalls {
+    own: u64,
+    other: u64,
+}
+
+impl DonationCalls {
+    fn add(&mut self, stream: &[u8]) {
+        let mut state = State::new();
+        for command in split(stream) {
+            let answer = state.command(command);
+            if matches!(answer, Answer::Refused(_)) || command[0] != 0x18 {
+                continue;
+            }
+            let thread = u16::from_le_bytes([command[2], command[3]]);
+            if state.th(thread).place == Place::Queued {
+                self.own += state.own_calls;
+                self.other += state.wakeups;
+            }
+        }
+    }
+}
+
 fn main() {
     let sides = sides();
     let (mut left, mut right) = (sides[0].name.clone(), sides[1].name.clone());
@@ -234,13 +259,19 @@ fn main() {
         None => PROFILES.to_vec(),
     };
     let (mut streams, mut commands) = (0, 0);
+    let mut calls = DonationCalls::default();
     for seed in first..=last {
         for profile in &profiles {
             let stream = generate(seed, profile, count, &without).unwrap();
             commands += pair.check(&stream, &format!("seed {seed} profile {profile} count {count}"));
+            calls.add(&stream);
             streams += 1;
         }
     }
+    println!(
+        "donations to a waiting thread that call `wakeup`: {} of the CPU that runs the command, {} of another",
+        calls.own, calls.other
+    );
     println!(
         "{} and {}: seeds {first} to {last}, {} profiles, {streams} streams, {commands} commands, no difference",
         pair.left.name,

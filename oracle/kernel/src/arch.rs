@@ -53,17 +53,21 @@ pub mod thread {
 pub mod processor {
     use std::sync::atomic::{AtomicU64, Ordering};
 
-    use crate::processor::Processor;
+    use crate::processor::{Processor, mp::current_processor};
 
     #[derive(Default)]
     pub struct ArchProcessor;
 
-    /// How often `wakeup` was called.
+    /// How often `wakeup` was called of a processor other than the current one.
     pub static WAKEUPS: AtomicU64 = AtomicU64::new(0);
+    /// How often it was called of the current one.
+    pub static OWN_WAKEUPS: AtomicU64 = AtomicU64::new(0);
 
     impl Processor {
         pub fn wakeup(&self, _signal: bool) {
-            WAKEUPS.fetch_add(1, Ordering::Relaxed);
+            let own = std::ptr::eq(self, current_processor());
+            let calls = if own { &OWN_WAKEUPS } else { &WAKEUPS };
+            calls.fetch_add(1, Ordering::Relaxed);
         }
     }
 

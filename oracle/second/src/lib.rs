@@ -67,7 +67,9 @@ pub struct State {
     pub threads: Vec<Option<Thread>>,
     pub tick: u64,
     pub accepted: u64,
+    /// Wake-ups of other CPUs by the last command obeyed, and its calls of its own CPU, which no line shows.
     pub wakeups: u64,
+    pub own_calls: u64,
 }
 
 #[derive(Clone, Copy, PartialEq, Eq, Debug)]
@@ -152,6 +154,7 @@ impl State {
             tick: 0,
             accepted: 0,
             wakeups: 0,
+            own_calls: 0,
         }
     }
 
@@ -226,6 +229,7 @@ impl State {
         }
         self.accepted += 1;
         self.wakeups = 0;
+        self.own_calls = 0;
         let r = read(bytes[0], &bytes[1..1 + operands(bytes[0]).unwrap()]);
         self.obey(bytes[0], r)
     }

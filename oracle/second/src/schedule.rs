@@ -87,7 +87,16 @@ impl State {
         let tick = self.tick;
         self.cpus[cpu as usize].queue.put(thread, &mut self.threads, tick, false);
         if signal {
+            self.wakeup(us, cpu);
+        }
+    }
+
+    /// CPU `us` calls CPU `cpu`. "On the boats a wake-up is a line to another core": no other call counts.
+    fn wakeup(&mut self, us: u8, cpu: u8) {
+        if cpu != us {
             self.wakeups += 1;
+        } else {
+            self.own_calls += 1;
         }
     }
 
@@ -298,7 +307,7 @@ impl State {
         if let Some(cpu) = self.th(thread).queue_cpu {
             let queue = &self.cpus[cpu as usize].queue;
             if queue.load() > 0 && queue.advertised > self.th(thread).effective() {
-                self.wakeups += 1;
+                self.wakeup(us, cpu);
             }
         }
     }

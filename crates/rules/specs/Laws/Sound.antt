@@ -169,9 +169,9 @@ same-thread-changed limits w x t a = record {
   alike = alike-at limits (w .threads) x t a;
 }
 
-pub same-wakeup : (limits : Limits) (w : World) (b : Bool) → Same limits w (wakeup w b)
+pub same-wakeup : (limits : Limits) (us : ℕ) (w : World) (c : ℕ) (b : Bool) → Same limits w (wakeup us w c b)
 unfolding wakeup
-same-wakeup limits w b = record { queues = λ c. refl; logs = λ c. refl; running = λ c. refl; alike = λ x. alike-self limits (w .threads x) }
+same-wakeup limits us w d b = record { queues = λ c. refl; logs = λ c. refl; running = λ c. refl; alike = λ x. alike-self limits (w .threads x) }
 
 module _ {limits : Limits} {known : ℕ → Bool} {H : ℕ → List PutOrTake} where
   pub sound-same : {but : ℕ → Bool} {w v : World} → Same limits w v → Sound limits known H but w → Sound limits known H but v

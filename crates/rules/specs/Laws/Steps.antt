@@ -136,7 +136,7 @@ module _ (limits : Limits) (topology : Topology) (tick us : ℕ) (known : ℕ �
       let v : World = with-thread w x (moving-to-queue (w .threads x) c) in
       let s : Same limits w (sched.reset-thread-time limits topology tick us v c x) =
       same-then (same-thread-changed limits w x _ (alike-queue limits (w .threads x) c)) (same-reset v c x) in
-      sound-same (same-wakeup limits _ _) (sound-insert limits topology tick us known numbered H but _ c x false (sound-same s d) (new-same s n))
+      sound-same (same-wakeup limits us _ c _) (sound-insert limits topology tick us known numbered H but _ c x false (sound-same s d) (new-same s n))
 
   -- ---- the choice of a CPU: it changes draws alone, and finds CPUs below the limit
 
@@ -506,7 +506,7 @@ module _ (limits : Limits) (topology : Topology) (tick us : ℕ) (known : ℕ �
   ok-wakeup : (w : World) (x : ℕ) (o : Option ℕ) → OK nobody-but w → OK nobody-but (sched.maybe-wakeup limits topology tick us w x o)
   unfolding sched.maybe-wakeup
   ok-wakeup w x none d = d
-  ok-wakeup w x (some c) d = sound-same (same-wakeup limits w _) d
+  ok-wakeup w x (some c) d = sound-same (same-wakeup limits us w c _) d
 
   pub ok-donate : (w : World) (x : ℕ) (p : Priority) → p .value < nr-values → OK nobody-but w → OK nobody-but (sched.donate-priority limits topology tick us w x p)
   unfolding sched.donate-priority Valued

@@ -17,12 +17,12 @@ use Rattle.rules.specs.State.{at, Limits, Topology, State}
 use Rattle.rules.specs.Choice.{Pair, no-pair, pair}
 use Rattle.rules.specs.Laws.Effect.{and-right}
 use Rattle.rules.specs.Schedule as sched
-use Rattle.rules.specs.Schedule.{World, Got, Balancing, Flags, with-cpu, with-thread, noted, wakeup}
+use Rattle.rules.specs.Schedule.{World, Got, Balancing, Flags, with-cpu, with-thread}
 use Rattle.rules.specs.Requests.{Request, declare-cpu, add-node, place-cpu, seal, declare-thread, set-tick, schedule-thread, schedule, hardtick, stattick, resched, maybe-preempt, donate, remove-donation, set-critical, Reading, unknown, cut-short, asks, read, flags-of}
 use Rattle.rules.specs.Questions.{refusal}
 use Rattle.rules.specs.Commands.{nothing-shown, shown, refuses, changed, world-of, ran, ran-on, scheduled-on, schedules, obeys, answered, step}
 use Rattle.lines.proofs.Laws.{Below}
-use Rattle.sched_laws.specs.Frames.{from-wakeups, pick-wakeups, select-wakeups, resched-wakeups, hardtick-wakeups}
+use Rattle.sched_laws.specs.Frames.{call-one, put-one, from-wakeups, pick-wakeups, select-wakeups, resched-wakeups, hardtick-wakeups}
 
 -- A turn of `balance`, from the world w with n steps made, to b: each wake-up is paid for by eleven steps, and there is at most one.
 record Turn (w : World) (n : ℕ) (b : Balancing) : Type 0 where
@@ -30,18 +30,12 @@ record Turn (w : World) (n : ℕ) (b : Balancing) : Type 0 where
   one : b .world .wakeups ≤ w .wakeups + 1
 
 module _ (limits : Limits) (topology : Topology) (tick us : ℕ) where
-  -- ---- a put
-
-  put-one : (w : World) (c x : ℕ) → sched.schedule-thread-on-cpu limits topology tick us w c x .wakeups ≤ w .wakeups + 1
-  unfolding sched.schedule-thread-on-cpu sched.insert-thread sched.reset-thread-time wakeup noted with-thread with-cpu
-  put-one w c x = both (sched.should-signal limits topology tick us w c x) (λ e. rw e (omega arith)) (λ e. rw e (omega arith))
-
   -- ---- `balance`
 
   received-turn : (w : World) (allowed : ℕ → Bool) (n recipient : ℕ) (o : Option ℕ) → Turn w n (sched.received limits topology tick us w allowed n recipient o)
   unfolding sched.received
   received-turn w allowed n recipient none = record { paid = omega arith; one = omega arith }
-  received-turn w allowed n recipient (some x) = record { paid = omega (arith, put-one w recipient x); one = put-one w recipient x }
+  received-turn w allowed n recipient (some x) = record { paid = omega (arith, put-one limits topology tick us w recipient x); one = put-one limits topology tick us w recipient x }
 
   move-turn : (w : World) (allowed : ℕ → Bool) (n donor recipient : ℕ) → Turn w n (sched.move-one limits topology tick us w allowed n donor recipient)
   unfolding sched.move-one
@@ -89,7 +83,7 @@ module _ (limits : Limits) (topology : Topology) (tick us : ℕ) where
   reinserted-one : (w : World) (x : ℕ) (o : Option ℕ) → sched.reinserted limits topology tick us w x o .wakeups ≤ w .wakeups + 1
   unfolding sched.reinserted
   reinserted-one w x none = omega arith
-  reinserted-one w x (some c) = put-one w c x
+  reinserted-one w x (some c) = put-one limits topology tick us w c x
 
   reinsert-one : (w : World) (x : ℕ) (yield preempt : Bool) → sched.reinsert limits topology tick us w x yield preempt .wakeups ≤ w .wakeups + 1
   unfolding sched.reinsert sched.reset-thread-time with-thread
@@ -97,7 +91,7 @@ module _ (limits : Limits) (topology : Topology) (tick us : ℕ) where
       let g : Got = sched.reinsert-at limits topology tick us w x in
       both (preempt || (w .cpus us .must-rebalance || sched.has-higher limits topology tick us w x yield))
       (λ e. rw (e, pick-wakeups) (omega (arith, reinserted-one (g .world) x (g .got), reinsert-at-none w x)))
-      (λ e. both yield (λ h. rw (e, h, pick-wakeups) (put-one w us x)) (λ h. rw (e, h) (omega arith)))
+      (λ e. both yield (λ h. rw (e, h, pick-wakeups) (put-one limits topology tick us w us x)) (λ h. rw (e, h) (omega arith)))
 
   do-schedule-one : (w : World) (o : Option ℕ) (f : Flags) → sched.do-schedule-of limits topology tick us w o f .wakeups ≤ w .wakeups + 1
   unfolding sched.do-schedule-of
@@ -114,10 +108,9 @@ module _ (limits : Limits) (topology : Topology) (tick us : ℕ) where
   maybe-preempt-one w = both (w .cpus us .preempt) (λ e. rw e (schedule-one _ _)) (λ e. rw e (omega arith))
 
   maybe-wakeup-one : (w : World) (x : ℕ) (o : Option ℕ) → sched.maybe-wakeup limits topology tick us w x o .wakeups ≤ w .wakeups + 1
-  unfolding sched.maybe-wakeup wakeup
+  unfolding sched.maybe-wakeup
   maybe-wakeup-one w x none = omega arith
-  maybe-wakeup-one w x (some c) =
-      both (not (sched.is-empty (w .cpus c)) && less (effective-priority (w .threads x)) (w .cpus c .advertised)) (λ e. rw e (omega arith)) (λ e. rw e (omega arith))
+  maybe-wakeup-one w x (some c) = call-one limits topology tick us w c _
 
   donate-one : (w : World) (x : ℕ) (p : Priority) → sched.donate-priority limits topology tick us w x p .wakeups ≤ w .wakeups + 1
   unfolding sched.donate-priority with-thread
