@@ -53,7 +53,7 @@ pub mod thread {
 pub mod processor {
     use std::sync::atomic::{AtomicU64, Ordering};
 
-    use crate::processor::{Processor, mp::current_processor};
+    use crate::processor::{Processor, mp::probe_current_processor};
 
     #[derive(Default)]
     pub struct ArchProcessor;
@@ -65,7 +65,8 @@ pub mod processor {
 
     impl Processor {
         pub fn wakeup(&self, _signal: bool) {
-            let own = std::ptr::eq(self, current_processor());
+            // A CPU that was not started has no current processor.
+            let own = std::ptr::eq(self, unsafe { *probe_current_processor() });
             let calls = if own { &OWN_WAKEUPS } else { &WAKEUPS };
             calls.fetch_add(1, Ordering::Relaxed);
         }
