@@ -100,7 +100,12 @@ struct written {
     size_t bytes;
 };
 
-/* crates/feed: how far a run is. */
+/* crates/request: the operands of a command in the order of document 01's table, then 0. */
+struct fields {
+    uint64_t first, second, third, fourth;
+};
+
+/* crates/stream: how far a run is. */
 enum phase { HEADER, COMMANDS, END, ENDED };
 
 struct fed {
@@ -113,6 +118,7 @@ struct fed {
 struct begun scheduler_start(struct thread *, size_t, cpu *, size_t, node *, size_t);
 struct step scheduler_command(struct thread *, size_t, cpu *, size_t, node *, size_t, const uint8_t *, size_t, struct state);
 struct written scheduler_render(uint8_t *, size_t, uint64_t number, struct row);
+struct written scheduler_write(uint64_t byte, struct fields, bool wide, uint8_t *, size_t);
 struct fed scheduler_begin(struct state);
 struct fed scheduler_feed(struct thread *, size_t, cpu *, size_t, node *, size_t, const uint8_t *input, size_t,
                           uint8_t *output, size_t, size_t n, bool last, struct fed);

@@ -17,7 +17,7 @@ use Rattle.lines.specs.declared.Answer.{Answer}
 use Rattle.lines.specs.declared.Rendered.{Rendered}
 use Rattle.lines.specs.declared.Rendered.the-variants as render
 
--- The numbers of document 01's questions: "A no gives the number"; "refusal (0 if obeyed)".
+-- The numbers of document 01's questions: "A no gives the number"; "refusal (0 if obeyed)". 2026-02: "Refused: 12, buffer shorter than the command".
 unfoldable pub refusal-number : Refusal → ℕ
 refusal-number refusal.Obeyed = 0
 refusal-number refusal.UnknownCommand = 1
@@ -31,6 +31,7 @@ refusal-number refusal.Tick = 8
 refusal-number refusal.NotPlaced = 9
 refusal-number refusal.TooMany = 10
 refusal-number refusal.SmallBuffer = 11
+refusal-number refusal.ShortBuffer = 12
 
 unfoldable pub shown-option : Shown → Option ℕ
 shown-option (shown.Number n) = some n

@@ -6,7 +6,7 @@ ghost use Rattle.rules.specs.Lines.{digits, decimal, number-or-dash, running-or
 ghost use Rattle.lines.specs.Lines.{refusal-number, shown-option, running-option, answer-of, room, rendered, buffer-with};
 ghost use Rattle.lines.specs.Text.{text, write, two-digits, four-digits, counts-part, cpu-part, numbers-part};
 
-// The questions of document 01; `refusal-number` has their numbers.
+// The questions of document 01 and of the requests that are in; `refusal-number` has their numbers.
 pub enum Refusal {
     Obeyed,
     UnknownCommand,
@@ -20,6 +20,7 @@ pub enum Refusal {
     NotPlaced,
     TooMany,
     SmallBuffer,
+    ShortBuffer,
 }
 
 pub enum Shown {
@@ -66,11 +67,12 @@ pub fn refusal_number(refusal: Refusal) -> u64
         Refusal::NotPlaced => 9,
         Refusal::TooMany => 10,
         Refusal::SmallBuffer => 11,
+        Refusal::ShortBuffer => 12,
     }
 }
 
 // One byte; nothing past the end. Answers where the next one goes.
-fn put(buffer: &mut [u8], at: usize, byte: u8) -> usize
+pub fn put(buffer: &mut [u8], at: usize, byte: u8) -> usize
     ensures { λ r. ⌜ text (now (buffer .exit)) r ≡ write (text (now (buffer .entry)) at) (byte ∷ []) ⌝ }
 {
     if at < buffer.len() {
@@ -81,7 +83,7 @@ fn put(buffer: &mut [u8], at: usize, byte: u8) -> usize
 }
 
 // The bytes of a fixed string.
-fn put_bytes(buffer: &mut [u8], at: usize, bytes: &[u8]) -> usize
+pub fn put_bytes(buffer: &mut [u8], at: usize, bytes: &[u8]) -> usize
     ensures { λ r. ⌜ text (now (buffer .exit)) r ≡ write (text (now (buffer .entry)) at) (now (bytes .entry)) ⌝ }
 {
     let mut next = at;
@@ -145,7 +147,7 @@ fn put_long(buffer: &mut [u8], at: usize, n: u64) -> usize
 }
 
 // A number in decimal digits. One digit, the common case, is written without a further call.
-fn put_number(buffer: &mut [u8], at: usize, n: u64) -> usize
+pub fn put_number(buffer: &mut [u8], at: usize, n: u64) -> usize
     ensures { λ r. ⌜ text (now (buffer .exit)) r ≡ write (text (now (buffer .entry)) at) (decimal n) ⌝ }
 {
     if n < 10 {

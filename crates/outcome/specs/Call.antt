@@ -67,7 +67,8 @@ refusal-back n =
     (cond (eqb n 7) refusal.NotBlocked
     (cond (eqb n 8) refusal.Tick
     (cond (eqb n 9) refusal.NotPlaced
-    (cond (eqb n 10) refusal.TooMany refusal.SmallBuffer))))))))))
+    (cond (eqb n 10) refusal.TooMany
+    (cond (eqb n 12) refusal.ShortBuffer refusal.SmallBuffer)))))))))))
 
 -- what the bytes from `at` to below n ask
 abbrev pub asked-def : List ℕ → ℕ → ℕ → Bool → Reading
@@ -199,3 +200,4 @@ refusal-again refusal.Tick = refl
 refusal-again refusal.NotPlaced = refl
 refusal-again refusal.TooMany = refl
 refusal-again refusal.SmallBuffer = refl
+refusal-again refusal.ShortBuffer = refl

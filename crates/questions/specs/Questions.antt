@@ -8,7 +8,7 @@ use lib.ListN.{length}
 use lib.Dec.{eqb, ltb, leb}
 use Rattle.rules.specs.State.{all-below}
 use Rattle.rules.specs.Requests.{Request, declare-cpu, add-node, place-cpu, seal, declare-thread, set-tick, schedule-thread, schedule, hardtick, stattick, resched, maybe-preempt, donate, remove-donation, set-critical, Reading, unknown, cut-short, asks}
-use Rattle.rules.specs.Questions.{Question, question, priority-in-range, at-most, first-no, most-accepted}
+use Rattle.rules.specs.Questions.{Question, question, in-range, first-no, most-accepted}
 use Rattle.thread.specs.declared.Thread.{Thread}
 use Rattle.thread.specs.Thread.{NONE, BLOCKED}
 use Rattle.thread.specs.Place.{place-in, is-declared}
@@ -83,20 +83,20 @@ room s = question 10 (ltb (s .accepted) most-accepted)
 -- the questions that concern each command, before the last
 unfoldable pub concerning : List (List ℕ) → List (List ℕ) → State → Thread → Request → List Question
 concerning cs ns s t (declare-cpu c) = open-yet s ∷ cpu-new cs s c ∷ []
-concerning cs ns s t (add-node p k) = open-yet s ∷ at-most 3 k ∷ node-exists s p ∷ parent-without-cpus ns p ∷ node-fits s ∷ []
+concerning cs ns s t (add-node p k) = open-yet s ∷ in-range (add-node p k) ∷ node-exists s p ∷ parent-without-cpus ns p ∷ node-fits s ∷ []
 concerning cs ns s t (place-cpu n c) = open-yet s ∷ cpu-unplaced cs s c ∷ node-exists s n ∷ node-childless ns n ∷ []
 concerning cs ns s t seal = open-yet s ∷ all-placed cs s ∷ []
-concerning cs ns s t (declare-thread x k v pin) = sealed-now s ∷ pin-declared cs s pin ∷ thread-new x t ∷ priority-in-range k v ∷ []
+concerning cs ns s t (declare-thread x k v pin) = sealed-now s ∷ pin-declared cs s pin ∷ thread-new x t ∷ in-range (declare-thread x k v pin) ∷ []
 concerning cs ns s t (set-tick n) = sealed-now s ∷ tick-fits s n ∷ []
 concerning cs ns s t (schedule-thread c x) = sealed-now s ∷ cpu-declared cs s c ∷ thread-declared t ∷ thread-blocked t ∷ []
-concerning cs ns s t (schedule c flags) = sealed-now s ∷ cpu-declared cs s c ∷ at-most 7 flags ∷ []
+concerning cs ns s t (schedule c flags) = sealed-now s ∷ cpu-declared cs s c ∷ in-range (schedule c flags) ∷ []
 concerning cs ns s t (hardtick c) = sealed-now s ∷ cpu-declared cs s c ∷ []
 concerning cs ns s t (stattick c nanoseconds) = sealed-now s ∷ cpu-declared cs s c ∷ []
 concerning cs ns s t (resched c) = sealed-now s ∷ cpu-declared cs s c ∷ []
 concerning cs ns s t (maybe-preempt c) = sealed-now s ∷ cpu-declared cs s c ∷ []
-concerning cs ns s t (donate c x k v) = sealed-now s ∷ cpu-declared cs s c ∷ thread-declared t ∷ priority-in-range k v ∷ []
+concerning cs ns s t (donate c x k v) = sealed-now s ∷ cpu-declared cs s c ∷ thread-declared t ∷ in-range (donate c x k v) ∷ []
 concerning cs ns s t (remove-donation x) = sealed-now s ∷ thread-declared t ∷ []
-concerning cs ns s t (set-critical x mark) = sealed-now s ∷ thread-declared t ∷ at-most 1 mark ∷ []
+concerning cs ns s t (set-critical x mark) = sealed-now s ∷ thread-declared t ∷ in-range (set-critical x mark) ∷ []
 
 unfoldable pub asked-of : List (List ℕ) → List (List ℕ) → State → Thread → Request → ℕ
 asked-of cs ns s t r = first-no (concerning cs ns s t r ++ (room s ∷ []))

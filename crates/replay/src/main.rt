@@ -1,10 +1,10 @@
 // Commands from standard input, document 01's output to standard output.
+use blocks::keep;
 use lines::has_room;
 use processor::words::CpuWords;
 use questions::state::State;
 use stream::block::is_ended;
 use stream::block::is_last;
-use stream::block::keep;
 use stream::feed::feed;
 use stream::progress::ENDED;
 use stream::progress::Progress;

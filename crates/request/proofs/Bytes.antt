@@ -8,12 +8,8 @@ use lib.Seq.{drop-cons, drop-drop, getD-drop, drop-nil, drop-length}
 use native.Mathlib.Omega.{arith}
 use native.Mathlib.Nat.{suc-add, mul-assoc, pow-succ', one-le-pow, zero-add, one-mul, add-zero, mul-zero}
 use Rattle.rules.specs.Requests.{operand, past, at-least}
-
-pub past-drop : (n : ℕ) (l : List ℕ) → past n l ≡ drop n l
-unfolding past
-past-drop zero l = refl
-past-drop (suc n) [] = refl
-past-drop (suc n) (b ∷ l) = past-drop n l
+use Rattle.rules.specs.Writer.{Bytes}
+use Rattle.rules.specs.Laws.Writer.{operand-lt, past-drop}
 
 pub enough : (n : ℕ) (l : List ℕ) → n ≤ length l → at-least n l ≡ true
 unfolding at-least
@@ -43,18 +39,8 @@ operand-add zero n l = rw (zero-add, one-mul) (omega arith)
 operand-add (suc m) n [] = rw (operand-nil (suc m + n), operand-nil n, mul-zero)
 operand-add (suc m) n (b ∷ l) = rw (suc-add, operand-add m n l, pow-succ', mul-assoc) (omega arith)
 
--- every element is a byte
-abbrev pub Bytes : List ℕ → Type 0
-Bytes l = (i : ℕ) → getD l i 0 < 256
-
 pub bytes-drop : (n : ℕ) (l : List ℕ) → Bytes l → Bytes (drop n l)
 bytes-drop n l h i = rw getD-drop (h (n + i))
-
-pub operand-lt : (n : ℕ) (l : List ℕ) → Bytes l → operand n l < 256 ^ n
-unfolding operand
-operand-lt zero l h = omega arith
-operand-lt (suc n) [] h = omega (arith, one-le-pow (suc n) 256 (omega arith))
-operand-lt (suc n) (b ∷ l) h = rw pow-succ' (omega (arith, h 0, operand-lt n l (λ i. h (suc i))))
 
 pub operand-drop-lt : (n k : ℕ) (l : List ℕ) → Bytes l → operand n (drop k l) < 256 ^ n
 operand-drop-lt n k l h = operand-lt n (drop k l) (bytes-drop k l h)

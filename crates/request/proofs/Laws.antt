@@ -7,7 +7,9 @@ use mathlib.Core.List.{List, [], _∷_}
 use lib.ListN.{drop}
 use Rattle.rules.specs.State.{Limits}
 use Rattle.rules.specs.Requests.{operand, past, operands, widths, pin-of, request, sum, at-least, Reading, asks, cut-short, read-operands, read}
-use Rattle.request.proofs.Bytes.{Bytes, bytes-drop, operand-lt, past-drop}
+use Rattle.rules.specs.Writer.{Bytes}
+use Rattle.rules.specs.Laws.Writer.{operand-lt, past-drop}
+use Rattle.request.proofs.Bytes.{bytes-drop}
 
 -- Each operand is below the number of so many bytes.
 unfoldable pub Fit : List ℕ → List ℕ → Type 0

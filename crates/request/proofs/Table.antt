@@ -13,8 +13,8 @@ use borrow.Author.Tests.{eqb-true, eqb-false, le-leb, lt-leb}
 use Rattle.rules.specs.Laws.Line.{both}
 use Rattle.rules.specs.Requests as rules
 use Rattle.rules.specs.State.{all-below}
-use Rattle.rules.specs.Requests.{widths, sum}
-use Rattle.request.specs.Request.{width, limits-of, widths-or, asked, taken, length-of, operands-in, operands-of}
+use Rattle.rules.specs.Requests.{widths, sum, widths-or}
+use Rattle.request.specs.Request.{width, limits-of, asked, taken, length-of, operands-in, operands-of}
 use Rattle.request.specs.declared.Operands.the-variants as operands
 
 -- hex 01 to 04 and 10 to 1A
@@ -68,7 +68,7 @@ unfolding all-below right same listed widths limits-of
 all-right wide = refl
 
 -- a test that all numbers below n pass, at one of them
-at-below : (n : ℕ) (test : ℕ → Bool) → all-below n test ≡ true → (k : ℕ) → k < n → test k ≡ true
+pub at-below : (n : ℕ) (test : ℕ → Bool) → all-below n test ≡ true → (k : ℕ) → k < n → test k ≡ true
 unfolding all-below
 at-below zero test h k l = absurd (omega arith)
 at-below (suc n) test h k l =

@@ -5,7 +5,6 @@ use mathlib.Core.Option.{Option, none, some}
 use mathlib.Core.List.{List, [], _∷_}
 use Rattle.rules.specs.State.{Limits, base-limits}
 use Rattle.rules.specs.Requests as rules
-use Rattle.rules.specs.Questions.{at-most, priority-in-range}
 use Rattle.request.specs.declared.Pin.{Pin}
 use Rattle.request.specs.declared.Pin.the-variants as pin
 use Rattle.request.specs.declared.Request.{Request}
@@ -63,12 +62,8 @@ all-ones-of wide = rules.all-ones (width wide)
 
 -- ---- the table's row of a byte
 
-unfoldable pub widths-or : List ℕ → Option (List ℕ) → List ℕ
-widths-or other none = other
-widths-or other (some ns) = ns
-
 unfoldable pub length-of : Bool → ℕ → ℕ
-length-of wide byte = rules.sum (widths-or [] (rules.widths (limits-of wide) byte))
+length-of wide byte = rules.sum (rules.widths-or [] (rules.widths (limits-of wide) byte))
 
 unfoldable pub operands-in : Option (List ℕ) → Operands
 operands-in none = operands.Unknown
@@ -80,26 +75,7 @@ operands-of wide byte = operands-in (rules.widths (limits-of wide) byte)
 -- What the byte asks with the operands that the bytes behind it begin with; a byte that is not in the table is read as hex 1A.
 unfoldable pub asked : Bool → ℕ → List ℕ → rules.Request
 asked wide byte bytes =
-    rules.request (limits-of wide) byte (rules.operands (widths-or (2 ∷ 1 ∷ []) (rules.widths (limits-of wide) byte)) bytes)
+    rules.request (limits-of wide) byte (rules.operands (rules.widths-or (2 ∷ 1 ∷ []) (rules.widths (limits-of wide) byte)) bytes)
 
 unfoldable pub taken : Bool → ℕ → ℕ → List ℕ → rules.Reading
 taken wide byte n bytes = cond (rules.at-least n bytes) (rules.asks (asked wide byte bytes) (1 + n)) rules.cut-short
-
--- ---- question 6 as far as it needs no state
-
-unfoldable pub in-range : rules.Request → Bool
-in-range (rules.declare-cpu c) = true
-in-range (rules.add-node p k) = at-most 3 k .answer
-in-range (rules.place-cpu n c) = true
-in-range rules.seal = true
-in-range (rules.declare-thread x k v p) = priority-in-range k v .answer
-in-range (rules.set-tick t) = true
-in-range (rules.schedule-thread c x) = true
-in-range (rules.schedule c f) = at-most 7 f .answer
-in-range (rules.hardtick c) = true
-in-range (rules.stattick c n) = true
-in-range (rules.resched c) = true
-in-range (rules.maybe-preempt c) = true
-in-range (rules.donate c x k v) = priority-in-range k v .answer
-in-range (rules.remove-donation x) = true
-in-range (rules.set-critical x m) = at-most 1 m .answer

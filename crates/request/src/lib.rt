@@ -1,9 +1,18 @@
 // The bytes of one command, read as a request: the command byte gives the length of its operands, then the case.
+pub mod fields;
+
 ghost use mathlib.Core.Path.{_≡_};
 ghost use lib.ListN.{length, drop};
 ghost use Rattle.rules.specs.Requests.{operand, past, read, pin-of};
-ghost use Rattle.rules.specs.Questions.{at-most, priority-in-range};
-ghost use Rattle.request.specs.Request.{width, limits-of, all-ones-of, pin-option, request-of, reading-of, length-of, operands-of, asked, taken, in-range};
+ghost use Rattle.rules.specs.Questions.{at-most, priority-in-range, in-range};
+ghost use Rattle.request.specs.Request.{width, limits-of, all-ones-of, pin-option, request-of, reading-of, length-of, operands-of, asked, taken};
+
+// The largest node type, flags and critical mark.
+pub const MOST_TYPE: u64 = 3;
+
+pub const MOST_FLAGS: u64 = 7;
+
+pub const MOST_MARK: u64 = 1;
 
 pub enum Pin {
     None,
@@ -162,7 +171,7 @@ fn name(bytes: &[u8], at: usize, wide: bool) -> u64
     one(bytes, at)
 }
 
-fn all_ones(wide: bool) -> u64
+pub fn all_ones(wide: bool) -> u64
     ensures { λ r. ⌜ r ≡ all-ones-of wide ⌝ }
 {
     if wide {
@@ -207,7 +216,7 @@ fn length(byte: u8, wide: bool) -> usize
 }
 
 // The command bytes of the table, over their ranges.
-fn operand_bytes(byte: u8, wide: bool) -> Operands
+pub fn operand_bytes(byte: u8, wide: bool) -> Operands
     ensures { λ r. ⌜ r ≡ operands-of wide byte ⌝ }
 {
     match byte {
@@ -426,11 +435,11 @@ fn priority_in_range(class: u64, value: u64) -> bool
 
 // Question 6 as far as it needs no state.
 pub fn in_range(request: Request) -> bool
-    ensures { λ r. ⌜ r ≡ in-range (request-of request) ⌝ }
+    ensures { λ r. ⌜ r ≡ in-range (request-of request) .answer ⌝ }
 {
     match request {
         Request::DeclareCpu { .. } => true,
-        Request::AddNode { parent: _, kind } => at_most(3, kind),
+        Request::AddNode { parent: _, kind } => at_most(MOST_TYPE, kind),
         Request::PlaceCpu { .. } => true,
         Request::Seal => true,
         Request::DeclareThread {
@@ -441,7 +450,7 @@ pub fn in_range(request: Request) -> bool
         } => priority_in_range(class, value),
         Request::SetTick { .. } => true,
         Request::ScheduleThread { .. } => true,
-        Request::Schedule { cpu: _, flags } => at_most(7, flags),
+        Request::Schedule { cpu: _, flags } => at_most(MOST_FLAGS, flags),
         Request::Hardtick { .. } => true,
         Request::Stattick { .. } => true,
         Request::Resched { .. } => true,
@@ -453,6 +462,6 @@ pub fn in_range(request: Request) -> bool
             value,
         } => priority_in_range(class, value),
         Request::RemoveDonation { .. } => true,
-        Request::SetCritical { thread: _, mark } => at_most(1, mark),
+        Request::SetCritical { thread: _, mark } => at_most(MOST_MARK, mark),
     }
 }

@@ -13,3 +13,5 @@ pub mod Refused
 pub mod Sound
 pub mod Steps
 pub mod Waiting
+pub mod Writer
+pub mod Ranges

@@ -13,6 +13,7 @@ pub mod Puts
 pub mod Questions
 pub mod Queue
 pub mod Requests
+pub mod ReadBack
 pub mod Rows
 pub mod Run
 pub mod Schedule
@@ -22,3 +23,4 @@ pub mod Topology
 pub mod Waits
 pub mod Wakeups
 pub mod Witnesses
+pub mod Writer

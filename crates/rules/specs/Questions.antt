@@ -50,12 +50,29 @@ unfoldable pub thread-new : State → ℕ → Question
 thread-new s x = question 5 (ltb x (s .limits .threads) && not (s .known x))
 
 -- 6: "Is every other operand in range: node existing, parent without CPUs of its own and fewer than 128 nodes (02), node without children (03),
--- type and class up to 3, value up to 127, flags up to 7, mark 0 or 1?" First what needs no state, then what does.
+-- type and class up to 3, value up to 127, flags up to 7, mark 0 or 1?" First what needs no state, which the writer of 2026-02 asks too, then what does.
 unfoldable pub priority-in-range : ℕ → ℕ → Question
 priority-in-range class value = question 6 (leb class 3 && leb value 127)
 
 unfoldable pub at-most : ℕ → ℕ → Question
 at-most most n = question 6 (leb n most)
+
+abbrev pub in-range : Request → Question
+in-range (declare-cpu c) = question 6 true
+in-range (add-node p k) = at-most 3 k
+in-range (place-cpu n c) = question 6 true
+in-range seal = question 6 true
+in-range (declare-thread x k v pin) = priority-in-range k v
+in-range (set-tick t) = question 6 true
+in-range (schedule-thread c x) = question 6 true
+in-range (schedule c flags) = at-most 7 flags
+in-range (hardtick c) = question 6 true
+in-range (stattick c nanoseconds) = question 6 true
+in-range (resched c) = question 6 true
+in-range (maybe-preempt c) = question 6 true
+in-range (donate c x k v) = priority-in-range k v
+in-range (remove-donation x) = question 6 true
+in-range (set-critical x mark) = at-most 1 mark
 
 unfoldable pub node-exists : State → ℕ → Question
 node-exists s n = question 6 (ltb n (length (s .topology .nodes)))
@@ -95,20 +112,20 @@ room s = question 10 (ltb (s .accepted) most-accepted)
 -- the questions that concern each command, before the last
 unfoldable pub concerning : State → Request → List Question
 concerning s (declare-cpu c) = open-yet s ∷ cpu-new s c ∷ []
-concerning s (add-node p k) = open-yet s ∷ at-most 3 k ∷ node-exists s p ∷ parent-without-cpus s p ∷ node-fits s ∷ []
+concerning s (add-node p k) = open-yet s ∷ in-range (add-node p k) ∷ node-exists s p ∷ parent-without-cpus s p ∷ node-fits s ∷ []
 concerning s (place-cpu n c) = open-yet s ∷ cpu-unplaced s c ∷ node-exists s n ∷ node-childless s n ∷ []
 concerning s seal = open-yet s ∷ all-placed s ∷ []
-concerning s (declare-thread x k v pin) = sealed-now s ∷ pin-declared s pin ∷ thread-new s x ∷ priority-in-range k v ∷ []
+concerning s (declare-thread x k v pin) = sealed-now s ∷ pin-declared s pin ∷ thread-new s x ∷ in-range (declare-thread x k v pin) ∷ []
 concerning s (set-tick t) = sealed-now s ∷ tick-fits s t ∷ []
 concerning s (schedule-thread c x) = sealed-now s ∷ cpu-declared s c ∷ thread-declared s x ∷ thread-blocked s x ∷ []
-concerning s (schedule c flags) = sealed-now s ∷ cpu-declared s c ∷ at-most 7 flags ∷ []
+concerning s (schedule c flags) = sealed-now s ∷ cpu-declared s c ∷ in-range (schedule c flags) ∷ []
 concerning s (hardtick c) = sealed-now s ∷ cpu-declared s c ∷ []
 concerning s (stattick c nanoseconds) = sealed-now s ∷ cpu-declared s c ∷ []
 concerning s (resched c) = sealed-now s ∷ cpu-declared s c ∷ []
 concerning s (maybe-preempt c) = sealed-now s ∷ cpu-declared s c ∷ []
-concerning s (donate c x k v) = sealed-now s ∷ cpu-declared s c ∷ thread-declared s x ∷ priority-in-range k v ∷ []
+concerning s (donate c x k v) = sealed-now s ∷ cpu-declared s c ∷ thread-declared s x ∷ in-range (donate c x k v) ∷ []
 concerning s (remove-donation x) = sealed-now s ∷ thread-declared s x ∷ []
-concerning s (set-critical x mark) = sealed-now s ∷ thread-declared s x ∷ at-most 1 mark ∷ []
+concerning s (set-critical x mark) = sealed-now s ∷ thread-declared s x ∷ in-range (set-critical x mark) ∷ []
 
 -- the number of the first question answered no, 0 if there is none
 unfoldable pub first-no : List Question → ℕ

@@ -70,6 +70,11 @@ widths l byte =
     (cond (eqb byte 0x19) (some (2 ∷ []))
     (cond (eqb byte 0x1a) (some (2 ∷ 1 ∷ [])) none))))))))))))))
 
+-- the row of a byte, and another list where the byte is not in the table
+unfoldable pub widths-or : List ℕ → Option (List ℕ) → List ℕ
+widths-or other none = other
+widths-or other (some ns) = ns
+
 unfoldable pub sum : List ℕ → ℕ
 sum [] = 0
 sum (n ∷ l) = n + sum l

@@ -1,6 +1,7 @@
 -- What passes over C for an answer: numbers and Booleans for each case of its enums.
 use mathlib.Core.Path.{_≡_, refl}
 use mathlib.Core.Bool.{true, false, cond}
+use Rattle.rules.specs.Writer as rules
 use Rattle.lines.specs.Lines.{refusal-number}
 use Rattle.lines.specs.declared.Shown.{Shown}
 use Rattle.lines.specs.declared.Shown.the-variants as shown
@@ -74,9 +75,17 @@ unfoldable pub begun-of : Started → Begun
 begun-of (started.Ready s) = record { ready = true; state = s }
 begun-of started.NoRoom = record { ready = false; state = no-state }
 
+unfoldable pub refused-with : ℕ → Written
+refused-with k = record { refusal = k; bytes = 0 }
+
 unfoldable pub written-of : Rendered → Written
 written-of (render.Written n) = record { refusal = 0; bytes = n }
-written-of (render.Refused r) = record { refusal = refusal-number r; bytes = 0 }
+written-of (render.Refused r) = refused-with (refusal-number r)
+
+-- the answer of 2026-02's writer
+unfoldable pub wrote-of : rules.Written → Written
+wrote-of (rules.bytes n) = record { refusal = 0; bytes = n }
+wrote-of (rules.refused k) = refused-with k
 
 -- ---- the line of a row is the line of the answer
 

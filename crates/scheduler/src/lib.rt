@@ -4,10 +4,11 @@ pub mod numbers;
 ghost use mathlib.Core.Path.{_≡_};
 ghost use Rattle.rules.specs.Lines.{line};
 ghost use Rattle.lines.specs.Lines.{answer-of, rendered, buffer-with};
+ghost use Rattle.writer.specs.Writer.{answer, buffer-after};
 ghost use Rattle.command.specs.Lent.{leaves-all};
 ghost use Rattle.stream.specs.Progress.{begin};
 ghost use Rattle.stream.specs.Feed.{feeds, feed-def};
-ghost use Rattle.scheduler.specs.Numbers.{answer-in, written-of, start-row, command-row};
+ghost use Rattle.scheduler.specs.Numbers.{answer-in, written-of, wrote-of, start-row, command-row};
 use crate::numbers::Begun;
 use crate::numbers::Row;
 use crate::numbers::Step;
@@ -16,16 +17,19 @@ use crate::numbers::answer_in;
 use crate::numbers::begun_of;
 use crate::numbers::step_of;
 use crate::numbers::written_of;
+use crate::numbers::wrote_of;
 use command::obey::command;
 use lines::render;
 use processor::words::CpuWords;
 use questions::state::State;
+use request::fields::Fields;
 use stream::feed::feed;
 use stream::progress::Progress;
 use stream::progress::begin;
 use stream::start::start;
 use thread::Thread;
 use topology::words::NodeWords;
+use writer::write_command;
 
 // The library's start. Where a slice is too short nothing is changed.
 #[no_mangle]
@@ -62,6 +66,20 @@ pub extern "C" fn scheduler_render(buffer: &mut [u8], number: u64, row: Row) -> 
 {
     let rendered = render(buffer, number, answer_in(row));
     written_of(rendered)
+}
+
+// One command with its fields, in the form that `wide` says: its bytes in the buffer's first ones, or the refusal 1, 6 or 12.
+#[no_mangle]
+pub extern "C" fn scheduler_write(
+    byte: u64,
+    fields: Fields,
+    wide: bool,
+    buffer: &mut [u8],
+) -> Written
+    ensures { λ r. ⌜ (r ≡ wrote-of (answer wide byte fields (now (buffer .entry)))) × (now (buffer .exit) ≡ buffer-after wide byte fields (now (buffer .entry))) ⌝ }
+{
+    let written = write_command(byte, fields, wide, buffer);
+    wrote_of(written)
 }
 
 // A run that begins.

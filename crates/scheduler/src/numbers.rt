@@ -1,7 +1,9 @@
 // Answers as numbers and Booleans, which C takes: an enum does not pass over C. `answer-again` of specs/Numbers: none is lost.
 ghost use mathlib.Core.Path.{_≡_};
 ghost use Rattle.outcome.specs.Call.{refusal-back};
-ghost use Rattle.scheduler.specs.Numbers.{column-of, shown-in, runs-of, running-in, row-of, answer-in, step-of, no-state, begun-of, written-of};
+ghost use Rattle.scheduler.specs.Numbers.{column-of, shown-in, runs-of, running-in, row-of, answer-in, step-of, no-state, begun-of, refused-with, written-of, wrote-of};
+ghost use Rattle.lines.specs.Lines.{refusal-number};
+ghost use Rattle.writer.specs.Writer.{written-of as answer-of};
 use lines::Answer;
 use lines::Refusal;
 use lines::Rendered;
@@ -117,7 +119,7 @@ fn running_in(runs: Runs) -> Running
     Running::Dash
 }
 
-// The refusal of a number; any number past 10 counts as 11.
+// The refusal of a number; any number past 10 but 12 counts as 11.
 fn refusal_in(number: u64) -> Refusal
     ensures { λ r. ⌜ r ≡ refusal-back number ⌝ }
 {
@@ -133,6 +135,7 @@ fn refusal_in(number: u64) -> Refusal
         8 => Refusal::Tick,
         9 => Refusal::NotPlaced,
         10 => Refusal::TooMany,
+        12 => Refusal::ShortBuffer,
         _ => Refusal::SmallBuffer,
     }
 }
@@ -209,14 +212,29 @@ pub fn begun_of(started: Started) -> Begun
     }
 }
 
+fn refused(refusal: Refusal) -> Written
+    ensures { λ r. ⌜ r ≡ refused-with (refusal-number refusal) ⌝ }
+{
+    Written {
+        refusal: refusal_number(refusal),
+        bytes: 0,
+    }
+}
+
 pub fn written_of(rendered: Rendered) -> Written
     ensures { λ r. ⌜ r ≡ written-of rendered ⌝ }
 {
     match rendered {
         Rendered::Written(bytes) => Written { refusal: 0, bytes },
-        Rendered::Refused(refusal) => Written {
-            refusal: refusal_number(refusal),
-            bytes: 0,
-        },
+        Rendered::Refused(refusal) => refused(refusal),
+    }
+}
+
+pub fn wrote_of(written: writer::Written) -> Written
+    ensures { λ r. ⌜ r ≡ wrote-of (answer-of written) ⌝ }
+{
+    match written {
+        writer::Written::Bytes(bytes) => Written { refusal: 0, bytes },
+        writer::Written::Refused(refusal) => refused(refusal),
     }
 }

@@ -1,4 +1,3 @@
-pub mod Block
 pub mod Feed
 pub mod Progress
 pub mod Start

@@ -13,7 +13,7 @@ use lib.Dec.{eqb}
 use borrow.Author.Tests.{le-ltb, eqb-true, eqb-false}
 use Rattle.rules.specs.Laws.Line.{both}
 use Rattle.stream.specs.Progress.{ENDED}
-use Rattle.stream.specs.Block.{kept-count, kept-bytes}
+use Rattle.blocks.specs.Block.{kept-count, kept-bytes}
 use Rattle.demands.specs.Calls.{Lent-state, Ready}
 use Rattle.stream_laws.specs.Calls.{Call, Run, in-hand, after, room-left, after-all, stream, Proper, Settled, over, few, begun}
 use Rattle.stream_laws.specs.Taken.{Ended-within}

@@ -39,6 +39,9 @@ enum-told-11 c = search needs
 enum-told-12 : tie.Need-enum-told-12
 enum-told-12 c = search needs
 
+enum-told-13 : tie.Need-enum-told-13
+enum-told-13 c = search needs
+
 returns : tie.Need-returns
 unfolding refusal-number
 returns c = search needs
@@ -87,6 +90,10 @@ returns-12 : tie.Need-returns-12
 unfolding refusal-number
 returns-12 c = search needs
 
+returns-13 : tie.Need-returns-13
+unfolding refusal-number
+returns-13 c = search needs
+
 pub refusal-number-spec : {M : Type 1} → statement M
 refusal-number-spec =
     tie.close
@@ -103,6 +110,7 @@ refusal-number-spec =
     enum-told-10
     enum-told-11
     enum-told-12
+    enum-told-13
     returns
     returns-2
     returns-3
@@ -114,4 +122,5 @@ refusal-number-spec =
     returns-9
     returns-10
     returns-11
-    returns-12)
+    returns-12
+    returns-13)

@@ -40,7 +40,7 @@ use denote.Triple.Walked.{Stays, stay-none, stay-slice, walkOf, goes-none, goes-
 use denote.Exit.{yes as kept-yes}
 use Rattle.records.proofs.Walk.{Datum, number, truth, struct, Dens, AreD, listed, spell, lent-as, slice-of, kept, opened, closed, guards, whiles, env-of, standing, bare, full, told, proved}
 use Rattle.records.proofs.Lent.{mutable, shared, call-slices, call-left, call-slices-none, all-freed, says-none, begins5, leaves5}
-use Rattle.stream.specs.Block.{kept-count, kept-bytes}
+use Rattle.blocks.specs.Block.{kept-count, kept-bytes}
 use Rattle.stream.specs.Feed.{feed-def, World}
 use Rattle.stream.specs.Progress.{ENDED}
 use denote.Struct.Laws as LL
@@ -80,9 +80,9 @@ use Rattle.replay.proofs.output_failed.Met as fn-replay-output-failed-t
 use Rattle.stream.proofs.block.is_ended as fn-stream-block-is-ended
 use Rattle.stream.proofs.block.is_ended.Symbol as fn-stream-block-is-ended-def
 use Rattle.stream.proofs.block.is_ended.Met as fn-stream-block-is-ended-thm
-use Rattle.stream.proofs.block.keep as fn-stream-block-keep
-use Rattle.stream.proofs.block.keep.Symbol as fn-stream-block-keep-def
-use Rattle.stream.proofs.block.keep.Met as fn-stream-block-keep-thm
+use Rattle.blocks.proofs.keep as fn-blocks-keep
+use Rattle.blocks.proofs.keep.Symbol as fn-blocks-keep-def
+use Rattle.blocks.proofs.keep.Met as fn-blocks-keep-thm
 use Rattle.replay.proofs.with_left as fn-replay-with-left
 use Rattle.replay.proofs.with_left.Symbol as fn-replay-with-left-def
 use Rattle.replay.proofs.with_left.Met as fn-replay-with-left-thm
@@ -359,7 +359,7 @@ module _ {M : Type 1} (𝓤 : URA M) (H : Heap 𝓤) (𝓜 : Model 𝓤 H) (𝓖
           move ! (2 ∷ 0 ∷ []) $
           join ! $
           call-slices (number w64) (number w64 ∷ number w64 ∷ []) ((((feed-def (ws₆ .0) ((r₅) .bytes) ((r₅) .last) (record { threads = z .0; cpus = z .1 .0; nodes = z .1 .1 .0; output = z .1 .1 .1 .1 .0; fed = ((z .1 .1 .1 .1 .1 .0) .fed) })) .fed) .at, ((r₅) .bytes, tt))) (emp 𝓤) ((mutable u8 (ws₆ .0) b‴ o‴ n‴ ((w .1 .1 .1 .0 ∙ sym (ls₈ .0))) room‴) ∷ []) ! fm (λ r ws. (r ≡ (kept-count (ws₆ .0) (((feed-def (ws₆ .0) ((r₅) .bytes) ((r₅) .last) (record { threads = z .0; cpus = z .1 .0; nodes = z .1 .1 .0; output = z .1 .1 .1 .1 .0; fed = ((z .1 .1 .1 .1 .1 .0) .fed) })) .fed) .at) ((r₅) .bytes))) × (ws .0 ≡ (kept-bytes (ws₆ .0) (((feed-def (ws₆ .0) ((r₅) .bytes) ((r₅) .last) (record { threads = z .0; cpus = z .1 .0; nodes = z .1 .1 .0; output = z .1 .1 .1 .1 .0; fed = ((z .1 .1 .1 .1 .1 .0) .fed) })) .fed) .at) ((r₅) .bytes)))) ((LL.owed Progress·.the-type Progress·laws.the-laws ((feed-def (ws₆ .0) ((r₅) .bytes) ((r₅) .last) (record { threads = z .0; cpus = z .1 .0; nodes = z .1 .1 .0; output = z .1 .1 .1 .1 .0; fed = ((z .1 .1 .1 .1 .1 .0) .fed) })) .fed) _ (is₁₈) .0, (LL.owed Filled·.the-type Filled·laws.the-laws (r₅) _ (is₇) .0, tt))) (id⊢ 𝓤 (emp 𝓤))
-          (λ νs. cited 𝓤 H (tripleOf 𝓤 H A fn-stream-block-keep.signature (fn-stream-block-keep.spec 𝓤 H A (𝓜 .mem) (𝓡 .run))) 𝓜 𝓡 code.env fn-stream-block-keep-def.name fn-stream-block-keep-def.routine code.calls-stream·block·keep (fn-stream-block-keep-thm.met 𝓤 H 𝓜 𝓖 𝓡) (((νs .0 .0 ∷ [], tt), (fullShare, tt), tt, (lent-as b‴ o‴ (νs .0 .1) (ws₆ .0), (((feed-def (ws₆ .0) ((r₅) .bytes) ((r₅) .last) (record { threads = z .0; cpus = z .1 .0; nodes = z .1 .1 .0; output = z .1 .1 .1 .1 .0; fed = ((z .1 .1 .1 .1 .1 .0) .fed) })) .fed) .at, ((r₅) .bytes, tt))), (slice-of b‴ o‴ (ws₆ .0) ∷ [], spell (number w64 ∷ number w64 ∷ []) ((((feed-def (ws₆ .0) ((r₅) .bytes) ((r₅) .last) (record { threads = z .0; cpus = z .1 .0; nodes = z .1 .1 .0; output = z .1 .1 .1 .1 .0; fed = ((z .1 .1 .1 .1 .1 .0) .fed) })) .fed) .at, ((r₅) .bytes, tt))))), tt))
+          (λ νs. cited 𝓤 H (tripleOf 𝓤 H A fn-blocks-keep.signature (fn-blocks-keep.spec 𝓤 H A (𝓜 .mem) (𝓡 .run))) 𝓜 𝓡 code.env fn-blocks-keep-def.name fn-blocks-keep-def.routine code.calls-blocks·keep (fn-blocks-keep-thm.met 𝓤 H 𝓜 𝓖 𝓡) (((νs .0 .0 ∷ [], tt), (fullShare, tt), tt, (lent-as b‴ o‴ (νs .0 .1) (ws₆ .0), (((feed-def (ws₆ .0) ((r₅) .bytes) ((r₅) .last) (record { threads = z .0; cpus = z .1 .0; nodes = z .1 .1 .0; output = z .1 .1 .1 .1 .0; fed = ((z .1 .1 .1 .1 .1 .0) .fed) })) .fed) .at, ((r₅) .bytes, tt))), (slice-of b‴ o‴ (ws₆ .0) ∷ [], spell (number w64 ∷ number w64 ∷ []) ((((feed-def (ws₆ .0) ((r₅) .bytes) ((r₅) .last) (record { threads = z .0; cpus = z .1 .0; nodes = z .1 .1 .0; output = z .1 .1 .1 .1 .0; fed = ((z .1 .1 .1 .1 .1 .0) .fed) })) .fed) .at, ((r₅) .bytes, tt))))), tt))
           (λ k. and-then ! (load ! (from ! (stop !)) (look ! 10 refl)) (and-then ! (load ! (from ! (fld ! refl (stop !))) (look-in ! 62 (sub ! 0 refl (whole !)))) (and-then ! (load ! (from ! (stop !)) (look ! 66 refl)) (no-more !)))) (λ r₃₇ ws₃₈ is₃₉ ls₄₀ e₄₁.
           split ! $
           move ! (1 ∷ []) $

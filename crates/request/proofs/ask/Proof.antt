@@ -1,7 +1,7 @@
 use Rattle.request.proofs.Table.{last-widths}
 use borrow.Author.Tests.{ne-eqb}
-use Rattle.request.specs.Request.{asked, limits-of, request-of, widths-or}
-use Rattle.rules.specs.Requests.{nth, operands, request, widths}
+use Rattle.request.specs.Request.{asked, limits-of, request-of}
+use Rattle.rules.specs.Requests.{nth, operands, request, widths, widths-or}
 use borrow.Author.Needs.{needs}
 use Rattle.request.proofs.ask.Statement.{statement}
 use Rattle.request.proofs.ask.Tie as tie

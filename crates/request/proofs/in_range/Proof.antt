@@ -1,4 +1,5 @@
-use Rattle.request.specs.Request.{in-range, request-of}
+use Rattle.request.specs.Request.{request-of}
+use Rattle.rules.specs.Questions.{question}
 use borrow.Author.Needs.{needs}
 use Rattle.request.proofs.in_range.Statement.{statement}
 use Rattle.request.proofs.in_range.Tie as tie
@@ -64,63 +65,63 @@ at-most-requires-3 : tie.Need-at-most-requires-3
 at-most-requires-3 c κs = search needs
 
 returns : tie.Need-returns
-unfolding in-range request-of
-returns c = search needs
+unfolding request-of question
+returns c = rw (c .enum-told .given .1)
 
 returns-2 : tie.Need-returns-2
-unfolding in-range request-of
+unfolding request-of
 returns-2 c = rw (c .before .before .request .given .1) (c .at-most .ensures)
 
 returns-3 : tie.Need-returns-3
-unfolding in-range request-of
-returns-3 c = search needs
+unfolding request-of question
+returns-3 c = rw (c .enum-told2 .given .1)
 
 returns-4 : tie.Need-returns-4
-unfolding in-range request-of
-returns-4 c = search needs
+unfolding request-of question
+returns-4 c = rw (c .enum-told3 .given .1)
 
 returns-5 : tie.Need-returns-5
-unfolding in-range request-of
+unfolding request-of
 returns-5 c = rw (c .before .before .request2 .given .1) (c .priority-in-range .ensures)
 
 returns-6 : tie.Need-returns-6
-unfolding in-range request-of
-returns-6 c = search needs
+unfolding request-of question
+returns-6 c = rw (c .enum-told4 .given .1)
 
 returns-7 : tie.Need-returns-7
-unfolding in-range request-of
-returns-7 c = search needs
+unfolding request-of question
+returns-7 c = rw (c .enum-told5 .given .1)
 
 returns-8 : tie.Need-returns-8
-unfolding in-range request-of
+unfolding request-of
 returns-8 c = rw (c .before .before .request3 .given .1) (c .at-most2 .ensures)
 
 returns-9 : tie.Need-returns-9
-unfolding in-range request-of
-returns-9 c = search needs
+unfolding request-of question
+returns-9 c = rw (c .enum-told6 .given .1)
 
 returns-10 : tie.Need-returns-10
-unfolding in-range request-of
-returns-10 c = search needs
+unfolding request-of question
+returns-10 c = rw (c .enum-told7 .given .1)
 
 returns-11 : tie.Need-returns-11
-unfolding in-range request-of
-returns-11 c = search needs
+unfolding request-of question
+returns-11 c = rw (c .enum-told8 .given .1)
 
 returns-12 : tie.Need-returns-12
-unfolding in-range request-of
-returns-12 c = search needs
+unfolding request-of question
+returns-12 c = rw (c .enum-told9 .given .1)
 
 returns-13 : tie.Need-returns-13
-unfolding in-range request-of
+unfolding request-of
 returns-13 c = rw (c .before .before .request4 .given .1) (c .priority-in-range2 .ensures)
 
 returns-14 : tie.Need-returns-14
-unfolding in-range request-of
-returns-14 c = search needs
+unfolding request-of question
+returns-14 c = rw (c .enum-told10 .given .1)
 
 returns-15 : tie.Need-returns-15
-unfolding in-range request-of
+unfolding request-of
 returns-15 c = rw (c .before .before .request5 .given .1) (c .at-most3 .ensures)
 
 pub in-range-spec : {M : Type 1} → statement M

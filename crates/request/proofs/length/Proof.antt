@@ -1,6 +1,6 @@
 use borrow.Author.Tests.{ne-eqb}
-use Rattle.request.specs.Request.{length-of, limits-of, widths-or}
-use Rattle.rules.specs.Requests.{sum, widths}
+use Rattle.request.specs.Request.{length-of, limits-of}
+use Rattle.rules.specs.Requests.{sum, widths, widths-or}
 use Rattle.request.proofs.Table.{width-small}
 use native.Mathlib.Omega.{arith}
 use borrow.Author.Needs.{needs}

@@ -121,7 +121,7 @@ running-length limit none l h = omega arith
 running-length limit (some idle) l h = omega arith
 running-length limit (some (thread x)) l h = decimal-length 3 x (omega arith)
 
-refusal-most : (r : Refusal) → refusal-number r ≤ 11
+refusal-most : (r : Refusal) → refusal-number r ≤ 12
 unfolding refusal-number
 refusal-most refusal.Obeyed = omega arith
 refusal-most refusal.UnknownCommand = omega arith
@@ -135,8 +135,9 @@ refusal-most refusal.Tick = omega arith
 refusal-most refusal.NotPlaced = omega arith
 refusal-most refusal.TooMany = omega arith
 refusal-most refusal.SmallBuffer = omega arith
+refusal-most refusal.ShortBuffer = omega arith
 
-line-most : (l : Limits) (number : ℕ) (a : Answer) → l .cpus ≤ 100 → l .threads < 10000 → a .refused ≤ 11 → Shown-within l a → Below 3 (a .wakeups)
+line-most : (l : Limits) (number : ℕ) (a : Answer) → l .cpus ≤ 100 → l .threads < 10000 → a .refused ≤ 12 → Shown-within l a → Below 3 (a .wakeups)
     → length (line number a) ≤ 48
 unfolding line space line-feed
 line-most l number a cpus threads r w few =

@@ -16,7 +16,8 @@ use Rattle.rules.specs.Questions.{refusal}
 use Rattle.rules.specs.Commands.{step}
 use Rattle.rules.specs.Laws.Refused.{refused-number}
 use Rattle.rules.specs.Lines.{line, end-line, used, ends, refused-by, no-bytes, lines-from}
-use Rattle.request.proofs.Bytes.{past-drop, enough}
+use Rattle.rules.specs.Laws.Writer.{past-drop}
+use Rattle.request.proofs.Bytes.{enough}
 
 -- not cut short
 unfoldable pub is-whole : Reading → Bool

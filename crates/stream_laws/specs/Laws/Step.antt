@@ -14,7 +14,7 @@ use Rattle.rules.specs.State.{State}
 use Rattle.rules.specs.Commands.{Answer, Step, step}
 use Rattle.rules.specs.Requests.{read, past}
 use Rattle.rules.specs.Lines.{line, end-line, lines-from, used, ends, refused-by, last-number}
-use Rattle.request.proofs.Bytes.{past-drop}
+use Rattle.rules.specs.Laws.Writer.{past-drop}
 use Rattle.lines.specs.Lines.{refusal-number, answer-of, room}
 use Rattle.records.specs.Left.{Left}
 use Rattle.outcome.specs.declared.answer.Answered.{Answered}

@@ -9,8 +9,8 @@ enum-known-rendered c = search needs
 enum-known-rendered-2 : tie.Need-enum-known-rendered-2
 enum-known-rendered-2 c = search needs
 
-refusal-number-requires : tie.Need-refusal-number-requires
-refusal-number-requires c κs = search needs
+refused-requires : tie.Need-refused-requires
+refused-requires c κs = search needs
 
 returns : tie.Need-returns
 unfolding written-of
@@ -23,4 +23,4 @@ returns-2 c = cc
 pub written-of-spec : {M : Type 1} → statement M
 written-of-spec =
     tie.close
-    (tie.spec enum-known-rendered enum-known-rendered-2 refusal-number-requires returns returns-2)
+    (tie.spec enum-known-rendered enum-known-rendered-2 refused-requires returns returns-2)

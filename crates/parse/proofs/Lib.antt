@@ -1,0 +1,4 @@
+pub mod Walking
+pub mod Numbers
+pub mod Reading
+pub mod Laws

@@ -1,0 +1,1 @@
+// No code: that the text of a command means that command, in specs/.
