@@ -2,14 +2,10 @@
 use Prim.Native.Nat.{ℕ, zero, suc}
 use mathlib.Core.Path.{_≡_, refl}
 use mathlib.Core.Logic.{_≢_}
-use mathlib.Core.List.{List, [], _∷_, _++_, append-assoc}
+use mathlib.Core.List.{List, [], _∷_, _++_, append-assoc, append-nil}
 use lib.ListN.{take}
 use Rattle.rules.specs.Lines.{decimal, space}
 use Rattle.listing.specs.Listing.{numbers}
-
-append-nil : (l : List ℕ) → l ++ [] ≡ l
-append-nil [] = refl
-append-nil (x ∷ l) = rw (append-nil l)
 
 pub numbers-one : (a : ℕ) → space ++ decimal a ≡ numbers (a ∷ [])
 unfolding numbers

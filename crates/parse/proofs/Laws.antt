@@ -1,6 +1,6 @@
 -- Laws of a line: what `same` says, that each name of the table is read as its command, and that a number printed in decimal is read as that number.
 use Prim.Native.Nat.{ℕ, zero, suc, _+_, _*_, _/_, _%_, _^_, _<_}
-use mathlib.Core.Path.{_≡_, refl, ap}
+use mathlib.Core.Path.{_≡_, refl, ap, sym}
 use mathlib.Core.Bool.{Bool, true, false, cond, false≢true}
 use mathlib.Core.Option.{Option, none, some}
 use mathlib.Core.List.{List, [], _∷_, _++_, map}
@@ -32,6 +32,10 @@ pub equal-same : (l : List ℕ) → same l l ≡ true
 unfolding same
 equal-same [] = refl
 equal-same (b ∷ l) = rw (eq-eqb b b refl) (equal-same l)
+
+pub same-is : (r : Bool) (l m : List ℕ) → (r ≡ true → l ≡ m) → (l ≡ m → r ≡ true) → r ≡ same l m
+same-is true l m f g = sym (rw (f refl) (equal-same m))
+same-is false l m f g = both (same l m) (λ e. absurd (false≢true (g (same-equal l m e)))) (λ e. sym e)
 
 -- ---- each name of the table is read as its command
 

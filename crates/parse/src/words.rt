@@ -62,17 +62,7 @@ pub fn word_end(text: &[u8], at: usize) -> usize
 pub fn same(a: &[u8], b: &[u8]) -> bool
     ensures { λ r. ⌜ r ≡ same (now (a .entry)) (now (b .entry)) ⌝ }
 {
-    if a.len() == b.len() {
-        let mut i = 0;
-        while i < a.len() {
-            if a[i] != b[i] {
-                return false;
-            }
-            i += 1;
-        }
-        return true;
-    }
-    false
+    check::same(a, b)
 }
 
 // Where a word begins and ends in its text.

@@ -6,14 +6,16 @@ use mathlib.Core.Logic.{_↔_, _≢_}
 use mathlib.Core.Bool.{Bool, true, false, cond, _&&_}
 use mathlib.Core.Option.{Option, none, some}
 use mathlib.Core.List.{List, [], _∷_, _++_}
-use lib.ListN.{length, take, replicate}
+use lib.ListN.{length, take, drop, replicate}
+use lib.Seq.{sets-eq}
+use native.Mathlib.Nat.{zero-add}
 use native.Mathlib.Omega.{arith}
 use lib.Dec.{leb}
-use borrow.Author.Tests.{leb-true, leb-false, le-leb, lt-leb}
+use borrow.Author.Tests.{ne-eqb, leb-true, leb-false, le-leb, lt-leb}
 use Rattle.rules.specs.State.{Limits, State, base-limits}
 use Rattle.rules.specs.Requests.{Request, Reading, asks, read, read-operands, operands, widths, widths-or, request, sum, at-least, pin-of, nth, all-ones}
 use Rattle.rules.specs.Questions.{question, first-no, priority-in-range, in-range, refusal}
-use Rattle.rules.specs.Writer.{Bytes, little-endian, field-bytes, row, bytes-of, fits, ranges, has-row, in-table, no-misfit, buffer-holds, write-refusal, names-node}
+use Rattle.rules.specs.Writer.{Bytes, little-endian, field-bytes, row, bytes-of, fits, ranges, has-row, in-table, no-misfit, buffer-holds, write-refusal, buffer-with, names-node}
 use Rattle.rules.specs.Laws.Line.{both}
 use Rattle.rules.specs.Laws.Writer as laws
 use Rattle.rules.specs.Laws.Ranges.{out-of-range, in-range-passes}
@@ -58,7 +60,22 @@ module _ (l : Limits) (byte : ℕ) (fields : List ℕ) (room : ℕ) where
     unfolding read bytes-of row
     reader-takes-back rest = laws.read-row l byte fields rest (widths l byte) refl (accepted-exactly .0 accepted .0) fit
 
--- So no two accepted commands have the same bytes.
+-- ---- what is left of the buffer
+
+module _ (l : Limits) (byte : ℕ) (fields buffer : List ℕ) where
+  -- Accepted: the command stands at the front, and "Bytes past the written ones keep their content."
+  pub accepted-buffer : write-refusal l byte fields (length buffer) ≡ 0 → buffer-with l byte fields buffer ≡ bytes-of l byte fields ++ drop (length (bytes-of l byte fields)) buffer
+  unfolding buffer-with
+  accepted-buffer h =
+      rw (h, sets-eq (bytes-of l byte fields) buffer 0 (rw zero-add (accepted-exactly l byte fields (length buffer) .0 h .2)), zero-add)
+
+  -- Refused: nothing is written.
+  pub refused-buffer : write-refusal l byte fields (length buffer) ≢ 0 → buffer-with l byte fields buffer ≡ buffer
+  unfolding buffer-with
+  refused-buffer h = rw (ne-eqb _ _ h)
+
+-- ---- no two accepted commands have the same bytes
+
 pub writing-is-injective : (l : Limits) (byte byte′ : ℕ) (fields fields′ : List ℕ) (room room′ : ℕ) → length fields ≡ length fields′
     → write-refusal l byte fields room ≡ 0 → write-refusal l byte′ fields′ room′ ≡ 0 → bytes-of l byte fields ≡ bytes-of l byte′ fields′
     → (byte ≡ byte′) × (fields ≡ fields′)
@@ -80,10 +97,12 @@ module _ (l : Limits) (byte : ℕ) (bytes : List ℕ) (are : Bytes bytes) (q : R
   unfolding read row
   known = laws.read-known l byte bytes q used (widths l byte) reads
 
+  -- Its bytes are the very ones that were read.
   pub rewritten : bytes-of l byte operands-read ≡ take used (byte ∷ bytes)
   unfolding bytes-of
   rewritten = rw (← known .3) (ap (λ (m : List ℕ). byte ∷ m) (laws.fields-again zeros (row l byte) bytes are (known .1)))
 
+  -- They ask for the same.
   pub asks-the-same : request l byte operands-read ≡ q
   asks-the-same = laws.request-zeros l byte zeros (operands (row l byte) bytes) ∙ known .2
 

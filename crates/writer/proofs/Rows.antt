@@ -17,6 +17,7 @@ use Rattle.rules.specs.Writer.{bytes-of, ranges}
 use Rattle.rules.specs.Writer as rules
 use Rattle.rules.specs.State.{Limits}
 use Rattle.rules.specs.Requests.{nth, widths, widths-or, sum}
+use Rattle.rules.specs.Questions.{question}
 use Rattle.rules.specs.Laws.Writer.{of-three, refusal-is, fails-first, fields-length}
 use Rattle.lines.specs.Text.{Text, text, write}
 use Rattle.lines.proofs.Writing.{then, write-sets}
@@ -99,7 +100,7 @@ module _ (wide : Bool) (byte n : ℕ) (fs : Fields) (w : Widths) (small : byte <
 
   module _ (f g : Bool) (b : List ℕ) (is : f ≡ fits (widths-list w) (list-of fs)) (in-them : g ≡ ranges (limits-of wide) byte (list-of fs)) where
     misfit : no-misfit wide byte (list-of fs) ≡ (f && g)
-    unfolding no-misfit
+    unfolding no-misfit rules.no-misfit question row
     misfit = rw (is, in-them, fits-is)
 
     pub known-written : f ≡ true → g ≡ true → n < length b → (b′ : List ℕ) (next : ℕ)
@@ -123,7 +124,7 @@ module _ (wide : Bool) (byte n : ℕ) (fs : Fields) (w : Widths) (small : byte <
 
   pub known-misfit-1 : (f : Bool) (b : List ℕ) → f ≡ fits (widths-list w) (list-of fs) → f ≡ false
       → (rules.refused 6 ≡ known-answer wide byte n (list-of fs) (length b)) × (b ≡ known-buffer wide byte n (list-of fs) b)
-  unfolding known-answer known-buffer no-misfit
+  unfolding known-answer known-buffer no-misfit rules.no-misfit question row
   known-misfit-1 f b is p =
       let k : fits (row wide byte) (list-of fs) ≡ false = sym fits-is ∙ (sym is ∙ p) in
       (rw k, rw k)
@@ -176,7 +177,7 @@ module _ (wide : Bool) (byte : ℕ) (fs b : List ℕ) where
     there = in-row n (widths (limits-of wide) byte) h
 
     refusal-so : rules.write-refusal (limits-of wide) byte fs (length b) ≡ of-three true (no-misfit wide byte fs) (leb (length (bytes-of (limits-of wide) byte fs)) (length b))
-    unfolding no-misfit row
+    unfolding no-misfit rules.no-misfit question row
     refusal-so = refusal-is (limits-of wide) byte fs (length b) ∙ rw (there .0)
 
     long : length (bytes-of (limits-of wide) byte fs) ≡ suc n

@@ -3,11 +3,10 @@ ghost use mathlib.Core.Path.{_≡_};
 ghost use mathlib.Core.List.{_∷_};
 ghost use Prim.Native.Nat.{_%_, _^_};
 ghost use lib.Dec.{ltb};
-ghost use lib.ListN.{length};
 ghost use Rattle.rules.specs.Writer.{little-endian, field-bytes, fits};
 ghost use Rattle.request.specs.Fields.{list-of, widths-list};
 ghost use Rattle.lines.specs.Text.{text, write};
-ghost use Rattle.writer.specs.Writer.{written-of, known-answer, known-buffer, answer, buffer-after};
+ghost use Rattle.writer.specs.Writer.{written-of, known, known-after, answer, buffer-after};
 use lines::Refusal;
 use lines::put;
 use request::Operands;
@@ -88,7 +87,7 @@ fn put_command(buffer: &mut [u8], byte: u8, fields: Fields, w: Widths) -> usize
 
 // A command whose operands have n bytes.
 fn write_known(byte: u8, n: usize, fields: Fields, wide: bool, buffer: &mut [u8]) -> Written
-    ensures { λ r. ⌜ (written-of r ≡ known-answer wide byte n (list-of fields) (length (now (buffer .entry)))) × (now (buffer .exit) ≡ known-buffer wide byte n (list-of fields) (now (buffer .entry))) ⌝ }
+    ensures { λ r. ⌜ (written-of r ≡ known wide byte n fields (now (buffer .entry))) × (now (buffer .exit) ≡ known-after wide byte n fields (now (buffer .entry))) ⌝ }
 {
     let w = widths_of(byte, wide);
     if fit(fields, w) {
