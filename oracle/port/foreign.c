@@ -128,6 +128,35 @@ static uint64_t one_command(struct world *w, const size_t *lengths, const uint8_
     return row_digest(step.row) + 31 * step.used + 37 * step.state.accepted + 41 * step.state.tick;
 }
 
+/* "is CPU 0 declared and every declared CPU placed?", of the CPUs below the limit and within the rows lent */
+static bool may_seal(size_t rows, uint64_t limit)
+{
+    size_t c = limit < rows ? limit : rows;
+    bool zero = false;
+    while (c--) {
+        if (before.cpus[c][DECLARED] && before.cpus[c][PLACED] == NONE)
+            return false;
+        zero = before.cpus[c][DECLARED];
+    }
+    return zero;
+}
+
+/* A seal on an open state: the questions 9 and 10. */
+static bool one_seal(const size_t *lengths)
+{
+    struct state state = any_state();
+    state.sealed = false;
+    bool yes = may_seal(lengths[1], state.cpus);
+    uint64_t refusal = !yes ? 9 : state.accepted >= 4294967295 ? 10 : 0;
+    world = before;
+    struct step step =
+        scheduler_command(world.threads, lengths[0], world.cpus, lengths[1], world.nodes, lengths[2], (uint8_t[]){0x04}, 1, state);
+    fences(&world);
+    if (step.row.refusal != refusal)
+        fail("foreign: question 9 is answered otherwise");
+    return yes;
+}
+
 static void one_feed(const size_t *lengths, const uint8_t *bytes, size_t count, struct state state)
 {
     struct fed fed = {number(), number(), number(), number(), below(5), state};
@@ -151,7 +180,7 @@ static size_t length(size_t most)
 
 int main(int argc, char **argv)
 {
-    uint64_t count = argc > 1 ? strtoull(argv[1], NULL, 10) : 0, obeyed = 0;
+    uint64_t count = argc > 1 ? strtoull(argv[1], NULL, 10) : 0, obeyed = 0, sealed = 0;
     seed = 88172645463325252 + (argc > 2 ? strtoull(argv[2], NULL, 10) : 0);
     if (!count)
         fail("usage: foreign COUNT [SEED]");
@@ -167,8 +196,10 @@ int main(int argc, char **argv)
                 fail("foreign: the same call answers otherwise");
             obeyed += !same_memory(&world, &before);
             one_feed(lengths, bytes, n, state);
+            sealed += one_seal(lengths);
         }
     }
-    printf("foreign: %llu calls, %llu changed the lent memory, all came back\n", (unsigned long long)(60 * count), (unsigned long long)obeyed);
+    printf("foreign: %llu calls, %llu changed the lent memory, all came back; %llu asked question 9, %llu yes, each as document 01 has it\n",
+           (unsigned long long)(80 * count), (unsigned long long)obeyed, (unsigned long long)(20 * count), (unsigned long long)sealed);
     return 0;
 }

@@ -16,6 +16,8 @@ struct world {
 static struct world world;
 static struct state state;
 static unsigned checks;
+/* how many rows of CPUs are lent */
+static size_t lent_cpus = CPUS;
 
 static void same(const char *what, uint64_t found, uint64_t expected)
 {
@@ -30,7 +32,7 @@ static void same(const char *what, uint64_t found, uint64_t expected)
 static uint64_t command(const uint8_t *bytes, size_t count)
 {
     struct step step =
-        scheduler_command(world.threads, THREADS, world.cpus, CPUS, world.nodes, NODES, bytes, count, state);
+        scheduler_command(world.threads, THREADS, world.cpus, lent_cpus, world.nodes, NODES, bytes, count, state);
     state = step.state;
     return step.row.refusal;
 }
@@ -234,6 +236,58 @@ static void draws(void)
     }
 }
 
+/* "For 04: is CPU 0 declared and every declared CPU placed? 9", of the CPUs below the limit and within the rows lent; words may be any number. */
+static void seals(void)
+{
+    enum { MOST = 2 };
+    static const struct {
+        uint64_t limit;
+        size_t rows;
+        struct {
+            uint64_t cpu, declared, placed;
+        } words[MOST];
+        uint64_t refusal;
+    } cases[] = {
+        {64, CPUS, {{0}}, 9},                                 /* no CPU at all */
+        {64, CPUS, {{0, 1, 0}}, 0},                           /* CPU 0 alone, placed */
+        {64, CPUS, {{0, 1, NONE}}, 9},                        /* CPU 0 alone, unplaced */
+        {64, CPUS, {{1, 1, 0}}, 9},                           /* CPU 1 without CPU 0 */
+        {64, CPUS, {{0, 1, 0}, {63, 1, NONE}}, 9},            /* CPU 63 unplaced */
+        {64, CPUS, {{0, 1, 0}, {63, 1, 0}}, 0},               /* CPU 63 placed, those between are not declared */
+        {64, CPUS, {{0, 1, 0}, {32, 1, NONE}}, 9},            /* CPU 32 unplaced */
+        {64, CPUS, {{0, 1, NONE}, {63, 1, 0}}, 9},            /* CPU 0 unplaced, a later one placed */
+        {64, CPUS, {{63, 1, 0}}, 9},                          /* CPU 63 without CPU 0 */
+        {64, CPUS, {{0, UINT64_MAX, NONE - 1}}, 0},           /* any number but 0 is declared, any but NONE is placed */
+        {0, CPUS, {{0, 1, 0}}, 9},                            /* no CPU is below the limit */
+        {1, CPUS, {{0, 1, 0}, {1, 1, NONE}}, 0},              /* CPU 1 is not */
+        {2, CPUS, {{0, 1, 0}, {1, 1, NONE}}, 9},              /* CPU 1 is */
+        {63, CPUS, {{0, 1, 0}, {63, 1, NONE}}, 0},            /* CPU 63 is not */
+        {1024, CPUS, {{0, 1, 0}, {63, 1, 0}}, 0},             /* past the rows no CPU is declared */
+        {1024, CPUS, {{0, 1, 0}, {63, 1, NONE}}, 9},          /* CPU 63 is within the rows */
+        {1024, CPUS - 1, {{0, 1, 0}, {63, 1, NONE}}, 0},      /* CPU 63 is past the rows */
+        {UINT64_MAX, CPUS, {{0, 1, 0}, {63, 1, 0}}, 0},       /* and the walk ends */
+        {UINT64_MAX, 1, {{0, 1, 0}, {1, 1, NONE}}, 0},        /* one row */
+        {UINT64_MAX, 0, {{0, 1, 0}}, 9},                      /* no row, no CPU 0 */
+    };
+    for (size_t i = 0; i < sizeof cases / sizeof *cases; i++) {
+        start();
+        for (size_t k = 0; k < MOST; k++) {
+            if (!cases[i].words[k].declared)
+                continue;
+            world.cpus[cases[i].words[k].cpu][DECLARED] = cases[i].words[k].declared;
+            world.cpus[cases[i].words[k].cpu][PLACED] = cases[i].words[k].placed;
+        }
+        state.cpus = cases[i].limit;
+        lent_cpus = cases[i].rows;
+        if (cases[i].refusal)
+            REFUSED(cases[i].refusal, 0x04);
+        else
+            OBEYED(0x04);
+        same("sealed", state.sealed, cases[i].refusal == 0);
+        lent_cpus = CPUS;
+    }
+}
+
 /* "has the lent buffer at least 48 bytes? 11 (Bytes past a rendered line keep their content.)" */
 static void lines(void)
 {
@@ -280,6 +334,7 @@ int main(void)
     last_number();
     ticks();
     draws();
+    seals();
     lines();
     printf("near: %u checks, no difference\n", checks);
     return 0;

@@ -1,6 +1,6 @@
 -- THE QUESTIONS: each, asked of memory that stands for a state which the rules reach, is answered as the rules answer it; so the refusal of every reading
 -- is that of the rules.
-use Prim.Native.Nat.{ℕ, zero, suc, min, _<_}
+use Prim.Native.Nat.{ℕ, zero, suc, _<_, _≤_}
 use mathlib.Core.Path.{_≡_, refl, sym, ap, _∙_}
 use mathlib.Core.Bool.{Bool, true, false, not, _&&_, _||_, true≢false, Bool·not-not, or-true}
 use mathlib.Core.Option.{Option, none, some}
@@ -15,11 +15,12 @@ use Rattle.rules.specs.Times.{is-some}
 use Rattle.rules.specs.Queue.{order}
 use Rattle.rules.specs.Puts.{PutOrTake}
 use Rattle.rules.specs.State as rules
-use Rattle.rules.specs.State.{Limits, any-below, all-below, runs-on, waits-on, blocked}
+use Rattle.rules.specs.State.{Limits, any-below, runs-on, waits-on, blocked}
 use Rattle.rules.specs.Topology.{nr-nodes, leaf}
 use Rattle.rules.specs.Requests.{Request, declare-cpu, add-node, place-cpu, seal, declare-thread, set-tick, schedule-thread, schedule, hardtick, stattick, resched, maybe-preempt, donate, remove-donation, set-critical, Reading, unknown, cut-short, asks, widths, pin-of, operands, request, read-operands, read}
 use Rattle.rules.specs.Questions as rules-ask
 use Rattle.rules.specs.Questions.{Question, question, first-no, refusal}
+use Rattle.rules.specs.Seal.{those-alone}
 use Rattle.rules.specs.Commands.{world-of}
 use Rattle.rules.specs.Waits.{Free}
 use Rattle.rules.specs.Laws.Reached.{Reached, any-not}
@@ -75,11 +76,6 @@ zero-test : (n : ℕ) → leb n 0 ≡ not (mark-in n)
 unfolding mark-in
 zero-test zero = refl
 zero-test (suc n) = rw (lt-leb (suc n) 0 (omega arith), ne-eqb (suc n) 0 (λ e. omega arith))
-
-pub all-same : (n : ℕ) (f g : ℕ → Bool) → ((c : ℕ) → c < n → f c ≡ g c) → all-below n f ≡ all-below n g
-unfolding all-below
-all-same zero f g h = refl
-all-same (suc n) f g h = rw (all-same n f g (λ c l. h c (omega arith)), h n (omega arith))
 
 -- a question that is answered alike, and where it is answered yes those after it
 first-then : (p q : Question) (l m : List Question) → p ≡ q → (q .answer ≡ true → first-no l ≡ first-no m) → first-no (p ∷ l) ≡ first-no (q ∷ m)
@@ -253,18 +249,17 @@ module _ {H : ℕ → List PutOrTake} {ts : List Thread} {cs ns : List (List ℕ
   unfolding ask.tick-fits rules-ask.tick-fits
   tick-fits-same t = ap (λ (n : ℕ). question 8 (leb n t && leb t 4611686018427387904)) (m .tick)
 
-  -- 9
-  pub placed-if-declared-same : (c : ℕ) → c < s .limits .cpus → ask.placed-if-declared cs c ≡ rules-ask.placed-if-declared s c
-  unfolding ask.placed-if-declared rules-ask.placed-if-declared
-  placed-if-declared-same c h =
-      rw (mark-test (word cs c DECLARED), declared-word c h, unplaced-word c h, Bool·not-not (is-some (s .topology .placed c)))
-      (both (s .topology .declared c) (λ e. rw e) (λ e. rw e))
+  -- 9: what the pass over the words holds after each number, the rules' pass holds
+  pub all-placed-below-same : (n : ℕ) → n ≤ s .limits .cpus → ask.all-placed-below cs n ≡ rules-ask.all-placed-below (s .topology .declared) (rules-ask.is-placed s) n
+  unfolding rules-ask.all-placed-below rules-ask.is-placed
+  all-placed-below-same zero h = refl
+  all-placed-below-same (suc n) h =
+      those-alone _ _ _ _ n (λ c l. mark-test (word cs c DECLARED) ∙ declared-word c (omega arith))
+      (λ c l. ap not (unplaced-word c (omega arith)) ∙ Bool·not-not (is-some (s .topology .placed c)))
 
   pub all-placed-same : ask.all-placed cs a ≡ rules-ask.all-placed s
   unfolding ask.all-placed rules-ask.all-placed
-  all-placed-same =
-      let k : min (a .cpus) (length cs) ≡ s .limits .cpus = omega (arith, m .shows .queues .cpus, (cpus-are m)) in
-      rw (declared-same 0, k, all-same (s .limits .cpus) (ask.placed-if-declared cs) (rules-ask.placed-if-declared s) placed-if-declared-same)
+  all-placed-same = rw (← cpus-are m) (ap (question 9) (all-placed-below-same (s .limits .cpus) (omega arith)))
 
   -- 10
   pub room-same : ask.room a ≡ rules-ask.room s

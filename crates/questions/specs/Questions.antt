@@ -1,13 +1,12 @@
 -- The questions of document 01 as lent memory answers them: the words of the CPUs and nodes, the record of the thread that is named, and the state.
 -- The same questions in the same order as in the rules.
-use Prim.Native.Nat.{ℕ, zero, suc, min}
-use mathlib.Core.Bool.{Bool, true, false, cond, not, _&&_}
+use Prim.Native.Nat.{ℕ}
+use mathlib.Core.Bool.{Bool, true, not, _&&_}
 use mathlib.Core.Option.{Option, none, some}
 use mathlib.Core.List.{List, [], _∷_, _++_}
-use lib.ListN.{length}
 use lib.Dec.{eqb, ltb, leb}
-use Rattle.rules.specs.State.{all-below}
 use Rattle.rules.specs.Requests.{Request, declare-cpu, add-node, place-cpu, seal, declare-thread, set-tick, schedule-thread, schedule, hardtick, stattick, resched, maybe-preempt, donate, remove-donation, set-critical, Reading, unknown, cut-short, asks}
+use Rattle.rules.specs.Questions as rules
 use Rattle.rules.specs.Questions.{Question, question, in-range, first-no, most-accepted}
 use Rattle.thread.specs.declared.Thread.{Thread}
 use Rattle.thread.specs.Thread.{NONE, BLOCKED}
@@ -25,8 +24,11 @@ unfoldable pub sealed-now : State → Question
 sealed-now s = question 3 (s .sealed)
 
 -- 4
+abbrev pub declared-in : List (List ℕ) → ℕ → Bool
+declared-in cs c = ltb 0 (word cs c DECLARED)
+
 unfoldable pub declared : List (List ℕ) → State → ℕ → Bool
-declared cs s c = ltb c (s .cpus) && ltb 0 (word cs c DECLARED)
+declared cs s c = ltb c (s .cpus) && declared-in cs c
 
 unfoldable pub cpu-declared : List (List ℕ) → State → ℕ → Question
 cpu-declared cs s c = question 4 (declared cs s c)
@@ -70,11 +72,17 @@ unfoldable pub tick-fits : State → ℕ → Question
 tick-fits s t = question 8 (leb (s .tick) t && leb t 4611686018427387904)
 
 -- 9
-unfoldable pub placed-if-declared : List (List ℕ) → ℕ → Bool
-placed-if-declared cs c = cond (ltb 0 (word cs c DECLARED)) (not (eqb (word cs c PLACED) NONE)) true
+abbrev pub placed-in : List (List ℕ) → ℕ → Bool
+placed-in cs c = not (eqb (word cs c PLACED) NONE)
+
+abbrev pub placed-with : List (List ℕ) → Bool → ℕ → Bool
+placed-with cs = rules.placed-with (declared-in cs) (placed-in cs)
+
+abbrev pub all-placed-below : List (List ℕ) → ℕ → Bool
+all-placed-below cs = rules.all-placed-below (declared-in cs) (placed-in cs)
 
 unfoldable pub all-placed : List (List ℕ) → State → Question
-all-placed cs s = question 9 (declared cs s 0 && all-below (min (s .cpus) (length cs)) (placed-if-declared cs))
+all-placed cs s = question 9 (all-placed-below cs (s .cpus))
 
 -- 10
 unfoldable pub room : State → Question

@@ -1,10 +1,10 @@
 // Questions about CPUs.
 ghost use Prim.Native.Nat.{min};
-ghost use lib.ListN.{length};
+ghost use mathlib.Core.Bool.{cond};
+ghost use lib.Dec.{eqb};
 ghost use mathlib.Core.Path.{_≡_};
 ghost use Rattle.request.specs.Request.{pin-option};
-ghost use Rattle.rules.specs.State.{all-below};
-ghost use Rattle.questions.specs.Questions.{declared, cpu-new, cpu-unplaced, pin-declared, placed-if-declared, all-placed};
+ghost use Rattle.questions.specs.Questions.{declared, cpu-new, cpu-unplaced, pin-declared, placed-with, all-placed-below, all-placed};
 use crate::state::State;
 use processor::words::CpuWords;
 use processor::words::DECLARED;
@@ -49,13 +49,39 @@ pub fn pin_declared(cpus: &[CpuWords], state: State, pin: Pin) -> bool
     }
 }
 
-fn placed_if_declared(cpus: &[CpuWords], c: u64) -> bool
-    ensures { λ r. ⌜ r ≡ placed-if-declared (now (cpus .entry)) c ⌝ }
+// Before the place of CPU n is asked: at CPU 0 whether it is declared, later the answer for those before n.
+fn so_far(answer: bool, n: u64, declared: bool) -> bool
+    ensures { λ r. ⌜ r ≡ cond (eqb n 0) declared answer ⌝ }
 {
-    if 0 < word(cpus, c, DECLARED) {
-        return word(cpus, c, PLACED) != NONE;
+    if n == 0 {
+        return declared;
     }
-    true
+    answer
+}
+
+// Question 9 for CPUs 0 to n, from the answer for those before n and the words of CPU n.
+pub fn placed_with(cpus: &[CpuWords], answer: bool, n: u64) -> bool
+    ensures { λ r. ⌜ r ≡ placed-with (now (cpus .entry)) answer n ⌝ }
+{
+    let declared = 0 < word(cpus, n, DECLARED);
+    if so_far(answer, n, declared) {
+        if declared {
+            return word(cpus, n, PLACED) != NONE;
+        }
+        return true;
+    }
+    false
+}
+
+// Question 9 for the CPUs below end alone, in one pass over their numbers.
+pub fn all_placed_below(cpus: &[CpuWords], end: u64) -> bool
+    ensures { λ r. ⌜ r ≡ all-placed-below (now (cpus .entry)) end ⌝ }
+{
+    let mut answer = false;
+    for n in 0u64..end {
+        answer = placed_with(cpus, answer, n);
+    }
+    answer
 }
 
 fn lesser(a: u64, b: usize) -> u64
@@ -68,27 +94,9 @@ fn lesser(a: u64, b: usize) -> u64
     n
 }
 
-// The CPU numbers are gone through one after the other.
-fn every_placed(cpus: &[CpuWords], limit: u64) -> bool
-    ensures { λ r. ⌜ r ≡ all-below (min limit (length (now (cpus .entry)))) (placed-if-declared (now (cpus .entry))) ⌝ }
-{
-    let end = lesser(limit, cpus.len());
-    let mut c: u64 = 0;
-    while c < end {
-        if placed_if_declared(cpus, c) {
-            c += 1;
-        } else {
-            return false;
-        }
-    }
-    true
-}
-
+// Question 9. Past the rows lent no CPU is declared.
 pub fn all_placed(cpus: &[CpuWords], state: State) -> bool
     ensures { λ r. ⌜ r ≡ all-placed (now (cpus .entry)) state .answer ⌝ }
 {
-    if declared(cpus, state, 0) {
-        return every_placed(cpus, state.cpus);
-    }
-    false
+    all_placed_below(cpus, lesser(state.cpus, cpus.len()))
 }

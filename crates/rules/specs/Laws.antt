@@ -10,6 +10,7 @@ pub mod Line
 pub mod Places
 pub mod Reached
 pub mod Refused
+pub mod Seal
 pub mod Sound
 pub mod Steps
 pub mod Waiting

@@ -17,6 +17,7 @@ pub mod ReadBack
 pub mod Rows
 pub mod Run
 pub mod Schedule
+pub mod Seal
 pub mod State
 pub mod Times
 pub mod Topology

@@ -6,7 +6,7 @@ use mathlib.Core.List.{List, [], _∷_, _++_}
 use lib.ListN.{length}
 use lib.Dec.{eqb, ltb, leb}
 use Rattle.rules.specs.Times.{is-some}
-use Rattle.rules.specs.State.{State, all-below, any-below, is-number, blocked}
+use Rattle.rules.specs.State.{State, any-below, is-number, blocked}
 use Rattle.rules.specs.Topology.{leaf}
 use Rattle.rules.specs.Requests.{Request, declare-cpu, add-node, place-cpu, seal, declare-thread, set-tick, schedule-thread, schedule, hardtick, stattick, resched, maybe-preempt, donate, remove-donation, set-critical, Reading, unknown, cut-short, asks}
 
@@ -95,12 +95,23 @@ thread-blocked s x = question 7 (blocked s x)
 unfoldable pub tick-fits : State → ℕ → Question
 tick-fits s t = question 8 (leb (s .tick) t && leb t (2 ^ 62))
 
--- 9: "For 04: is CPU 0 declared and every declared CPU placed?" The CPU numbers are gone through one after the other.
-unfoldable pub placed-if-declared : State → ℕ → Bool
-placed-if-declared s c = not (s .topology .declared c) || is-some (s .topology .placed c)
+-- 9: "For 04: is CPU 0 declared and every declared CPU placed?" 2026-03: "question 9 shall be answered in one pass over the CPU numbers: after numbers 0 to n it
+-- is proved to hold the answer for those CPUs alone, got from the answer up to n − 1 and from CPU n." Which CPU numbers are declared and which are placed is given.
+module _ (is-declared is-placed : ℕ → Bool) where
+  -- The answer for CPUs 0 to n, from the answer for those before n and from CPU n: CPU 0 is declared, and CPU n is placed if it is declared.
+  unfoldable pub placed-with : Bool → ℕ → Bool
+  placed-with answer n = cond (eqb n 0) (is-declared n) answer && (not (is-declared n) || is-placed n)
+
+  -- The answer for the CPUs below n alone. If there are none, CPU 0 is not among them.
+  unfoldable pub all-placed-below : ℕ → Bool
+  all-placed-below zero = false
+  all-placed-below (suc n) = placed-with (all-placed-below n) n
+
+unfoldable pub is-placed : State → ℕ → Bool
+is-placed s c = is-some (s .topology .placed c)
 
 unfoldable pub all-placed : State → Question
-all-placed s = question 9 (declared s 0 && all-below (s .limits .cpus) (placed-if-declared s))
+all-placed s = question 9 (all-placed-below (s .topology .declared) (is-placed s) (s .limits .cpus))
 
 -- 10: "Have fewer than 4,294,967,295 commands been accepted?"
 unfoldable pub most-accepted : ℕ

@@ -1,21 +1,20 @@
 -- ONCE SEALED, EVERY DECLARED CPU IS ON A NODE, whatever calls are made.
-use Prim.Native.Nat.{ℕ, zero, suc, _<_}
+use Prim.Native.Nat.{ℕ, _<_}
 use mathlib.Core.Path.{_≡_, sym, _∙_}
-use mathlib.Core.Bool.{Bool, true, false, not, _||_, true≢false, false≢true}
+use mathlib.Core.Bool.{true, false, not, true≢false, false≢true}
 use mathlib.Core.Option.{Option, none, some}
 use mathlib.Core.List.{List, [], _∷_, _++_}
 use lib.Dec.{eqb}
-use borrow.Author.Tests.{eqb-true, eqb-false, not-true}
-use native.Mathlib.Omega.{arith}
+use borrow.Author.Tests.{eqb-true, lt-ltb, not-true}
 use Rattle.rules.specs.Laws.Line.{both}
 use Rattle.rules.specs.Times.{is-some}
-use Rattle.rules.specs.State.{Limits, all-below, State, start}
+use Rattle.rules.specs.State.{Limits, State, start}
 use Rattle.rules.specs.Schedule.{World}
 use Rattle.rules.specs.Requests.{Request, declare-cpu, add-node, place-cpu, seal, declare-thread, set-tick, schedule-thread, schedule, hardtick, stattick, resched, maybe-preempt, donate, remove-donation, set-critical, Reading, unknown, cut-short, asks, read}
-use Rattle.rules.specs.Questions.{Question, open-yet, all-placed, placed-if-declared, declared, concerning, first-no, room, refusal}
+use Rattle.rules.specs.Questions.{Question, question, open-yet, is-placed, all-placed, declared, concerning, first-no, room, refusal}
+use Rattle.rules.specs.Seal.{question-9}
 use Rattle.rules.specs.Laws.Reached.{yes}
 use Rattle.rules.specs.Commands.{refuses, changed, ran, ran-on, schedules, scheduled-on, obeys, answered, step, after-calls}
-use Rattle.rules.specs.Laws.Effect.{and-right}
 
 -- what is asked of a sealed topology
 pub record Sealed (s : State) : Type 0 where
@@ -33,34 +32,22 @@ open-rest : (s : State) (l : List Question) → first-no (open-yet s ∷ l) ≡ 
 unfolding open-yet
 open-rest s l e = yes 2 (not (s .sealed)) l e .1
 
-all-yes : (n : ℕ) (test : ℕ → Bool) → all-below n test ≡ true → (c : ℕ) → c < n → test c ≡ true
-unfolding all-below
-all-yes zero test e c h = absurd (omega arith)
-all-yes (suc n) test e c h =
-    both (all-below n test)
-    (λ a. both (eqb c n) (λ p. rw (eqb-true c n p) (rw a at e)) (λ p. let q : c ≡ n → ⊥ = eqb-false c n p in all-yes n test a c (omega arith)))
-    (λ a. absurd (false≢true (rw a at e)))
-
-or-second : (a b : Bool) → (not a || b) ≡ true → a ≡ true → b ≡ true
-or-second true b e h = e
-or-second false b e h = absurd (false≢true h)
-
 module _ (s : State) (k : Sealed s) where
   on-cpu : (us x : ℕ) (w : World) (o : Option ℕ) → Sealed (scheduled-on s us x w o .state)
   unfolding scheduled-on ran
   on-cpu us x w none = record { on-node = k .on-node }
   on-cpu us x w (some c) = record { on-node = k .on-node }
 
+  sealed-now : first-no (open-yet s ∷ all-placed s ∷ room s ∷ []) ≡ 0 → (t : true ≡ true) (c : ℕ) → c < s .limits .cpus → s .topology .declared c ≡ true → is-some (s .topology .placed c) ≡ true
+  unfolding all-placed question is-placed declared
+  sealed-now e t c h d = question-9 s .0 (yes 8 (all-placed s .answer) (room s ∷ []) (open-rest s _ e) .0) .1 c (rw (lt-ltb c (s .limits .cpus) h) d)
+
   goes : (r : Request) → first-no (concerning s r ++ (room s ∷ [])) ≡ 0 → Sealed (obeys s r .state)
-  unfolding concerning obeys changed ran-on ran schedules all-placed placed-if-declared
+  unfolding concerning obeys changed ran-on ran schedules
   goes (declare-cpu c) e = record { on-node = λ t. absurd (true≢false (sym t ∙ unsealed s _ e)) }
   goes (add-node p n) e = record { on-node = λ t. absurd (true≢false (sym t ∙ unsealed s _ e)) }
   goes (place-cpu n c) e = record { on-node = λ t. absurd (true≢false (sym t ∙ unsealed s _ e)) }
-  goes seal e = record {
-    on-node = λ t c h d.
-        or-second (s .topology .declared c) (is-some (s .topology .placed c))
-        (all-yes (s .limits .cpus) (λ y. not (s .topology .declared y) || is-some (s .topology .placed y)) (and-right (declared s 0) _ (yes 8 _ _ (open-rest s _ e) .0)) c h) d;
-  }
+  goes seal e = record { on-node = sealed-now e }
   goes (declare-thread x c v p) e = record { on-node = k .on-node }
   goes (set-tick t) e = record { on-node = k .on-node }
   goes (schedule-thread c x) e = on-cpu c x _ _

@@ -186,17 +186,34 @@ impl Pair<'_> {
     }
 }
 
-/// How often a donation calls `wakeup` for a thread that waits: of the CPU that runs the command, and of another.
+/// What the streams reach of two rules that ordinary commands seldom touch.
 #[derive(Default)]
-struct DonationCalls {
+struct Reached {
+    /// Calls of `wakeup` by donations to a thread that waits: of the CPU that runs the command, and of another.
     own: u64,
     other: u64,
+    seals: Seals,
 }
 
-impl DonationCalls {
+/// Question 9, asked before the seal: yes, or why not.
+#[derive(Default)]
+struct Seals {
+    yes: u64,
+    no_cpu: u64,
+    without_cpu_0: u64,
+    one_unplaced: u64,
+    last_unplaced: u64,
+    cpu_63_unplaced: u64,
+    several_unplaced: u64,
+}
+
+impl Reached {
     fn add(&mut self, stream: &[u8]) {
         let mut state = State::new();
         for command in split(stream) {
+            if command[0] == 0x04 && !state.sealed {
+                self.seals.add(&state);
+            }
             let answer = state.command(command);
             if matches!(answer, Answer::Refused(_)) || command[0] != 0x18 {
                 continue;
@@ -207,6 +224,24 @@ impl DonationCalls {
                 self.other += state.wakeups;
             }
         }
+    }
+}
+
+impl Seals {
+    fn add(&mut self, state: &State) {
+        let declared: Vec<u8> = (0..64).filter(|cpu| state.declared(*cpu)).collect();
+        let unplaced: Vec<u8> = declared.iter().copied().filter(|cpu| !state.topology.placed(*cpu)).collect();
+        let last = declared.last().copied();
+        let count = match unplaced[..] {
+            _ if declared.is_empty() => &mut self.no_cpu,
+            _ if declared[0] != 0 => &mut self.without_cpu_0,
+            [] => &mut self.yes,
+            [63] => &mut self.cpu_63_unplaced,
+            [cpu] if Some(cpu) == last => &mut self.last_unplaced,
+            [_] => &mut self.one_unplaced,
+            _ => &mut self.several_unplaced,
+        };
+        *count += 1;
     }
 }
 
@@ -259,18 +294,29 @@ fn main() {
         None => PROFILES.to_vec(),
     };
     let (mut streams, mut commands) = (0, 0);
-    let mut calls = DonationCalls::default();
+    let mut reached = Reached::default();
     for seed in first..=last {
         for profile in &profiles {
             let stream = generate(seed, profile, count, &without).unwrap();
             commands += pair.check(&stream, &format!("seed {seed} profile {profile} count {count}"));
-            calls.add(&stream);
+            reached.add(&stream);
             streams += 1;
         }
     }
     println!(
         "donations to a waiting thread that call `wakeup`: {} of the CPU that runs the command, {} of another",
-        calls.own, calls.other
+        reached.own, reached.other
+    );
+    let seals = &reached.seals;
+    println!(
+        "question 9: {} yes; no: {} without a CPU, {} without CPU 0, unplaced: {} CPU 63 alone, {} another last CPU alone, {} one that is not the last, {} several",
+        seals.yes,
+        seals.no_cpu,
+        seals.without_cpu_0,
+        seals.cpu_63_unplaced,
+        seals.last_unplaced,
+        seals.one_unplaced,
+        seals.several_unplaced
     );
     println!(
         "{} and {}: seeds {first} to {last}, {} profiles, {streams} streams, {commands} commands, no difference",

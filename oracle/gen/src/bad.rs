@@ -69,10 +69,7 @@ impl Generator {
                     && !self.state.topology.placed(command[2])
                     && self.state.topology.is_leaf(command[1])
             }
-            _ => {
-                self.state.declared(0)
-                    && (0..64).all(|c| !self.state.declared(c) || self.state.topology.placed(c))
-            }
+            _ => self.state.may_seal(),
         }
     }
 

@@ -121,6 +121,9 @@ impl Generator {
     /// CPUs, nodes, places, seal, and some of the threads.
     fn set_up(&mut self) {
         let mut cpus: Vec<u8> = vec![0];
+        if self.plan.early && self.plan.cpus > 1 {
+            cpus.push(63);
+        }
         while cpus.len() < self.plan.cpus {
             let cpu = if self.plan.dense {
                 cpus.len() as u8
@@ -132,9 +135,11 @@ impl Generator {
             }
         }
         self.random.shuffle(&mut cpus);
+        self.seal_early();
         for cpu in &cpus {
             self.sprinkle();
             self.write(&[0x01, *cpu]);
+            self.seal_early();
         }
         self.random.shuffle(&mut cpus);
         // Sometimes the tree goes on growing after the first CPUs have their places.
@@ -188,6 +193,14 @@ impl Generator {
                 false => self.random.of(&leaves),
             };
             self.write(&[0x03, leaf, *cpu]);
+            self.seal_early();
+        }
+    }
+
+    /// A seal that question 9 refuses.
+    fn seal_early(&mut self) {
+        if self.plan.early && !self.state.may_seal() {
+            self.write(&[0x04]);
         }
     }
 

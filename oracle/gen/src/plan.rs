@@ -40,6 +40,8 @@ pub struct Plan {
     pub crowd: bool,
     /// Nodes and places take turns.
     pub grows: bool,
+    /// A seal is tried before the first CPU and after each CPU and place, and CPU 63 is among them if there are two.
+    pub early: bool,
     pub threads: usize,
     /// Chances in a hundred.
     pub pins: u64,
@@ -77,6 +79,7 @@ impl Plan {
             shape: Shape::Flat,
             crowd: false,
             grows: false,
+            early: false,
             threads,
             pins: 0,
             bad: 0,
@@ -106,6 +109,7 @@ impl Plan {
             shape: r.of(&[Shape::Flat, Shape::Deep, Shape::Uneven, Shape::Binary]),
             crowd: r.chance(20),
             grows: r.chance(30),
+            early: false,
             threads: r.between(1, 5 * cpus as u64 + 3) as usize,
             pins: r.of(&[0, 0, 10, 30]),
             bad: r.of(&[0, 0, 1, 3]),
@@ -196,6 +200,7 @@ impl Plan {
             }
             "refuse" => {
                 plan.bad = r.of(&[30, 60]);
+                plan.early = true;
                 plan.cpus = plan.cpus.min(8);
                 plan.nodes = plan.nodes.min(12);
             }

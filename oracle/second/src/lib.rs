@@ -162,6 +162,12 @@ impl State {
         (cpu as usize) < CPUS && self.cpus[cpu as usize].declared
     }
 
+    /// "is CPU 0 declared and every declared CPU placed?"
+    pub fn may_seal(&self) -> bool {
+        let placed = |cpu: u8| !self.declared(cpu) || self.topology.placed(cpu);
+        self.declared(0) && (0..CPUS as u8).all(placed)
+    }
+
     pub fn thread(&self, thread: u16) -> Option<&Thread> {
         self.threads.get(thread as usize).and_then(|t| t.as_ref())
     }
@@ -215,8 +221,7 @@ impl State {
         let blocked = |thread: u16| self.thread(thread).is_none_or(|t| t.place == Place::Blocked);
         question(7, command != 0x12 || blocked(r.thread));
         question(8, command != 0x11 || (self.tick <= r.number && r.number <= LAST_TICK));
-        let placed = |cpu: u8| !self.declared(cpu) || self.topology.placed(cpu);
-        question(9, command != 0x04 || (self.declared(0) && (0..CPUS as u8).all(placed)));
+        question(9, command != 0x04 || self.may_seal());
         question(10, self.accepted < 4_294_967_295);
         failing
     }
