@@ -149,8 +149,8 @@ static bool one_seal(const size_t *lengths)
     bool yes = may_seal(lengths[1], state.cpus);
     uint64_t refusal = !yes ? 9 : state.accepted >= 4294967295 ? 10 : 0;
     world = before;
-    struct step step =
-        scheduler_command(world.threads, lengths[0], world.cpus, lengths[1], world.nodes, lengths[2], (uint8_t[]){0x04}, 1, state);
+    struct step step = scheduler_command(world.threads, lengths[0], world.cpus, lengths[1], world.nodes, lengths[2],
+                                         (const uint8_t[]){0x04}, 1, state);
     fences(&world);
     if (step.row.refusal != refusal)
         fail("foreign: question 9 is answered otherwise");
@@ -199,7 +199,9 @@ int main(int argc, char **argv)
             sealed += one_seal(lengths);
         }
     }
-    printf("foreign: %llu calls, %llu changed the lent memory, all came back; %llu asked question 9, %llu yes, each as document 01 has it\n",
-           (unsigned long long)(80 * count), (unsigned long long)obeyed, (unsigned long long)(20 * count), (unsigned long long)sealed);
+    printf("foreign: %llu calls, %llu changed the lent memory, all came back; %llu asked question 9, %llu yes, each as document "
+           "01 has it\n",
+           (unsigned long long)(80 * count), (unsigned long long)obeyed, (unsigned long long)(20 * count),
+           (unsigned long long)sealed);
     return 0;
 }

@@ -236,7 +236,8 @@ static void draws(void)
     }
 }
 
-/* "For 04: is CPU 0 declared and every declared CPU placed? 9", of the CPUs below the limit and within the rows lent; words may be any number. */
+/* "For 04: is CPU 0 declared and every declared CPU placed? 9", of the CPUs below the limit and within the rows lent. A word
+ * may be any number. */
 static void seals(void)
 {
     enum { MOST = 2 };

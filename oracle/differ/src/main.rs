@@ -309,7 +309,8 @@ fn main() {
     );
     let seals = &reached.seals;
     println!(
-        "question 9: {} yes; no: {} without a CPU, {} without CPU 0, unplaced: {} CPU 63 alone, {} another last CPU alone, {} one that is not the last, {} several",
+        "question 9: {} yes; no: {} without a CPU, {} without CPU 0, unplaced: {} CPU 63 alone, {} another last CPU alone, \
+         {} one that is not the last, {} several",
         seals.yes,
         seals.no_cpu,
         seals.without_cpu_0,
