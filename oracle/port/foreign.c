@@ -1,6 +1,6 @@
 /* foreign COUNT [SEED]: calls of the static library on records, words and states that nobody made. "On other records or states
  * a call still gives an answer": every call comes back, a refused one changes nothing, the same call twice answers the same,
- * and no byte outside the lent slices changes. */
+ * and no byte outside the lent slices changes. A seal is answered as question 9's sentence has it. */
 #include "scheduler.h"
 #include "text.h"
 

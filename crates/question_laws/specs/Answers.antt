@@ -250,8 +250,8 @@ module _ {H : ℕ → List PutOrTake} {ts : List Thread} {cs ns : List (List ℕ
   tick-fits-same t = ap (λ (n : ℕ). question 8 (leb n t && leb t 4611686018427387904)) (m .tick)
 
   -- 9: what the pass over the words holds after each number, the rules' pass holds
-  pub all-placed-below-same : (n : ℕ) → n ≤ s .limits .cpus → ask.all-placed-below cs n ≡ rules-ask.all-placed-below (s .topology .declared) (rules-ask.is-placed s) n
-  unfolding rules-ask.all-placed-below rules-ask.is-placed
+  pub all-placed-below-same : (n : ℕ) → n ≤ s .limits .cpus → ask.all-placed-below cs n ≡ rules-ask.all-placed-below (s .topology .declared) (rules-ask.placed s) n
+  unfolding rules-ask.all-placed-below rules-ask.placed
   all-placed-below-same zero h = refl
   all-placed-below-same (suc n) h =
       those-alone _ _ _ _ n (λ c l. mark-test (word cs c DECLARED) ∙ declared-word c (omega arith))

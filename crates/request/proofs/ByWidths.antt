@@ -5,15 +5,15 @@ use mathlib.Core.Bool.{Bool, true, false, cond, _&&_, _||_}
 use mathlib.Core.List.{List, [], _∷_}
 use lib.Dec.{eqb}
 use lib.ListN.{length}
+use Rattle.rules.specs.Laws.Below.{all-below, at-below}
 use Rattle.rules.specs.Laws.Line.{both}
-use Rattle.rules.specs.State.{Limits, all-below}
+use Rattle.rules.specs.State.{Limits}
 use Rattle.rules.specs.Requests.{Request, set-critical, operand, past, operands, nth, request, widths, widths-or}
 use Rattle.rules.specs.Questions.{at-most, in-range}
 use Rattle.rules.specs.Writer.{row as rules-row, ranges}
 use Rattle.request.specs.Request.{width, limits-of}
 use Rattle.request.specs.Fields.{widths-list, four, row, operand-of}
 use Rattle.request.specs.declared.fields.Widths.{Widths}
-use Rattle.request.proofs.Table.{at-below}
 
 -- a width that an operand can have
 unfoldable pub plain : ℕ → Bool

@@ -1,18 +1,18 @@
 -- Which bytes are in the table of commands.
-use Prim.Native.Nat.{ℕ, zero, suc, _+_, _<_, _≤_}
+use Prim.Native.Nat.{ℕ, suc, _+_, _<_, _≤_}
 use mathlib.Core.Path.{_≡_, refl, sym, _∙_}
 use mathlib.Core.Bool.{Bool, true, false, cond, not, _&&_, _||_}
 use mathlib.Core.Option.{Option, none, some}
 use mathlib.Core.List.{List, [], _∷_}
-use lib.Dec.{eqb, ltb, leb}
+use lib.Dec.{leb}
 use lib.ListN.{length, getD, drop}
 use lib.Seq.{drop-cons}
 use native.Mathlib.Numerals.{add-one}
 use native.Mathlib.Omega.{arith}
-use borrow.Author.Tests.{eqb-true, eqb-false, le-leb, lt-leb}
+use borrow.Author.Tests.{le-leb, lt-leb}
+use Rattle.rules.specs.Laws.Below.{all-below, at-below}
 use Rattle.rules.specs.Laws.Line.{both}
 use Rattle.rules.specs.Requests as rules
-use Rattle.rules.specs.State.{all-below}
 use Rattle.rules.specs.Requests.{widths, sum, widths-or}
 use Rattle.request.specs.Request.{width, limits-of, asked, taken, length-of, operands-in, operands-of}
 use Rattle.request.specs.declared.Operands.the-variants as operands
@@ -66,16 +66,6 @@ right wide byte = same (listed (widths (limits-of wide) byte)) (in-table byte)
 all-right : (wide : Bool) → all-below 256 (right wide) ≡ true
 unfolding all-below right same listed widths limits-of
 all-right wide = refl
-
--- a test that all numbers below n pass, at one of them
-pub at-below : (n : ℕ) (test : ℕ → Bool) → all-below n test ≡ true → (k : ℕ) → k < n → test k ≡ true
-unfolding all-below
-at-below zero test h k l = absurd (omega arith)
-at-below (suc n) test h k l =
-    both (all-below n test) (λ p. both (eqb k n)
-    (λ e. rw (eqb-true k n e) (rw p at h))
-    (λ e. at-below n test p k (omega (arith, eqb-false k n e))))
-    (λ p. let z : false ≡ true = rw p at h in cc)
 
 pub width-small : (wide : Bool) → width wide ≤ 2
 unfolding width

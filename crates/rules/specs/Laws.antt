@@ -1,3 +1,4 @@
+pub mod Below
 pub mod Bound
 pub mod Buckets
 pub mod Computed

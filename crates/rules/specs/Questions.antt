@@ -98,7 +98,8 @@ tick-fits s t = question 8 (leb (s .tick) t && leb t (2 ^ 62))
 -- 9: "For 04: is CPU 0 declared and every declared CPU placed?" 2026-03: "question 9 shall be answered in one pass over the CPU numbers: after numbers 0 to n it
 -- is proved to hold the answer for those CPUs alone, got from the answer up to n − 1 and from CPU n." Which CPU numbers are declared and which are placed is given.
 module _ (is-declared is-placed : ℕ → Bool) where
-  -- The answer for CPUs 0 to n, from the answer for those before n and from CPU n: CPU 0 is declared, and CPU n is placed if it is declared.
+  -- The answer for CPUs 0 to n, from the answer for those before n and from CPU n: at CPU 0 it must be declared, later the answer so far must be yes; and CPU n
+  -- must be placed if it is declared.
   unfoldable pub placed-with : Bool → ℕ → Bool
   placed-with answer n = cond (eqb n 0) (is-declared n) answer && (not (is-declared n) || is-placed n)
 
@@ -107,11 +108,11 @@ module _ (is-declared is-placed : ℕ → Bool) where
   all-placed-below zero = false
   all-placed-below (suc n) = placed-with (all-placed-below n) n
 
-unfoldable pub is-placed : State → ℕ → Bool
-is-placed s c = is-some (s .topology .placed c)
+unfoldable pub placed : State → ℕ → Bool
+placed s c = is-some (s .topology .placed c)
 
 unfoldable pub all-placed : State → Question
-all-placed s = question 9 (all-placed-below (s .topology .declared) (is-placed s) (s .limits .cpus))
+all-placed s = question 9 (all-placed-below (s .topology .declared) (placed s) (s .limits .cpus))
 
 -- 10: "Have fewer than 4,294,967,295 commands been accepted?"
 unfoldable pub most-accepted : ℕ

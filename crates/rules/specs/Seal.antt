@@ -8,7 +8,7 @@ use native.Mathlib.Omega.{arith}
 use lib.Dec.{eqb}
 use borrow.Author.Tests.{eqb-true, eqb-false}
 use Rattle.rules.specs.State.{State}
-use Rattle.rules.specs.Questions.{question, declared, all-placed-below, is-placed, all-placed}
+use Rattle.rules.specs.Questions.{question, declared, all-placed-below, placed, all-placed}
 use Rattle.rules.specs.Laws.Line.{both}
 use Rattle.rules.specs.Laws.Seal as laws
 
@@ -46,6 +46,6 @@ those-alone d d′ p p′ (suc n) h k =
     )
 
 -- Question 9 of a state: "is CPU 0 declared and every declared CPU placed?" A declared CPU's number is below the limit.
-pub question-9 : (s : State) → (all-placed s .answer ≡ true) ↔ ((declared s 0 ≡ true) × ((c : ℕ) → declared s c ≡ true → is-placed s c ≡ true))
+pub question-9 : (s : State) → (all-placed s .answer ≡ true) ↔ ((declared s 0 ≡ true) × ((c : ℕ) → declared s c ≡ true → placed s c ≡ true))
 unfolding all-placed question declared
-question-9 s = laws.below-limit (s .topology .declared) (is-placed s) (s .limits .cpus)
+question-9 s = laws.below-limit (s .topology .declared) (placed s) (s .limits .cpus)

@@ -1,6 +1,6 @@
 -- What the rules keep: limits, topology, CPUs, threads, and beside them the puts and takes that a command makes.
 use Prim.Native.Nat.{ℕ, zero, suc, _+_}
-use mathlib.Core.Bool.{Bool, true, false, cond, not, _&&_, _||_}
+use mathlib.Core.Bool.{Bool, false, cond, not, _||_}
 use mathlib.Core.Option.{Option, none, some}
 use mathlib.Core.List.{List, [], _∷_, _++_}
 use lib.Dec.{eqb}
@@ -17,14 +17,10 @@ use Rattle.rules.specs.Queue.{Queue, no-queue, order}
 unfoldable pub at {ℓ} : {A : Type ℓ} → (ℕ → A) → ℕ → A → ℕ → A
 at f x v y = cond (eqb y x) v (f y)
 
--- some number below n passes the test; all do
+-- some number below n passes the test
 unfoldable pub any-below : ℕ → (ℕ → Bool) → Bool
 any-below zero test = false
 any-below (suc n) test = any-below n test || test n
-
-unfoldable pub all-below : ℕ → (ℕ → Bool) → Bool
-all-below zero test = true
-all-below (suc n) test = all-below n test && test n
 
 -- the numbers below n that pass the test, ascending
 unfoldable pub those-below : ℕ → (ℕ → Bool) → List ℕ

@@ -11,7 +11,7 @@ use Rattle.rules.specs.Times.{is-some}
 use Rattle.rules.specs.State.{Limits, State, start}
 use Rattle.rules.specs.Schedule.{World}
 use Rattle.rules.specs.Requests.{Request, declare-cpu, add-node, place-cpu, seal, declare-thread, set-tick, schedule-thread, schedule, hardtick, stattick, resched, maybe-preempt, donate, remove-donation, set-critical, Reading, unknown, cut-short, asks, read}
-use Rattle.rules.specs.Questions.{Question, question, open-yet, is-placed, all-placed, declared, concerning, first-no, room, refusal}
+use Rattle.rules.specs.Questions.{Question, question, open-yet, placed, all-placed, declared, concerning, first-no, room, refusal}
 use Rattle.rules.specs.Seal.{question-9}
 use Rattle.rules.specs.Laws.Reached.{yes}
 use Rattle.rules.specs.Commands.{refuses, changed, ran, ran-on, schedules, scheduled-on, obeys, answered, step, after-calls}
@@ -38,16 +38,16 @@ module _ (s : State) (k : Sealed s) where
   on-cpu us x w none = record { on-node = k .on-node }
   on-cpu us x w (some c) = record { on-node = k .on-node }
 
-  sealed-now : first-no (open-yet s ∷ all-placed s ∷ room s ∷ []) ≡ 0 → (t : true ≡ true) (c : ℕ) → c < s .limits .cpus → s .topology .declared c ≡ true → is-some (s .topology .placed c) ≡ true
-  unfolding all-placed question is-placed declared
-  sealed-now e t c h d = question-9 s .0 (yes 8 (all-placed s .answer) (room s ∷ []) (open-rest s _ e) .0) .1 c (rw (lt-ltb c (s .limits .cpus) h) d)
+  all-on-nodes : first-no (open-yet s ∷ all-placed s ∷ room s ∷ []) ≡ 0 → (c : ℕ) → c < s .limits .cpus → s .topology .declared c ≡ true → is-some (s .topology .placed c) ≡ true
+  unfolding all-placed question placed declared
+  all-on-nodes e c h d = question-9 s .0 (yes 8 (all-placed s .answer) (room s ∷ []) (open-rest s _ e) .0) .1 c (rw (lt-ltb c (s .limits .cpus) h) d)
 
   goes : (r : Request) → first-no (concerning s r ++ (room s ∷ [])) ≡ 0 → Sealed (obeys s r .state)
   unfolding concerning obeys changed ran-on ran schedules
   goes (declare-cpu c) e = record { on-node = λ t. absurd (true≢false (sym t ∙ unsealed s _ e)) }
   goes (add-node p n) e = record { on-node = λ t. absurd (true≢false (sym t ∙ unsealed s _ e)) }
   goes (place-cpu n c) e = record { on-node = λ t. absurd (true≢false (sym t ∙ unsealed s _ e)) }
-  goes seal e = record { on-node = sealed-now e }
+  goes seal e = record { on-node = λ t. all-on-nodes e }
   goes (declare-thread x c v p) e = record { on-node = k .on-node }
   goes (set-tick t) e = record { on-node = k .on-node }
   goes (schedule-thread c x) e = on-cpu c x _ _
