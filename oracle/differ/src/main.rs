@@ -11,7 +11,7 @@ use std::{
     process::{Command, Stdio, exit},
 };
 
-use r#gen::{PROFILES, draws::PROFILE, generate, split};
+use r#gen::{PROFILES, draws::PROFILE, generate, pattern, split};
 use second::{Answer, Place, State};
 
 const SHRUNK: &str = "oracle/build/difference.stream";
@@ -186,13 +186,15 @@ impl Pair<'_> {
     }
 }
 
-/// What the streams reach of two rules that ordinary commands seldom touch.
+/// What the streams reach of three rules that ordinary commands seldom touch.
 #[derive(Default)]
 struct Reached {
     /// Calls of `wakeup` by donations to a thread that waits: of the CPU that runs the command, and of another.
     own: u64,
     other: u64,
     seals: Seals,
+    /// Puts of a User thread of value 0 into timeshare beside another value, by filling and emptying index.
+    zero_puts: [[u64; 8]; 8],
 }
 
 /// Question 9, asked before the seal: yes, or why not.
@@ -223,6 +225,9 @@ impl Reached {
                 self.own += state.own_calls;
                 self.other += state.wakeups;
             }
+        }
+        for (filling, emptying) in state.cpus.iter().flat_map(|cpu| &cpu.queue.zero_puts) {
+            self.zero_puts[*filling][*emptying] += 1;
         }
     }
 }
@@ -259,7 +264,7 @@ fn main() {
             "--right" => right = value(),
             "--count" => count = value().parse().unwrap_or_else(|_| stop("--count N")),
             "--without" => {
-                without.push(u8::from_str_radix(&value(), 16).unwrap_or_else(|_| stop("--without HEX")))
+                without.push(pattern(&value()).unwrap_or_else(|| stop("--without HEX")))
             }
             "--lines" => lines = true,
             "--as-found" => as_found = true,
@@ -318,6 +323,15 @@ fn main() {
         seals.last_unplaced,
         seals.one_unplaced,
         seals.several_unplaced
+    );
+    let puts = &reached.zero_puts;
+    let ahead = |steps: usize| (0..8).map(|filling| puts[filling][(filling + steps) % 8]).sum::<u64>();
+    println!(
+        "value 0 put beside other values at {} of 64 pairs of indexes: {} puts, {} with equal indexes, {} stepped back",
+        puts.as_flattened().iter().filter(|n| **n > 0).count(),
+        puts.as_flattened().iter().sum::<u64>(),
+        ahead(0),
+        ahead(7)
     );
     println!(
         "{} and {}: seeds {first} to {last}, {} profiles, {streams} streams, {commands} commands, no difference",

@@ -20,14 +20,35 @@ pub struct Generator {
     pub stream: Vec<u8>,
     written: usize,
     count: usize,
-    without: Vec<u8>,
+    without: Vec<Pattern>,
     /// The CPUs and threads declared.
     cpus: Vec<u8>,
     threads: Vec<u16>,
 }
 
-/// A stream of at most `count` commands. Commands whose bytes are in `without` are left out.
-pub fn generate(seed: u64, profile: &str, count: usize, without: &[u8]) -> Option<Vec<u8>> {
+/// The first bytes of a command, None for any.
+pub type Pattern = Vec<Option<u8>>;
+
+/// Two digits to a byte, or two dots for any.
+pub fn pattern(hex: &str) -> Option<Pattern> {
+    let byte = |two: &[u8]| match two {
+        b".." => Some(None),
+        _ => Some(Some(u8::from_str_radix(str::from_utf8(two).ok()?, 16).ok()?)),
+    };
+    hex.as_bytes().chunks(2).map(byte).collect()
+}
+
+fn begins(command: &[u8], pattern: &Pattern) -> bool {
+    let fits = |(byte, wanted): (&u8, &Option<u8>)| wanted.is_none_or(|wanted| wanted == *byte);
+    pattern.len() <= command.len() && command.iter().zip(pattern).all(fits)
+}
+
+fn left_out(command: &[u8], without: &[Pattern]) -> bool {
+    without.iter().any(|pattern| begins(command, pattern))
+}
+
+/// A stream of at most `count` commands. Those that begin as one of `without` are left out.
+pub fn generate(seed: u64, profile: &str, count: usize, without: &[Pattern]) -> Option<Vec<u8>> {
     if profile == draws::PROFILE {
         return Some(draws::generate(count));
     }
@@ -49,7 +70,7 @@ pub fn generate(seed: u64, profile: &str, count: usize, without: &[u8]) -> Optio
     Some(follow(plan, random, count, without))
 }
 
-fn follow(plan: Plan, random: Random, count: usize, without: &[u8]) -> Vec<u8> {
+fn follow(plan: Plan, random: Random, count: usize, without: &[Pattern]) -> Vec<u8> {
     let mut generator = Generator {
         random,
         plan,
@@ -85,7 +106,7 @@ impl Generator {
 
     /// Write a command and let the second reading obey it.
     fn write(&mut self, command: &[u8]) -> Option<Answer> {
-        if self.full() || self.without.contains(&command[0]) {
+        if self.full() || left_out(command, &self.without) {
             return None;
         }
         self.written += 1;
@@ -111,7 +132,7 @@ impl Generator {
                 let command = self.bad_command();
                 self.write(&command);
             }
-            if self.written == before && !self.state.sealed && self.without.contains(&0x04) {
+            if self.written == before && !self.state.sealed && left_out(&[0x04], &self.without) {
                 break;
             }
         }
@@ -245,8 +266,9 @@ impl Generator {
                 let near = self.random.below(3) as u8;
                 (value + near).min(127)
             }
-            plan::Values::Any if self.random.chance(50) => self.random.of(&EDGES),
-            plan::Values::Any => self.random.below(128) as u8,
+            plan::Values::Zeros if self.random.chance(30) => 0,
+            _ if self.random.chance(50) => self.random.of(&EDGES),
+            _ => self.random.below(128) as u8,
         }
     }
 

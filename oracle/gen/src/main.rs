@@ -21,8 +21,8 @@ fn main() {
     let mut list = arguments.iter();
     while let Some(argument) = list.next() {
         if argument == "--without" {
-            let byte = list.next().and_then(|hex| u8::from_str_radix(hex, 16).ok());
-            without.push(byte.unwrap_or_else(|| usage()));
+            let pattern = list.next().and_then(|hex| r#gen::pattern(hex));
+            without.push(pattern.unwrap_or_else(|| usage()));
         } else {
             plain.push(argument);
         }

@@ -1,16 +1,16 @@
 //! Streams that are none: a prefix of one, one with a few bytes changed, left out or put in, or bytes without any plan.
 
-use crate::{PROFILES, generate as whole, random::Random, split};
+use crate::{PROFILES, Pattern, generate as whole, left_out, random::Random, split};
 
 pub const PROFILE: &str = "mangled";
 
 /// The stream ends where a command would come that is to be left out.
-pub fn generate(seed: u64, count: usize, without: &[u8]) -> Vec<u8> {
+pub fn generate(seed: u64, count: usize, without: &[Pattern]) -> Vec<u8> {
     let stream = mangle(seed, count, without);
-    split(&stream).into_iter().take_while(|command| !without.contains(&command[0])).collect::<Vec<_>>().concat()
+    split(&stream).into_iter().take_while(|command| !left_out(command, without)).collect::<Vec<_>>().concat()
 }
 
-fn mangle(seed: u64, count: usize, without: &[u8]) -> Vec<u8> {
+fn mangle(seed: u64, count: usize, without: &[Pattern]) -> Vec<u8> {
     let mut random = Random::new(seed, 1000);
     if random.chance(10) {
         // Bytes of the table are likely, so that some are obeyed.

@@ -20,6 +20,8 @@ pub enum Values {
     Any,
     /// Three neighbouring values.
     Few(u8),
+    /// Any, and often 0.
+    Zeros,
 }
 
 #[derive(Clone, Copy)]
@@ -163,6 +165,7 @@ impl Plan {
                 plan.cpus = r.of(&[1, 1, 2, 3]);
                 plan.threads = r.of(&[20, 40, 70, 140]).min(count / 4);
                 plan.classes = r.of(&[&[2], &[2, 2, 2, 3], &[2, 2, 1]]);
+                plan.values = r.of(&[plan.values, Values::Zeros]);
                 plan.target = 18;
                 plan.targets = &[14, 15, 16, 17, 18, 30, 33, 60, 100];
                 plan.weights = [34, 12, 2, 10, 14, 8, 2, 8, 4, 2, 1, 1];

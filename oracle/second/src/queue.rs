@@ -35,6 +35,8 @@ pub struct Queue {
     pub emptying: usize,
     pub advertised: Priority,
     pub last_tick: u64,
+    /// Filling and emptying index at each put of value 0 into timeshare beside another value, which no line shows.
+    pub zero_puts: Vec<(usize, usize)>,
 }
 
 fn held(buckets: &Buckets) -> usize {
@@ -61,6 +63,7 @@ impl Queue {
             emptying: 0,
             advertised: Priority::LEAST,
             last_tick: 0,
+            zero_puts: Vec::new(),
         }
     }
 
@@ -95,12 +98,13 @@ impl Queue {
     }
 
     /// "Offset = (128 − value) / 16 rounded down; bucket = (filling + offset) modulo 8, stepped back by one (0 to 7) if
-    /// it is the emptying bucket and the indexes differ. A current thread joins the emptying bucket."
+    /// it is the emptying bucket and the indexes differ. A current thread joins the emptying bucket." 2026-04: "Value 0
+    /// shall have offset 7; all other offsets keep their formula".
     pub fn timeshare_bucket(&self, value: u8, current: bool) -> usize {
         if current {
             return self.emptying;
         }
-        let offset = (128 - value as usize) / 16;
+        let offset = if value == 0 { 7 } else { (128 - value as usize) / 16 };
         let bucket = (self.filling + offset) % 8;
         if bucket == self.emptying && self.filling != self.emptying {
             (bucket + 7) % 8
@@ -128,6 +132,10 @@ impl Queue {
             self.realtime[Self::priority_bucket(priority)].push_back(thread);
         } else if priority.class == USER {
             record.stable = priority;
+            let other = |t: &u16| threads[*t as usize].as_ref().unwrap().stable.value != 0;
+            if priority.value == 0 && !current && self.timeshare.iter().flatten().any(other) {
+                self.zero_puts.push((self.filling, self.emptying));
+            }
             self.timeshare[self.timeshare_bucket(priority.value, current)].push_back(thread);
         } else {
             self.idle[Self::priority_bucket(priority)].push_back(thread);
