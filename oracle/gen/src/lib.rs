@@ -38,13 +38,9 @@ pub fn pattern(hex: &str) -> Option<Pattern> {
     hex.as_bytes().chunks(2).map(byte).collect()
 }
 
-fn begins(command: &[u8], pattern: &Pattern) -> bool {
-    let fits = |(byte, wanted): (&u8, &Option<u8>)| wanted.is_none_or(|wanted| wanted == *byte);
-    pattern.len() <= command.len() && command.iter().zip(pattern).all(fits)
-}
-
 fn left_out(command: &[u8], without: &[Pattern]) -> bool {
-    without.iter().any(|pattern| begins(command, pattern))
+    let fits = |(wanted, byte): (&Option<u8>, &u8)| wanted.is_none_or(|wanted| wanted == *byte);
+    without.iter().any(|pattern| pattern.len() <= command.len() && pattern.iter().zip(command).all(fits))
 }
 
 /// A stream of at most `count` commands. Those that begin as one of `without` are left out.

@@ -1,5 +1,5 @@
-//! The kernel files of docs/src, unchanged, with the modules around them that they need. The setup script copies this
-//! directory to build/kernel, puts the original files beside it and appends the probes.
+//! The kernel files of docs/src with the modules around them that they need. The setup script copies this directory to
+//! build/kernel, puts the original files beside it, applies the patches and appends the probes.
 
 #![feature(allocator_api, core_intrinsics, thread_local)]
 #![allow(internal_features, static_mut_refs, dead_code, unused_imports, unused_variables)]
