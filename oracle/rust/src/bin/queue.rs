@@ -198,10 +198,10 @@ fn draw(random: &mut Random, number: u64, bench: &Bench, waiting: &[bool]) -> Op
             }
             op.kind = 1;
             op.thread = random.of(&free);
-            op.value = if random.below(2) == 0 {
-                random.of(&[0, 1, 15, 16, 17, 31, 32, 63, 64, 95, 96, 111, 112, 113, 126, 127])
-            } else {
-                random.below(128) as u8
+            op.value = match random.below(4) {
+                0 => 0,
+                1 => random.of(&[1, 15, 16, 17, 31, 32, 63, 64, 95, 96, 111, 112, 113, 126, 127]),
+                _ => random.below(128) as u8,
             };
             op.pinned = (random.below(4) == 0) as u8;
             op.current = (random.below(6) == 0) as u8;
