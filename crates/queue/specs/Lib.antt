@@ -1,4 +1,5 @@
 pub mod Lists
 pub mod Num
 pub mod PriorityQueue
+pub mod Table
 pub mod Timeshare

@@ -109,10 +109,14 @@ unfolding step-back
 back-one zero h = absurd (h refl)
 back-one (suc j) h = omega arith
 
--- the code reduces each index before it adds
+-- the code reduces an index before it adds
 pub round-sum : (a b : ℕ) → (a % 8 + b % 8) % 8 ≡ (a + b) % nr-buckets
 unfolding nr-buckets
 round-sum a b = omega arith
+
+pub round-left : (a b : ℕ) → (a % 8 + b) % 8 ≡ (a + b) % nr-buckets
+unfolding nr-buckets
+round-left a b = omega arith
 
 pub round-next : (a : ℕ) → (a % 8 + 1) % 8 ≡ (a + 1) % nr-buckets
 unfolding nr-buckets

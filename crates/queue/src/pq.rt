@@ -1,11 +1,13 @@
 // The realtime and the idle part (rq.rs, `PriorityQueue`).
 ghost use mathlib.Core.Path.{_≡_};
-ghost use Rattle.rules.specs.Queue.{class-bucket};
+ghost use Rattle.rules.specs.Queue.{realtime-bucket, class-bucket};
 ghost use Rattle.queue.specs.PriorityQueue.{no-priority, pq-empty, pq-highest, pq-insert, pq-front, pq-taken};
+use crate::entry::entry;
 use crate::lists::Found;
 use crate::lists::Lists;
 use crate::num::difference;
 use rules::PriorityClass;
+use thread::priority::cut;
 
 pub struct PriorityQueue {
     pub count: u64,
@@ -18,15 +20,21 @@ pub struct PriorityPut {
     pub behind: u64,
 }
 
+pub fn realtime_bucket(value: u64) -> u64
+    ensures { λ r. ⌜ r ≡ realtime-bucket value ⌝ }
+{
+    entry(2 * cut(value))
+}
+
 // A User thread here got a deadline boost.
 pub fn class_bucket(class: PriorityClass, value: u64) -> u64
     ensures { λ r. ⌜ r ≡ class-bucket class value ⌝ }
 {
     match class {
         PriorityClass::User => 7,
-        PriorityClass::Realtime => value / 16,
-        PriorityClass::Background => value / 16,
-        PriorityClass::Idle => value / 16,
+        PriorityClass::Realtime => realtime_bucket(value),
+        PriorityClass::Background => realtime_bucket(value),
+        PriorityClass::Idle => realtime_bucket(value),
     }
 }
 

@@ -3,10 +3,12 @@
 ghost use mathlib.Core.Path.{_≡_};
 ghost use Rattle.rules.specs.Queue.{offset};
 ghost use Rattle.queue.specs.Timeshare.{no-timeshare, ts-empty, ts-highest, ts-bucket, ts-insert, ts-front, ts-next, ts-taken, ts-step, ts-advance, less-one-def};
+use crate::entry::entry;
 use crate::lists::Found;
 use crate::lists::Lists;
 use crate::num::difference;
 use thread::NONE;
+use thread::priority::cut;
 
 pub struct TimeshareQueue {
     pub count: u64,
@@ -25,10 +27,7 @@ pub struct TimesharePut {
 pub fn offset(value: u64) -> u64
     ensures { λ r. ⌜ r ≡ offset value ⌝ }
 {
-    if value < 128 {
-        return (128 - value) / 16;
-    }
-    0
+    entry(2 * cut(value) + 1)
 }
 
 // The Rust's saturating_sub(1).
@@ -92,7 +91,7 @@ impl TimeshareQueue {
         if current {
             return take_idx;
         }
-        let q = (insert_idx % 8 + offset(value) % 8) % 8;
+        let q = (insert_idx % 8 + offset(value)) % 8;
         if q != take_idx {
             return q;
         }

@@ -13,7 +13,7 @@ use Rattle.rules.specs.declared.Part.{Part}
 use Rattle.rules.specs.declared.Part.the-variants as part
 use Rattle.rules.specs.Line.{count}
 use Rattle.rules.specs.Buckets.{Buckets, bucket, around, Found, nothing, found, scan, join, pop}
-use Rattle.rules.specs.Priority.{nr-values, priority, less, class-number}
+use Rattle.rules.specs.Priority.{nr-values, cut, priority, less, class-number}
 
 -- "Eight buckets"; sixteen values to a bucket.
 unfoldable pub nr-buckets : ℕ
@@ -92,17 +92,23 @@ is-timeshare part.Realtime = false
 is-timeshare part.Timeshare = true
 is-timeshare part.Idle = false
 
--- "Realtime and idle have eight buckets by value / 16, a User thread in bucket 7"
+-- "Realtime and idle have eight buckets by value / 16"; a value of 128 or more, which no command gives, is cut to 127 as `from_raw` cuts it
+unfoldable pub realtime-bucket : ℕ → ℕ
+realtime-bucket v = cut v / width
+
+-- "a User thread in bucket 7"
 unfoldable pub class-bucket : PriorityClass → ℕ → ℕ
 class-bucket class.User v = nr-buckets - 1
-class-bucket class.Realtime v = v / width
-class-bucket class.Background v = v / width
-class-bucket class.Idle v = v / width
+class-bucket class.Realtime v = realtime-bucket v
+class-bucket class.Background v = realtime-bucket v
+class-bucket class.Idle v = realtime-bucket v
 
--- "Offset = (128 − value) / 16 rounded down; bucket = (filling + offset) modulo 8,"
+-- "Value 0 shall have offset 7; all other offsets keep their formula": "Offset = (128 − value) / 16 rounded down"
 unfoldable pub offset : ℕ → ℕ
-offset v = (nr-values - v) / width
+offset zero = nr-buckets - 1
+offset (suc v) = (nr-values - suc v) / width
 
+-- "bucket = (filling + offset) modulo 8,"
 unfoldable pub value-bucket : Queue → ℕ → ℕ
 value-bucket q v = (q .insert-idx + offset v) % nr-buckets
 

@@ -52,14 +52,14 @@ pair-numbers (pair d r) = d ∷ r ∷ []
 unfoldable pub row-10-load : ℕ → ℕ
 row-10-load c = suc c
 
--- what the table says, a row to a line; row 10: no donor and no recipient
+-- what the table says, a row to a line, row 5 as request 2026-04 has it; row 10: no donor and no recipient
 pub given : List (List ℕ)
 given =
     (100 ∷ 32 ∷ 2 ∷ 2 ∷ 2 ∷ [])
     ∷ (2 ∷ 127 ∷ [])
     ∷ (3 ∷ 16 ∷ [])
     ∷ (0 ∷ 0 ∷ 1 ∷ 7 ∷ [])
-    ∷ (0 ∷ [])
+    ∷ (7 ∷ [])
     ∷ (4 ∷ [])
     ∷ (7 ∷ [])
     ∷ (0 ∷ 5 ∷ 36287 ∷ 1 ∷ [])

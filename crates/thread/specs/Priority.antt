@@ -4,9 +4,10 @@ use mathlib.Core.Path.{_≡_, refl, sym, ap, _∙_}
 use mathlib.Core.Bool.{Bool, true, false, cond}
 use mathlib.Core.Option.{Option, none, some}
 use native.Mathlib.Omega.{arith}
-use lib.Dec.{eqb, ltb}
-use borrow.Author.Tests.{lt-ltb, ltb-true, ne-eqb}
+use lib.Dec.{eqb}
+use borrow.Author.Tests.{lt-ltb, ne-eqb}
 use Rattle.rules.specs.Laws.Line.{both}
+use Rattle.rules.specs.Laws.Effect.{cut-below}
 use Rattle.rules.specs.declared.PriorityClass.{PriorityClass}
 use Rattle.rules.specs.declared.PriorityClass.the-variants as class
 use Rattle.rules.specs.declared.Priority.{Priority}
@@ -62,10 +63,6 @@ raw-again p h =
 raw-some : (p : Priority) → raw p ≡ NO-DONATION → ⊥
 unfolding raw
 raw-some p e = omega (arith, class-below (p .class))
-
-cut-below : (v : ℕ) → cut v < nr-values
-unfolding cut nr-values
-cut-below v = both (ltb v 128) (λ e. rw e (ltb-true v 128 e)) (λ e. rw e (omega arith))
 
 pub from-raw-below : (r : ℕ) → from-raw r .value < nr-values
 unfolding from-raw

@@ -4,9 +4,10 @@ use mathlib.Core.Path.{_≡_, refl, sym, ap, _∙_}
 use mathlib.Core.Bool.{Bool, true, false, not, _&&_, false≢true}
 use mathlib.Core.List.{List, [], _∷_, _++_}
 use lib.ListN.{length, getD-replicate}
-use lib.Dec.{eqb}
+use lib.Dec.{eqb, ltb}
 use native.Mathlib.Nat.{mod-lt}
 use native.Mathlib.Omega.{arith}
+use borrow.Author.Tests.{ltb-true}
 use Rattle.rules.specs.declared.PriorityClass.{PriorityClass}
 use Rattle.rules.specs.declared.PriorityClass.the-variants as class
 use Rattle.rules.specs.declared.Part.{Part}
@@ -15,9 +16,9 @@ use Rattle.rules.specs.Laws.Line.{both, Comes, comes-behind, comes-befor
 use Rattle.rules.specs.Buckets.{Buckets, bucket, around, Found, nothing, found, scan, pop}
 use Rattle.rules.specs.Laws.Buckets.{Hit, scan-nothing, scan-found}
 use Rattle.rules.specs.Laws.Buckets.{around-join, around-pop, around-pop-there, around-pop-next, length-join, length-pop, bucket-mod}
-use Rattle.rules.specs.Priority.{nr-values}
+use Rattle.rules.specs.Priority.{nr-values, cut}
 use Rattle.rules.specs.Queue.{Queue, nr-buckets, width, no-queue, realtime-line, timeshare-line, idle-line, order, empty}
-use Rattle.rules.specs.Queue.{Arrival, class-bucket, indexes-differ, step-back, offset, value-bucket, timeshare-bucket, bucket-for, join-in}
+use Rattle.rules.specs.Queue.{Arrival, realtime-bucket, class-bucket, indexes-differ, step-back, offset, value-bucket, timeshare-bucket, bucket-for, join-in}
 use Rattle.rules.specs.Queue.{Next, nobody, next-in, first-in, next-idle, next-timeshare, next, next-take-idx, leave, advance-insert-index}
 use Rattle.rules.specs.Ahead.{first-bucket}
 
@@ -73,12 +74,22 @@ start-bucket part.Idle i = getD-replicate nr-buckets (i % nr-buckets) [] [] (mod
 
 -- ---- a put
 
+pub cut-below : (v : ℕ) → cut v < nr-values
+unfolding cut nr-values
+cut-below v = both (ltb v 128) (λ p. rw p (ltb-true v 128 p)) (λ p. rw p (omega arith))
+
 pub class-bucket-in : (c : PriorityClass) (v : ℕ) → v < nr-values → class-bucket c v < nr-buckets
-unfolding class-bucket nr-buckets nr-values width
+unfolding class-bucket realtime-bucket nr-buckets nr-values width
 class-bucket-in class.User v h = omega arith
-class-bucket-in class.Realtime v h = omega arith
-class-bucket-in class.Background v h = omega arith
-class-bucket-in class.Idle v h = omega arith
+class-bucket-in class.Realtime v h = omega (arith, cut-below v)
+class-bucket-in class.Background v h = omega (arith, cut-below v)
+class-bucket-in class.Idle v h = omega (arith, cut-below v)
+
+-- every offset is a number of a bucket
+pub offset-in : (v : ℕ) → offset v < nr-buckets
+unfolding offset nr-buckets nr-values width
+offset-in zero = omega arith
+offset-in (suc v) = omega arith
 
 step-back-in : (j : ℕ) → j < nr-buckets → step-back j < nr-buckets
 unfolding step-back
