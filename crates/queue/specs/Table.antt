@@ -1,16 +1,16 @@
 -- The constant table (src/table.rt) by its rule, and how the code reads it.
-use Prim.Native.Nat.{ℕ, zero, suc, _+_, _*_, _/_, _%_, _^_, _<_, _≤_}
-use mathlib.Core.Path.{_≡_, refl, sym}
+use Prim.Native.Nat.{ℕ, zero, suc, _+_, _*_, _/_, _%_, _^_, _<_}
+use mathlib.Core.Path.{_≡_, refl, sym, _∙_}
 use mathlib.Core.List.{List, [], _∷_}
 use lib.ListN.{length, getD}
-use native.Mathlib.Nat.{zero-add}
+use native.Mathlib.Nat.{add-zero, zero-add}
 use native.Mathlib.Omega.{arith}
-use mathlib.Core.Bool.{true, cond}
+use mathlib.Core.Bool.{true}
 use lib.Dec.{eqb, ltb}
 use borrow.Author.Tests.{eqb-true, lt-ltb, ltb-false}
 use Rattle.rules.specs.Laws.Below.{all-below, at-below}
 use Rattle.rules.specs.Laws.Line.{both}
-use Rattle.rules.specs.Laws.Effect.{cut-below}
+use Rattle.rules.specs.Laws.Effect.{cut-below, offset-past}
 use Rattle.rules.specs.Priority.{nr-values, cut}
 use Rattle.rules.specs.Queue.{nr-buckets, width, realtime-bucket, offset}
 
@@ -33,26 +33,22 @@ unfolding two-each
 entries-of w zero = refl
 entries-of w (suc k) = rw (entries-of (suc w) k) (omega arith)
 
-bucket-at : (w k v : ℕ) → v < k → getD (two-each w k) (2 * v) 0 ≡ realtime-bucket (w + v)
+two-at : (w k v : ℕ) → v < k → (getD (two-each w k) (2 * v) 0 ≡ realtime-bucket (w + v)) × (getD (two-each w k) (2 * v + 1) 0 ≡ offset (w + v))
 unfolding two-each
-bucket-at w zero v h = absurd (omega arith)
-bucket-at w (suc k) zero h = let e : w + 0 ≡ w = omega arith in rw e
-bucket-at w (suc k) (suc v) h =
-    let i : 2 * suc v ≡ suc (suc (2 * v)) = omega arith in let e : w + suc v ≡ suc w + v = omega arith in rw (i, e) (bucket-at (suc w) k v (omega arith))
-
-offset-at : (w k v : ℕ) → v < k → getD (two-each w k) (2 * v + 1) 0 ≡ offset (w + v)
-unfolding two-each
-offset-at w zero v h = absurd (omega arith)
-offset-at w (suc k) zero h = let e : w + 0 ≡ w = omega arith in rw e
-offset-at w (suc k) (suc v) h =
-    let i : 2 * suc v + 1 ≡ suc (suc (2 * v + 1)) = omega arith in let e : w + suc v ≡ suc w + v = omega arith in rw (i, e) (offset-at (suc w) k v (omega arith))
+two-at w zero v h = absurd (omega arith)
+two-at w (suc k) zero h = rw (add-zero w) (refl, refl)
+two-at w (suc k) (suc v) h =
+    let i : 2 * suc v ≡ suc (suc (2 * v)) = omega arith in
+    let j : 2 * suc v + 1 ≡ suc (suc (2 * v + 1)) = omega arith in
+    let e : w + suc v ≡ suc w + v = omega arith in
+    rw (j, i, e) (two-at (suc w) k v (omega arith))
 
 pub table-rule : By-rule table
 unfolding table nr-values
 table-rule = record {
   entries = entries-of 0 128;
-  buckets = λ v h. rw (zero-add v) at (bucket-at 0 128 v h);
-  offsets = λ v h. rw (zero-add v) at (offset-at 0 128 v h);
+  buckets = λ v h. rw (zero-add v) at (two-at 0 128 v h .0);
+  offsets = λ v h. rw (zero-add v) at (two-at 0 128 v h .1);
 }
 
 -- ---- how the code reads it: sixteen rows of sixteen numbers, a row in one word, four bits to a number
@@ -94,31 +90,22 @@ entry-unpacked i =
 
 -- ---- the two numbers of any value
 
-even-in : (v : ℕ) → v < nr-values → 2 * v % 256 ≡ 2 * v
-unfolding nr-values
-even-in v h = omega arith
-
-odd-in : (v : ℕ) → v < nr-values → (2 * v + 1) % 256 ≡ 2 * v + 1
-unfolding nr-values
-odd-in v h = omega arith
-
 cut-cut : (v : ℕ) → cut (cut v) ≡ cut v
 unfolding cut
 cut-cut v = rw (lt-ltb (cut v) nr-values (cut-below v))
 
 pub bucket-entry : (v : ℕ) → entry (2 * cut v) ≡ realtime-bucket v
-unfolding entry realtime-bucket
-bucket-entry v = rw (even-in (cut v) (cut-below v), table-rule .buckets (cut v) (cut-below v), cut-cut v)
+unfolding entry realtime-bucket nr-values
+bucket-entry v = let e : 2 * cut v % 256 ≡ 2 * cut v = omega (arith, cut-below v) in rw (e, table-rule .buckets (cut v) (cut-below v), cut-cut v)
 
-past-values : (v : ℕ) → nr-values ≤ v → offset v ≡ offset 127
+offset-127 : offset 127 ≡ 0
 unfolding offset nr-values width
-past-values zero h = absurd (omega arith)
-past-values (suc v) h = omega arith
+offset-127 = refl
 
 offset-cut : (v : ℕ) → offset (cut v) ≡ offset v
 unfolding cut
-offset-cut v = both (ltb v nr-values) (λ p. rw p) (λ p. rw p (sym (past-values v (ltb-false v nr-values p))))
+offset-cut v = both (ltb v nr-values) (λ p. rw p) (λ p. rw p (offset-127 ∙ sym (offset-past v (ltb-false v nr-values p))))
 
 pub offset-entry : (v : ℕ) → entry (2 * cut v + 1) ≡ offset v
-unfolding entry
-offset-entry v = rw (odd-in (cut v) (cut-below v), table-rule .offsets (cut v) (cut-below v)) (offset-cut v)
+unfolding entry nr-values
+offset-entry v = let e : (2 * cut v + 1) % 256 ≡ 2 * cut v + 1 = omega (arith, cut-below v) in rw (e, table-rule .offsets (cut v) (cut-below v)) (offset-cut v)

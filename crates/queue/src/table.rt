@@ -1,259 +1,259 @@
-// Two numbers for each value from 0 to 127: its realtime bucket, then its timeshare offset. Printed by the program priority_table.
+// Two numbers for each value from 0 to 127: its realtime bucket, then its timeshare offset. The program priority_table prints this file.
 pub const TABLE: [u64; 256] = [
-    0,
-    7,
-    0,
-    7,
-    0,
-    7,
-    0,
-    7,
-    0,
-    7,
-    0,
-    7,
-    0,
-    7,
-    0,
-    7,
-    0,
-    7,
-    0,
-    7,
-    0,
-    7,
-    0,
-    7,
-    0,
-    7,
-    0,
-    7,
-    0,
-    7,
-    0,
-    7,
-    1,
-    7,
-    1,
-    6,
-    1,
-    6,
-    1,
-    6,
-    1,
-    6,
-    1,
-    6,
-    1,
-    6,
-    1,
-    6,
-    1,
-    6,
-    1,
-    6,
-    1,
-    6,
-    1,
-    6,
-    1,
-    6,
-    1,
-    6,
-    1,
-    6,
-    1,
-    6,
-    2,
-    6,
-    2,
-    5,
-    2,
-    5,
-    2,
-    5,
-    2,
-    5,
-    2,
-    5,
-    2,
-    5,
-    2,
-    5,
-    2,
-    5,
-    2,
-    5,
-    2,
-    5,
-    2,
-    5,
-    2,
-    5,
-    2,
-    5,
-    2,
-    5,
-    2,
-    5,
-    3,
-    5,
-    3,
-    4,
-    3,
-    4,
-    3,
-    4,
-    3,
-    4,
-    3,
-    4,
-    3,
-    4,
-    3,
-    4,
-    3,
-    4,
-    3,
-    4,
-    3,
-    4,
-    3,
-    4,
-    3,
-    4,
-    3,
-    4,
-    3,
-    4,
-    3,
-    4,
-    4,
-    4,
-    4,
-    3,
-    4,
-    3,
-    4,
-    3,
-    4,
-    3,
-    4,
-    3,
-    4,
-    3,
-    4,
-    3,
-    4,
-    3,
-    4,
-    3,
-    4,
-    3,
-    4,
-    3,
-    4,
-    3,
-    4,
-    3,
-    4,
-    3,
-    4,
-    3,
-    5,
-    3,
-    5,
-    2,
-    5,
-    2,
-    5,
-    2,
-    5,
-    2,
-    5,
-    2,
-    5,
-    2,
-    5,
-    2,
-    5,
-    2,
-    5,
-    2,
-    5,
-    2,
-    5,
-    2,
-    5,
-    2,
-    5,
-    2,
-    5,
-    2,
-    5,
-    2,
-    6,
-    2,
-    6,
-    1,
-    6,
-    1,
-    6,
-    1,
-    6,
-    1,
-    6,
-    1,
-    6,
-    1,
-    6,
-    1,
-    6,
-    1,
-    6,
-    1,
-    6,
-    1,
-    6,
-    1,
-    6,
-    1,
-    6,
-    1,
-    6,
-    1,
-    6,
-    1,
-    7,
-    1,
-    7,
-    0,
-    7,
-    0,
-    7,
-    0,
-    7,
-    0,
-    7,
-    0,
-    7,
-    0,
-    7,
-    0,
-    7,
-    0,
-    7,
-    0,
-    7,
-    0,
-    7,
-    0,
-    7,
-    0,
-    7,
-    0,
-    7,
-    0,
-    7,
-    0,
+    0, // bucket of value 0
+    7, // offset of value 0
+    0, // bucket of value 1
+    7, // offset of value 1
+    0, // bucket of value 2
+    7, // offset of value 2
+    0, // bucket of value 3
+    7, // offset of value 3
+    0, // bucket of value 4
+    7, // offset of value 4
+    0, // bucket of value 5
+    7, // offset of value 5
+    0, // bucket of value 6
+    7, // offset of value 6
+    0, // bucket of value 7
+    7, // offset of value 7
+    0, // bucket of value 8
+    7, // offset of value 8
+    0, // bucket of value 9
+    7, // offset of value 9
+    0, // bucket of value 10
+    7, // offset of value 10
+    0, // bucket of value 11
+    7, // offset of value 11
+    0, // bucket of value 12
+    7, // offset of value 12
+    0, // bucket of value 13
+    7, // offset of value 13
+    0, // bucket of value 14
+    7, // offset of value 14
+    0, // bucket of value 15
+    7, // offset of value 15
+    1, // bucket of value 16
+    7, // offset of value 16
+    1, // bucket of value 17
+    6, // offset of value 17
+    1, // bucket of value 18
+    6, // offset of value 18
+    1, // bucket of value 19
+    6, // offset of value 19
+    1, // bucket of value 20
+    6, // offset of value 20
+    1, // bucket of value 21
+    6, // offset of value 21
+    1, // bucket of value 22
+    6, // offset of value 22
+    1, // bucket of value 23
+    6, // offset of value 23
+    1, // bucket of value 24
+    6, // offset of value 24
+    1, // bucket of value 25
+    6, // offset of value 25
+    1, // bucket of value 26
+    6, // offset of value 26
+    1, // bucket of value 27
+    6, // offset of value 27
+    1, // bucket of value 28
+    6, // offset of value 28
+    1, // bucket of value 29
+    6, // offset of value 29
+    1, // bucket of value 30
+    6, // offset of value 30
+    1, // bucket of value 31
+    6, // offset of value 31
+    2, // bucket of value 32
+    6, // offset of value 32
+    2, // bucket of value 33
+    5, // offset of value 33
+    2, // bucket of value 34
+    5, // offset of value 34
+    2, // bucket of value 35
+    5, // offset of value 35
+    2, // bucket of value 36
+    5, // offset of value 36
+    2, // bucket of value 37
+    5, // offset of value 37
+    2, // bucket of value 38
+    5, // offset of value 38
+    2, // bucket of value 39
+    5, // offset of value 39
+    2, // bucket of value 40
+    5, // offset of value 40
+    2, // bucket of value 41
+    5, // offset of value 41
+    2, // bucket of value 42
+    5, // offset of value 42
+    2, // bucket of value 43
+    5, // offset of value 43
+    2, // bucket of value 44
+    5, // offset of value 44
+    2, // bucket of value 45
+    5, // offset of value 45
+    2, // bucket of value 46
+    5, // offset of value 46
+    2, // bucket of value 47
+    5, // offset of value 47
+    3, // bucket of value 48
+    5, // offset of value 48
+    3, // bucket of value 49
+    4, // offset of value 49
+    3, // bucket of value 50
+    4, // offset of value 50
+    3, // bucket of value 51
+    4, // offset of value 51
+    3, // bucket of value 52
+    4, // offset of value 52
+    3, // bucket of value 53
+    4, // offset of value 53
+    3, // bucket of value 54
+    4, // offset of value 54
+    3, // bucket of value 55
+    4, // offset of value 55
+    3, // bucket of value 56
+    4, // offset of value 56
+    3, // bucket of value 57
+    4, // offset of value 57
+    3, // bucket of value 58
+    4, // offset of value 58
+    3, // bucket of value 59
+    4, // offset of value 59
+    3, // bucket of value 60
+    4, // offset of value 60
+    3, // bucket of value 61
+    4, // offset of value 61
+    3, // bucket of value 62
+    4, // offset of value 62
+    3, // bucket of value 63
+    4, // offset of value 63
+    4, // bucket of value 64
+    4, // offset of value 64
+    4, // bucket of value 65
+    3, // offset of value 65
+    4, // bucket of value 66
+    3, // offset of value 66
+    4, // bucket of value 67
+    3, // offset of value 67
+    4, // bucket of value 68
+    3, // offset of value 68
+    4, // bucket of value 69
+    3, // offset of value 69
+    4, // bucket of value 70
+    3, // offset of value 70
+    4, // bucket of value 71
+    3, // offset of value 71
+    4, // bucket of value 72
+    3, // offset of value 72
+    4, // bucket of value 73
+    3, // offset of value 73
+    4, // bucket of value 74
+    3, // offset of value 74
+    4, // bucket of value 75
+    3, // offset of value 75
+    4, // bucket of value 76
+    3, // offset of value 76
+    4, // bucket of value 77
+    3, // offset of value 77
+    4, // bucket of value 78
+    3, // offset of value 78
+    4, // bucket of value 79
+    3, // offset of value 79
+    5, // bucket of value 80
+    3, // offset of value 80
+    5, // bucket of value 81
+    2, // offset of value 81
+    5, // bucket of value 82
+    2, // offset of value 82
+    5, // bucket of value 83
+    2, // offset of value 83
+    5, // bucket of value 84
+    2, // offset of value 84
+    5, // bucket of value 85
+    2, // offset of value 85
+    5, // bucket of value 86
+    2, // offset of value 86
+    5, // bucket of value 87
+    2, // offset of value 87
+    5, // bucket of value 88
+    2, // offset of value 88
+    5, // bucket of value 89
+    2, // offset of value 89
+    5, // bucket of value 90
+    2, // offset of value 90
+    5, // bucket of value 91
+    2, // offset of value 91
+    5, // bucket of value 92
+    2, // offset of value 92
+    5, // bucket of value 93
+    2, // offset of value 93
+    5, // bucket of value 94
+    2, // offset of value 94
+    5, // bucket of value 95
+    2, // offset of value 95
+    6, // bucket of value 96
+    2, // offset of value 96
+    6, // bucket of value 97
+    1, // offset of value 97
+    6, // bucket of value 98
+    1, // offset of value 98
+    6, // bucket of value 99
+    1, // offset of value 99
+    6, // bucket of value 100
+    1, // offset of value 100
+    6, // bucket of value 101
+    1, // offset of value 101
+    6, // bucket of value 102
+    1, // offset of value 102
+    6, // bucket of value 103
+    1, // offset of value 103
+    6, // bucket of value 104
+    1, // offset of value 104
+    6, // bucket of value 105
+    1, // offset of value 105
+    6, // bucket of value 106
+    1, // offset of value 106
+    6, // bucket of value 107
+    1, // offset of value 107
+    6, // bucket of value 108
+    1, // offset of value 108
+    6, // bucket of value 109
+    1, // offset of value 109
+    6, // bucket of value 110
+    1, // offset of value 110
+    6, // bucket of value 111
+    1, // offset of value 111
+    7, // bucket of value 112
+    1, // offset of value 112
+    7, // bucket of value 113
+    0, // offset of value 113
+    7, // bucket of value 114
+    0, // offset of value 114
+    7, // bucket of value 115
+    0, // offset of value 115
+    7, // bucket of value 116
+    0, // offset of value 116
+    7, // bucket of value 117
+    0, // offset of value 117
+    7, // bucket of value 118
+    0, // offset of value 118
+    7, // bucket of value 119
+    0, // offset of value 119
+    7, // bucket of value 120
+    0, // offset of value 120
+    7, // bucket of value 121
+    0, // offset of value 121
+    7, // bucket of value 122
+    0, // offset of value 122
+    7, // bucket of value 123
+    0, // offset of value 123
+    7, // bucket of value 124
+    0, // offset of value 124
+    7, // bucket of value 125
+    0, // offset of value 125
+    7, // bucket of value 126
+    0, // offset of value 126
+    7, // bucket of value 127
+    0, // offset of value 127
 ];

@@ -1,5 +1,5 @@
 -- What a put, a leaving and `advance_insert_index` do to a queue's buckets and to its order.
-use Prim.Native.Nat.{ℕ, zero, suc, _+_, _%_, _<_}
+use Prim.Native.Nat.{ℕ, zero, suc, _+_, _%_, _<_, _≤_}
 use mathlib.Core.Path.{_≡_, refl, sym, ap, _∙_}
 use mathlib.Core.Bool.{Bool, true, false, not, _&&_, false≢true}
 use mathlib.Core.List.{List, [], _∷_, _++_}
@@ -90,6 +90,11 @@ pub offset-in : (v : ℕ) → offset v < nr-buckets
 unfolding offset nr-buckets nr-values width
 offset-in zero = omega arith
 offset-in (suc v) = omega arith
+
+pub offset-past : (v : ℕ) → nr-values ≤ v → offset v ≡ 0
+unfolding offset nr-values width
+offset-past zero h = absurd (omega arith)
+offset-past (suc v) h = omega arith
 
 step-back-in : (j : ℕ) → j < nr-buckets → step-back j < nr-buckets
 unfolding step-back
