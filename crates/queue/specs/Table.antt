@@ -53,7 +53,7 @@ table-rule = record {
 
 -- ---- how the code reads it: sixteen rows of sixteen numbers, a row in one word, four bits to a number
 
--- the first k numbers of row r; the first of sixteen comes to stand in the lowest four bits
+-- the first k numbers of row r: each comes in at the highest four bits (times 2 ^ 60) and moves the others down, so that the first of sixteen ends lowest
 unfoldable pub packed : ℕ → List ℕ → ℕ → ℕ
 packed zero t r = 0
 packed (suc k) t r = packed k t r / 16 + getD t (r * 16 + k) 0 % 16 * 1152921504606846976

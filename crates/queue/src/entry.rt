@@ -4,6 +4,10 @@ ghost use mathlib.Core.Path.{_≡_};
 ghost use Rattle.queue.specs.Table.{table, row-word, entry};
 use crate::table::TABLE;
 
+// 2^60: what a number in the highest four bits of a word counts by.
+const HIGHEST: u64 = 1152921504606846976;
+
+// The constant, with what is proved of it.
 pub fn table() -> [u64; 256]
     ensures { λ r. ⌜ r ≡ table ⌝ }
 {
@@ -11,19 +15,19 @@ pub fn table() -> [u64; 256]
 }
 
 // Row r modulo 16 of a table, its first number in the lowest four bits.
-pub fn packed(table: &[u64; 256], r: u64) -> u64
+fn packed(table: &[u64; 256], r: u64) -> u64
     ensures { λ w. ⌜ w ≡ row-word (now (table .entry)) r ⌝ }
 {
     let mut word: u64 = 0;
     for k in 0u64..16 {
         let i = (r % 16 * 16 + k) as usize;
-        word = word / 16 + table[i] % 16 * 1152921504606846976;
+        word = word / 16 + table[i] % 16 * HIGHEST;
     }
     word
 }
 
 // Row r modulo 16 of the table. Each arm names its row: a constant to the compiler.
-pub fn row(r: u64) -> u64
+fn row(r: u64) -> u64
     ensures { λ w. ⌜ w ≡ row-word table r ⌝ }
 {
     let whole = table();
