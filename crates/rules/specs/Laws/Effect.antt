@@ -78,14 +78,11 @@ pub cut-below : (v : ℕ) → cut v < nr-values
 unfolding cut nr-values
 cut-below v = both (ltb v 128) (λ p. rw p (ltb-true v 128 p)) (λ p. rw p (omega arith))
 
-pub class-bucket-in : (c : PriorityClass) (v : ℕ) → v < nr-values → class-bucket c v < nr-buckets
-unfolding class-bucket realtime-bucket nr-buckets nr-values width
-class-bucket-in class.User v h = omega arith
-class-bucket-in class.Realtime v h = omega (arith, cut-below v)
-class-bucket-in class.Background v h = omega (arith, cut-below v)
-class-bucket-in class.Idle v h = omega (arith, cut-below v)
+-- the two numbers of every value are numbers of buckets
+pub realtime-bucket-in : (v : ℕ) → realtime-bucket v < nr-buckets
+unfolding realtime-bucket nr-buckets nr-values width
+realtime-bucket-in v = omega (arith, cut-below v)
 
--- every offset is a number of a bucket
 pub offset-in : (v : ℕ) → offset v < nr-buckets
 unfolding offset nr-buckets nr-values width
 offset-in zero = omega arith
@@ -95,6 +92,13 @@ pub offset-past : (v : ℕ) → nr-values ≤ v → offset v ≡ 0
 unfolding offset nr-values width
 offset-past zero h = absurd (omega arith)
 offset-past (suc v) h = omega arith
+
+pub class-bucket-in : (c : PriorityClass) (v : ℕ) → v < nr-values → class-bucket c v < nr-buckets
+unfolding class-bucket
+class-bucket-in class.User v h = unfold nr-buckets in omega arith
+class-bucket-in class.Realtime v h = realtime-bucket-in v
+class-bucket-in class.Background v h = realtime-bucket-in v
+class-bucket-in class.Idle v h = realtime-bucket-in v
 
 step-back-in : (j : ℕ) → j < nr-buckets → step-back j < nr-buckets
 unfolding step-back
