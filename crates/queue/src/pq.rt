@@ -30,11 +30,12 @@ pub fn realtime_bucket(value: u64) -> u64
 pub fn class_bucket(class: PriorityClass, value: u64) -> u64
     ensures { λ r. ⌜ r ≡ class-bucket class value ⌝ }
 {
+    let bucket = realtime_bucket(value);
     match class {
         PriorityClass::User => 7,
-        PriorityClass::Realtime => realtime_bucket(value),
-        PriorityClass::Background => realtime_bucket(value),
-        PriorityClass::Idle => realtime_bucket(value),
+        PriorityClass::Realtime => bucket,
+        PriorityClass::Background => bucket,
+        PriorityClass::Idle => bucket,
     }
 }
 
