@@ -4,16 +4,15 @@ use native.Mathlib.Omega.{arith}
 use lib.Dec.{ltb}
 use borrow.Author.Tests.{lt-ltb}
 use mathlib.Core.Path.{_≡_, refl}
-use mathlib.Core.Bool.{Bool, true, false}
+use mathlib.Core.Bool.{true, false}
 use mathlib.Core.Option.{Option, none, some}
 use mathlib.Core.List.{List, [], _∷_, _++_}
-use Rattle.rules.specs.declared.PriorityClass.{PriorityClass}
 use Rattle.rules.specs.declared.PriorityClass.the-variants as class
 use Rattle.rules.specs.declared.Priority.{Priority}
 use Rattle.rules.specs.Priority.{class-number, from-raw}
 use Rattle.rules.specs.Draw.{next-state, draw}
 use Rattle.rules.specs.Times.{timeslice}
-use Rattle.rules.specs.Queue.{Queue, no-queue, Arrival, insert, Done, take, timeshare-bucket}
+use Rattle.rules.specs.Queue.{Queue, no-queue, insert, take, timeshare-bucket}
 use Rattle.rules.specs.Choice.{score, weigh, extremes, Pair, no-pair, pair, pair-of, choose-cpu-balance}
 use Rattle.rules.specs.Laws.Computed.{computed}
 
