@@ -117,7 +117,3 @@ round-sum a b = omega arith
 pub round-left : (a b : ℕ) → (a % 8 + b) % 8 ≡ (a + b) % nr-buckets
 unfolding nr-buckets
 round-left a b = omega arith
-
-pub round-next : (a : ℕ) → (a % 8 + 1) % 8 ≡ (a + 1) % nr-buckets
-unfolding nr-buckets
-round-next a = omega arith

@@ -1,4 +1,4 @@
-use Rattle.queue.specs.Timeshare.{round-next}
+use Rattle.queue.specs.Timeshare.{round-left}
 use borrow.Author.Tests.{eq-eqb}
 use Rattle.queue.specs.Timeshare.{ts-next}
 use Rattle.rules.specs.Queue.{nr-buckets}
@@ -24,7 +24,7 @@ add-result c = search needs
 
 returns-4 : tie.Need-returns-4
 unfolding ts-next
-returns-4 c = simp (ne-eqb _ _ (c .if3 .left), eq-eqb _ _ (c .before .before .if2 .left), eq-eqb _ _ (c .before .before .before .if1 .left)) (round-next _)
+returns-4 c = simp (ne-eqb _ _ (c .if3 .left), eq-eqb _ _ (c .before .before .if2 .left), eq-eqb _ _ (c .before .before .before .if1 .left)) (round-left _ 1)
 
 pub next-take-idx-spec : {M : Type 1} → statement M
 next-take-idx-spec = tie.close (tie.spec returns returns-2 returns-3 add-result returns-4)
