@@ -1,18 +1,17 @@
 -- What each obeyed command does, and the answer that is shown.
-use Prim.Native.Nat.{ℕ, zero, suc, _+_}
-use mathlib.Core.Bool.{Bool, true, false, cond}
+use Prim.Native.Nat.{ℕ, _+_}
+use mathlib.Core.Bool.{Bool, true, cond}
 use mathlib.Core.Option.{Option, none, some}
 use mathlib.Core.List.{List, [], _∷_, _++_}
 use lib.Dec.{eqb}
-use Rattle.rules.specs.declared.Priority.{Priority}
 use Rattle.rules.specs.Priority.{priority, class-at}
 use Rattle.rules.specs.Times.{Thread, donated-to, critical-at}
 use Rattle.rules.specs.Queue.{load}
 use Rattle.rules.specs.Puts.{PutOrTake}
-use Rattle.rules.specs.State.{at, Limits, Node, Topology, Cpu, new-thread, State}
+use Rattle.rules.specs.State.{at, with-shortest, Topology, new-thread, State}
 use Rattle.rules.specs.Schedule as sched
-use Rattle.rules.specs.Schedule.{World, Got, with-thread}
-use Rattle.rules.specs.Requests.{Request, declare-cpu, add-node, place-cpu, seal, declare-thread, set-tick, schedule-thread, schedule, hardtick, stattick, resched, maybe-preempt, donate, remove-donation, set-critical, Reading, unknown, cut-short, asks, read, flags-of}
+use Rattle.rules.specs.Schedule.{World, Got}
+use Rattle.rules.specs.Requests.{Request, declare-cpu, add-node, place-cpu, seal, set-shortest, declare-thread, set-tick, schedule-thread, schedule, hardtick, stattick, resched, maybe-preempt, donate, remove-donation, set-critical, Reading, unknown, cut-short, asks, read, flags-of}
 use Rattle.rules.specs.Questions.{refusal}
 
 -- ---- the answer
@@ -103,6 +102,20 @@ with-node t p k = record { nodes = t .nodes ++ (record { parent = p; type = k } 
 unfoldable pub with-placed : Topology → ℕ → ℕ → Topology
 with-placed t n c = record { nodes = t .nodes; declared = t .declared; placed = at (t .placed) c (some n) }
 
+-- ---- 05: "sets the shortest User timeslice"
+
+unfoldable pub shortened : State → ℕ → State
+shortened s n = record {
+  limits = with-shortest (s .limits) n;
+  topology = s .topology;
+  sealed = s .sealed;
+  tick = s .tick;
+  accepted = s .accepted;
+  known = s .known;
+  cpus = s .cpus;
+  threads = s .threads;
+}
+
 -- ---- 12: "The CPU is the one chosen for 12"
 
 -- none: no CPU found. Once sealed one always is (demands' Selects), so this clause is never taken.
@@ -126,6 +139,7 @@ obeys s (declare-cpu c) = changed s (with-cpu-declared (s .topology) c) (s .seal
 obeys s (add-node p k) = changed s (with-node (s .topology) p k) (s .sealed) (s .tick) (s .known) (s .threads)
 obeys s (place-cpu n c) = changed s (with-placed (s .topology) n c) (s .sealed) (s .tick) (s .known) (s .threads)
 obeys s seal = changed s (s .topology) true (s .tick) (s .known) (s .threads)
+obeys s (set-shortest n) = changed (shortened s n) (s .topology) (s .sealed) (s .tick) (s .known) (s .threads)
 obeys s (declare-thread x c v p) = changed s (s .topology) (s .sealed) (s .tick) (at (s .known) x true) (at (s .threads) x (new-thread (priority (class-at c) v) p))
 obeys s (set-tick t) = changed s (s .topology) (s .sealed) t (s .known) (s .threads)
 obeys s (schedule-thread c x) = schedules s c x

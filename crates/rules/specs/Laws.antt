@@ -7,11 +7,13 @@ pub mod Effect
 pub mod Held
 pub mod InOrder
 pub mod Kept
+pub mod Limits
 pub mod Line
 pub mod Places
 pub mod Reached
 pub mod Refused
 pub mod Seal
+pub mod Shortest
 pub mod Sound
 pub mod Steps
 pub mod Waiting

@@ -18,6 +18,7 @@ pub mod Rows
 pub mod Run
 pub mod Schedule
 pub mod Seal
+pub mod Shortest
 pub mod State
 pub mod Times
 pub mod Topology

@@ -8,7 +8,7 @@ use lib.Dec.{eqb, ltb, leb}
 use Rattle.rules.specs.Times.{is-some}
 use Rattle.rules.specs.State.{State, any-below, is-number, blocked}
 use Rattle.rules.specs.Topology.{leaf}
-use Rattle.rules.specs.Requests.{Request, declare-cpu, add-node, place-cpu, seal, declare-thread, set-tick, schedule-thread, schedule, hardtick, stattick, resched, maybe-preempt, donate, remove-donation, set-critical, Reading, unknown, cut-short, asks}
+use Rattle.rules.specs.Requests.{Request, declare-cpu, add-node, place-cpu, seal, set-shortest, declare-thread, set-tick, schedule-thread, schedule, hardtick, stattick, resched, maybe-preempt, donate, remove-donation, set-critical, Reading, unknown, cut-short, asks}
 
 -- A question's number, and whether it is answered yes.
 pub record Question : Type 0 where
@@ -18,7 +18,7 @@ pub record Question : Type 0 where
 unfoldable pub question : ℕ → Bool → Question
 question n yes-said = record { number = n; answer = yes-said }
 
--- 3: "Is it on the right side of the seal?" "Hex 01 to 04 come before the seal, the others after."
+-- 3: "Is it on the right side of the seal?" "Hex 01 to 04 come before the seal, the others after." 2026-07: "New command hex 05 before the seal"
 unfoldable pub open-yet : State → Question
 open-yet s = question 3 (not (s .sealed))
 
@@ -50,18 +50,29 @@ unfoldable pub thread-new : State → ℕ → Question
 thread-new s x = question 5 (ltb x (s .limits .threads) && not (s .known x))
 
 -- 6: "Is every other operand in range: node existing, parent without CPUs of its own and fewer than 128 nodes (02), node without children (03),
--- type and class up to 3, value up to 127, flags up to 7, mark 0 or 1?" First what needs no state, which the writer of 2026-02 asks too, then what does.
+-- type and class up to 3, value up to 127, flags up to 7, mark 0 or 1?" 2026-07: "sets the shortest User timeslice to 2 to 32", "The range is part of the sixth question."
+-- First what needs no state, which the writer of 2026-02 asks too, then what does.
 unfoldable pub priority-in-range : ℕ → ℕ → Question
 priority-in-range class value = question 6 (leb class 3 && leb value 127)
 
 unfoldable pub at-most : ℕ → ℕ → Question
 at-most most n = question 6 (leb n most)
 
+unfoldable pub least-shortest : ℕ
+least-shortest = 2
+
+unfoldable pub most-shortest : ℕ
+most-shortest = 32
+
+unfoldable pub shortest-in-range : ℕ → Question
+shortest-in-range n = question 6 (leb least-shortest n && leb n most-shortest)
+
 abbrev pub in-range : Request → Question
 in-range (declare-cpu c) = question 6 true
 in-range (add-node p k) = at-most 3 k
 in-range (place-cpu n c) = question 6 true
 in-range seal = question 6 true
+in-range (set-shortest n) = shortest-in-range n
 in-range (declare-thread x k v pin) = priority-in-range k v
 in-range (set-tick t) = question 6 true
 in-range (schedule-thread c x) = question 6 true
@@ -127,6 +138,7 @@ concerning s (declare-cpu c) = open-yet s ∷ cpu-new s c ∷ []
 concerning s (add-node p k) = open-yet s ∷ in-range (add-node p k) ∷ node-exists s p ∷ parent-without-cpus s p ∷ node-fits s ∷ []
 concerning s (place-cpu n c) = open-yet s ∷ cpu-unplaced s c ∷ node-exists s n ∷ node-childless s n ∷ []
 concerning s seal = open-yet s ∷ all-placed s ∷ []
+concerning s (set-shortest n) = open-yet s ∷ in-range (set-shortest n) ∷ []
 concerning s (declare-thread x k v pin) = sealed-now s ∷ pin-declared s pin ∷ thread-new s x ∷ in-range (declare-thread x k v pin) ∷ []
 concerning s (set-tick t) = sealed-now s ∷ tick-fits s t ∷ []
 concerning s (schedule-thread c x) = sealed-now s ∷ cpu-declared s c ∷ thread-declared s x ∷ thread-blocked s x ∷ []

@@ -3,7 +3,7 @@ use Prim.Native.Nat.{ℕ, zero, suc, _+_, _*_, _/_, _%_}
 use mathlib.Core.Bool.{Bool, true, false, cond}
 use mathlib.Core.Option.{Option, none, some}
 use mathlib.Core.List.{List, [], _∷_}
-use lib.Dec.{eqb, ltb}
+use lib.Dec.{eqb}
 use Rattle.rules.specs.State.{Limits}
 use Rattle.rules.specs.Schedule.{Flags}
 
@@ -13,6 +13,7 @@ pub data Request : Type 0 where
   add-node : (parent type : ℕ) → Request
   place-cpu : (node cpu : ℕ) → Request
   seal : Request
+  set-shortest : (ticks : ℕ) → Request
   declare-thread : (thread class value : ℕ) (pin : Option ℕ) → Request
   set-tick : (tick : ℕ) → Request
   schedule-thread : (cpu thread : ℕ) → Request
@@ -58,6 +59,7 @@ widths l byte =
     (cond (eqb byte 0x02) (some (l .node-bytes ∷ 1 ∷ []))
     (cond (eqb byte 0x03) (some (l .node-bytes ∷ l .cpu-bytes ∷ []))
     (cond (eqb byte 0x04) (some [])
+    (cond (eqb byte 0x05) (some (1 ∷ []))
     (cond (eqb byte 0x10) (some (2 ∷ 1 ∷ 1 ∷ l .cpu-bytes ∷ []))
     (cond (eqb byte 0x11) (some (8 ∷ []))
     (cond (eqb byte 0x12) (some (l .cpu-bytes ∷ 2 ∷ []))
@@ -68,7 +70,7 @@ widths l byte =
     (cond (eqb byte 0x17) (some (l .cpu-bytes ∷ []))
     (cond (eqb byte 0x18) (some (l .cpu-bytes ∷ 2 ∷ 1 ∷ 1 ∷ []))
     (cond (eqb byte 0x19) (some (2 ∷ []))
-    (cond (eqb byte 0x1a) (some (2 ∷ 1 ∷ [])) none))))))))))))))
+    (cond (eqb byte 0x1a) (some (2 ∷ 1 ∷ [])) none)))))))))))))))
 
 -- the row of a byte, and another list where the byte is not in the table
 unfoldable pub widths-or : List ℕ → Option (List ℕ) → List ℕ
@@ -100,6 +102,7 @@ request l byte v =
     (cond (eqb byte 0x02) (add-node (nth 0 v) (nth 1 v))
     (cond (eqb byte 0x03) (place-cpu (nth 0 v) (nth 1 v))
     (cond (eqb byte 0x04) seal
+    (cond (eqb byte 0x05) (set-shortest (nth 0 v))
     (cond (eqb byte 0x10) (declare-thread (nth 0 v) (nth 1 v) (nth 2 v) (pin-of l (nth 3 v)))
     (cond (eqb byte 0x11) (set-tick (nth 0 v))
     (cond (eqb byte 0x12) (schedule-thread (nth 0 v) (nth 1 v))
@@ -109,7 +112,7 @@ request l byte v =
     (cond (eqb byte 0x16) (resched (nth 0 v))
     (cond (eqb byte 0x17) (maybe-preempt (nth 0 v))
     (cond (eqb byte 0x18) (donate (nth 0 v) (nth 1 v) (nth 2 v) (nth 3 v))
-    (cond (eqb byte 0x19) (remove-donation (nth 0 v)) (set-critical (nth 0 v) (nth 1 v)))))))))))))))
+    (cond (eqb byte 0x19) (remove-donation (nth 0 v)) (set-critical (nth 0 v) (nth 1 v))))))))))))))))
 
 -- What a call's bytes say: no command, a command cut short, or a request and how many bytes it takes. Bytes past the operands are not looked at.
 pub data Reading : Type 0 where

@@ -7,7 +7,7 @@ use lib.Dec.{eqb}
 use Rattle.rules.specs.declared.PriorityClass.the-variants as class
 use Rattle.rules.specs.declared.Priority.{Priority}
 use Rattle.rules.specs.Line.{has}
-use Rattle.rules.specs.Priority.{priority, effective}
+use Rattle.rules.specs.Priority.{priority}
 use Rattle.rules.specs.Times.{Thread}
 use Rattle.rules.specs.Queue.{Queue, no-queue, order}
 
@@ -38,7 +38,8 @@ is-number x (some y) = eqb y x
 
 -- ---- limits
 
--- How many CPUs, nodes and threads there may be, how many bytes an operand has that names a CPU or a node, and the shortest User timeslice.
+-- How many CPUs, nodes and threads there may be, how many bytes an operand has that names a CPU or a node; and a setting, the shortest User timeslice, which hex 05
+-- changes before the seal.
 pub record Limits : Type 0 where
   pub cpus : ℕ
   pub nodes : ℕ
@@ -47,8 +48,13 @@ pub record Limits : Type 0 where
   pub node-bytes : ℕ
   pub shortest : ℕ
 
+-- 2026-07: "unset it is 2"
 unfoldable pub base-limits : Limits
 base-limits = record { cpus = 64; nodes = 128; threads = 1024; cpu-bytes = 1; node-bytes = 1; shortest = 2 }
+
+-- the limits with another shortest timeslice
+unfoldable pub with-shortest : Limits → ℕ → Limits
+with-shortest l n = record { cpus = l .cpus; nodes = l .nodes; threads = l .threads; cpu-bytes = l .cpu-bytes; node-bytes = l .node-bytes; shortest = n }
 
 -- ---- topology
 

@@ -8,8 +8,8 @@ use Rattle.rules.specs.declared.PriorityClass.the-variants as class
 use Rattle.rules.specs.declared.Priority.{Priority}
 use Rattle.rules.specs.Priority.{effective}
 
--- "User timeslice: 100 at timeshare load 0, else 32 / load rounded down, at least 2; others 100."
--- The least, 2, is the argument `shortest`.
+-- "User timeslice: 100 at timeshare load 0, else 32 / load rounded down, at least 2; others 100." 2026-07: the least is a setting, "2 to 32; unset it is 2", here
+-- the argument `shortest`. "Timeslices at timeshare load 0 are still 100."
 unfoldable pub timeslice : ℕ → PriorityClass → ℕ → ℕ
 timeslice shortest class.User load = cond (eqb load 0) 100 (cond (ltb (32 / load) shortest) shortest (32 / load))
 timeslice shortest class.Realtime load = 100

@@ -8,7 +8,7 @@ use lib.ListN.{length, getD}
 use lib.Seq.{sets}
 use lib.Dec.{eqb, ltb, leb}
 use Rattle.rules.specs.State.{Limits}
-use Rattle.rules.specs.Requests.{Request, declare-cpu, add-node, place-cpu, seal, declare-thread, set-tick, schedule-thread, schedule, hardtick, stattick, resched, maybe-preempt, donate, remove-donation, set-critical, widths, widths-or, request}
+use Rattle.rules.specs.Requests.{Request, declare-cpu, add-node, place-cpu, seal, set-shortest, declare-thread, set-tick, schedule-thread, schedule, hardtick, stattick, resched, maybe-preempt, donate, remove-donation, set-critical, widths, widths-or, request}
 use Rattle.rules.specs.Questions.{Question, question, first-no, in-range}
 
 -- ---- the bytes
@@ -54,6 +54,7 @@ names-node (declare-cpu c) = false
 names-node (add-node p k) = true
 names-node (place-cpu n c) = true
 names-node seal = false
+names-node (set-shortest n) = false
 names-node (declare-thread x k v pin) = false
 names-node (set-tick t) = false
 names-node (schedule-thread c x) = false

@@ -13,13 +13,14 @@ use Rattle.rules.specs.Priority.{nr-values, priority, class-at}
 use Rattle.rules.specs.Times.{Thread, pinned, donated-to, critical-at}
 use Rattle.rules.specs.Queue.{no-queue, order}
 use Rattle.rules.specs.Puts.{PutOrTake}
-use Rattle.rules.specs.State.{at, any-below, is-number, Limits, Topology, State, start, new-thread, new-cpu, idle-priority, runs-on, waits-on, blocked}
+use Rattle.rules.specs.State.{at, any-below, is-number, Limits, with-shortest, Topology, State, start, new-thread, new-cpu, idle-priority, runs-on, waits-on, blocked}
 use Rattle.rules.specs.Schedule.{World}
-use Rattle.rules.specs.Requests.{Request, declare-cpu, add-node, place-cpu, seal, declare-thread, set-tick, schedule-thread, schedule, hardtick, stattick, resched, maybe-preempt, donate, remove-donation, set-critical, Reading, unknown, cut-short, asks, read, flags-of}
+use Rattle.rules.specs.Requests.{Request, declare-cpu, add-node, place-cpu, seal, set-shortest, declare-thread, set-tick, schedule-thread, schedule, hardtick, stattick, resched, maybe-preempt, donate, remove-donation, set-critical, Reading, unknown, cut-short, asks, read, flags-of}
 use Rattle.rules.specs.Questions.{Question, question, sealed-now, declared, cpu-declared, pin-declared, thread-declared, thread-new, priority-in-range, thread-blocked, concerning, first-no, room, refusal}
-use Rattle.rules.specs.Commands.{Answer, no-log, refuses, changed, world-of, ran, scheduled-on, schedules, ran-on, obeys, answered, step, after-calls, history}
+use Rattle.rules.specs.Commands.{Answer, no-log, refuses, changed, world-of, ran, shortened, scheduled-on, schedules, ran-on, obeys, answered, step, after-calls, history}
 use Rattle.rules.specs.Ahead.{waiting, who-waits, In}
 use Rattle.rules.specs.Laws.Effect.{and-left, and-right, start-order}
+use Rattle.rules.specs.Laws.Limits.{Same-but-shortest, same-limits, then-same}
 use Rattle.rules.specs.Laws.Kept.{Kept, kept-start, in-threads, or-both}
 use Rattle.rules.specs.Waits.{Under}
 use Rattle.rules.specs.Laws.Sound.{Valued, Mild, alike-donated, alike-critical, at-keeps, Sound, Same, sound-same, New, not-true-is}
@@ -186,6 +187,23 @@ reached-declared {H} {s} x t r h n m = reached-changed (s .topology) (s .sealed)
     (λ y k. both (eqb y x) (λ e. absurd (true≢false (sym k ∙ rw (eqb-true y x e) n))) (λ e. rw e))
     (λ y. both (eqb y x) (λ e. rw e m) (λ e. rw e (r .sound .mild y)))
 
+-- a setting that this does not speak of
+reached-shortened : {H : ℕ → List PutOrTake} {s : State} (n : ℕ) → Reached H s → Reached H (shortened s n)
+unfolding shortened with-shortest world-of
+reached-shortened n r = record {
+  numbered = r .numbered;
+  sound = record {
+    kept = r .sound .kept;
+    pins = r .sound .pins;
+    mild = λ x. let m = r .sound .mild x in record { own = m .own; donated = m .donated; pin = m .pin; last = m .last };
+    alone = r .sound .alone;
+    placed = r .sound .placed;
+    free = r .sound .free;
+    one = r .sound .one;
+    runs = r .sound .runs;
+  };
+}
+
 pub pin-in : (s : State) (p : Option ℕ) (l : List Question) → first-no (pin-declared s p ∷ l) ≡ 0 → Under (s .limits .cpus) p × (first-no l ≡ 0)
 unfolding pin-declared cpu-declared Under
 pin-in s none l e = (tt, yes 3 true l e .1)
@@ -223,11 +241,12 @@ module _ {H : ℕ → List PutOrTake} {s : State} (r : Reached H s) where
       reached-ran _ _ r (ok-donate (s .limits) (s .topology) (s .tick) c (s .known) (r .numbered) H (a .0) (world-of s) x (priority (class-at k) v) (value-below k v _ (b .1)) (r .sound))
 
   goes : (q : Request) → Goes q
-  unfolding concerning obeys ran-on donated-to critical-at pinned world-of Valued
+  unfolding concerning obeys ran-on shortened donated-to critical-at pinned world-of Valued
   goes (declare-cpu c) e = reached-as-it-was _ _ _ r
   goes (add-node p k) e = reached-as-it-was _ _ _ r
   goes (place-cpu n c) e = reached-as-it-was _ _ _ r
   goes seal e = reached-as-it-was _ _ _ r
+  goes (set-shortest n) e = reached-as-it-was _ _ _ (reached-shortened n r)
   goes (declare-thread x k v p) e = thread-goes x k v p e
   goes (set-tick t) e = reached-as-it-was _ _ _ r
   goes (schedule-thread c x) e = schedule-thread-goes c x e
@@ -268,21 +287,22 @@ reached-calls {H} {s} (bytes ∷ calls) r =
     subst (λ (L : ℕ → List PutOrTake). Reached L (after-calls (step s bytes .state) calls))
     (λ i c. append-assoc (H c) (step s bytes .log c) (history (step s bytes .state) calls c) i) (reached-calls calls (reached-step bytes r))
 
--- no call changes the limits
+-- no call changes a limit but the shortest timeslice
 limits-on : (s : State) (us x : ℕ) (w : World) (o : Option ℕ) → scheduled-on s us x w o .state .limits ≡ s .limits
 unfolding scheduled-on ran
 limits-on s us x w none = refl
 limits-on s us x w (some c) = refl
 
-limits-obeyed : (s : State) (q : Request) → obeys s q .state .limits ≡ s .limits
-unfolding obeys changed ran-on ran schedules
+limits-obeyed : (s : State) (q : Request) → Same-but-shortest (s .limits) (obeys s q .state .limits)
+unfolding obeys changed ran-on ran schedules shortened with-shortest
 limits-obeyed s (declare-cpu c) = refl
 limits-obeyed s (add-node p k) = refl
 limits-obeyed s (place-cpu n c) = refl
 limits-obeyed s seal = refl
+limits-obeyed s (set-shortest n) = refl
 limits-obeyed s (declare-thread x k v p) = refl
 limits-obeyed s (set-tick t) = refl
-limits-obeyed s (schedule-thread c x) = limits-on s c x _ _
+limits-obeyed s (schedule-thread c x) = same-limits (limits-on s c x _ _)
 limits-obeyed s (schedule c f) = refl
 limits-obeyed s (hardtick c) = refl
 limits-obeyed s (stattick c n) = refl
@@ -292,19 +312,20 @@ limits-obeyed s (donate c x k v) = refl
 limits-obeyed s (remove-donation x) = refl
 limits-obeyed s (set-critical x m) = refl
 
-limits-answered : (s : State) (q : Reading) → answered s q .state .limits ≡ s .limits
-unfolding answered refuses
+limits-answered : (s : State) (q : Reading) → Same-but-shortest (s .limits) (answered s q .state .limits)
+unfolding answered refuses with-shortest
 limits-answered s unknown = refl
 limits-answered s cut-short = refl
 limits-answered s (asks q used) = both (eqb (refusal s (asks q used)) 0) (λ e. rw e (limits-obeyed s q)) (λ e. rw e)
 
-pub limits-kept : (s : State) (calls : List (List ℕ)) → after-calls s calls .limits ≡ s .limits
-unfolding after-calls step
+pub limits-kept : (s : State) (calls : List (List ℕ)) → Same-but-shortest (s .limits) (after-calls s calls .limits)
+unfolding after-calls step with-shortest
 limits-kept s [] = refl
-limits-kept s (bytes ∷ calls) = limits-kept (step s bytes .state) calls ∙ limits-answered s (read (s .limits) bytes)
+limits-kept s (bytes ∷ calls) =
+    then-same (s .limits) (step s bytes .state .limits) (after-calls (step s bytes .state) calls .limits) (limits-answered s (read (s .limits) bytes)) (limits-kept (step s bytes .state) calls)
 
 pub kept-calls : (limits : Limits) (calls : List (List ℕ)) (c : ℕ) → Kept (limits .threads) (after-calls (start limits) calls .cpus c .queue) (history (start limits) calls c)
-unfolding no-log world-of start
+unfolding no-log world-of start with-shortest
 kept-calls limits calls c =
     let s : State = after-calls (start limits) calls in
     let l : List PutOrTake = history (start limits) calls c in

@@ -9,7 +9,7 @@ use borrow.Author.Tests.{eqb-true}
 use Rattle.rules.specs.Laws.Line.{both}
 use Rattle.rules.specs.State.{State}
 use Rattle.rules.specs.Schedule.{World}
-use Rattle.rules.specs.Requests.{Request, declare-cpu, add-node, place-cpu, seal, declare-thread, set-tick, schedule-thread, schedule, hardtick, stattick, resched, maybe-preempt, donate, remove-donation, set-critical, Reading, unknown, cut-short, asks, read}
+use Rattle.rules.specs.Requests.{Request, declare-cpu, add-node, place-cpu, seal, set-shortest, declare-thread, set-tick, schedule-thread, schedule, hardtick, stattick, resched, maybe-preempt, donate, remove-donation, set-critical, Reading, unknown, cut-short, asks, read}
 use Rattle.rules.specs.Questions.{refusal}
 use Rattle.rules.specs.Commands.{nothing-shown, shown, no-log, refuses, changed, ran, scheduled-on, schedules, ran-on, obeys, answered, step}
 
@@ -24,6 +24,7 @@ obeyed s (declare-cpu c) = refl
 obeyed s (add-node p k) = refl
 obeyed s (place-cpu n c) = refl
 obeyed s seal = refl
+obeyed s (set-shortest n) = refl
 obeyed s (declare-thread x k v p) = refl
 obeyed s (set-tick t) = refl
 obeyed s (schedule-thread c x) = obeyed-on s c x _ _
@@ -36,7 +37,7 @@ obeyed s (donate c x k v) = refl
 obeyed s (remove-donation x) = refl
 obeyed s (set-critical x m) = refl
 
-answered-number : (s : State) (q : Reading) → answered s q .answer .refused ≡ refusal s q
+pub answered-number : (s : State) (q : Reading) → answered s q .answer .refused ≡ refusal s q
 unfolding answered refuses nothing-shown refusal
 answered-number s unknown = refl
 answered-number s cut-short = refl
