@@ -1,8 +1,8 @@
 -- What one command does to lent memory: the thread records, the words of the CPUs and of the nodes, and the state.
 use Prim.Native.Nat.{ℕ}
-use mathlib.Core.Bool.{Bool, cond, not}
+use mathlib.Core.Bool.{cond, not}
 use mathlib.Core.List.{List}
-use lib.Dec.{eqb, leb}
+use lib.Dec.{eqb, ltb}
 use lib.ListN.{getD, set}
 use Rattle.thread.specs.declared.Thread.{Thread}
 use Rattle.thread.specs.Thread.{blank}
@@ -80,7 +80,7 @@ by-prepared ts p = record { answer = p .outcome; memory = record { threads = ts;
 
 unfoldable pub obey-def : State → Call → Lent → Left Answered Lent
 obey-def s k w =
-    cond (leb (k .kind) 4) (by-prepared (w .threads) (prepares (w .cpus) (w .nodes) s k))
+    cond (ltb (k .kind) 0x10) (by-prepared (w .threads) (prepares (w .cpus) (w .nodes) s k))
     (cond (eqb (k .kind) 0x10) (in-threads w (declare-thread-command s k (w .threads)))
     (cond (eqb (k .kind) 0x11) (kept w (changed (ticked s (k .number)) (k .used)))
     (cond (eqb (k .kind) 0x12) (in-memory w (schedule-thread-command s k (w .nodes) (memory-of w)))

@@ -35,6 +35,9 @@ use sched_ticks::ticks::schedule_resched;
 use thread::Thread;
 use topology::words::NodeWords;
 
+// Commands whose byte is below this one come before the seal.
+const FIRST_AFTER_SEAL: u64 = 0x10;
+
 // A command that shows nothing.
 fn done(state: State, call: Call) -> Answered
     ensures { λ r. ⌜ r ≡ changed state (call .used) ⌝ }
@@ -190,7 +193,7 @@ pub fn obey(
     ensures { λ r. ⌜ leaves-all (obey-def state call) r threads cpus nodes ⌝ }
 {
     let kind = call.kind;
-    if kind <= 4 {
+    if kind < FIRST_AFTER_SEAL {
         return prepare(cpus, nodes, state, call);
     }
     if kind == 0x10 {

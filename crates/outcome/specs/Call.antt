@@ -38,6 +38,7 @@ request-back (rules.declare-cpu c) = req.DeclareCpu c
 request-back (rules.add-node p k) = req.AddNode p k
 request-back (rules.place-cpu n c) = req.PlaceCpu n c
 request-back rules.seal = req.Seal
+request-back (rules.set-shortest n) = req.SetShortest n
 request-back (rules.declare-thread x k v p) = req.DeclareThread x k v (pin-back p)
 request-back (rules.set-tick t) = req.SetTick t
 request-back (rules.schedule-thread c x) = req.ScheduleThread c x
@@ -89,6 +90,7 @@ call-of (rules.declare-cpu c) used = call-in 0x01 c NONE 0 0 0 0 0 used
 call-of (rules.add-node p k) used = call-in 0x02 0 NONE p k 0 0 0 used
 call-of (rules.place-cpu n c) used = call-in 0x03 c NONE n 0 0 0 0 used
 call-of rules.seal used = call-in 0x04 0 NONE 0 0 0 0 0 used
+call-of (rules.set-shortest n) used = call-in 0x05 0 NONE 0 n 0 0 0 used
 call-of (rules.declare-thread x k v p) used = call-in 0x10 0 x 0 0 k v (pin-number p) used
 call-of (rules.set-tick t) used = call-in 0x11 0 NONE 0 t 0 0 0 used
 call-of (rules.schedule-thread c x) used = call-in 0x12 c x 0 0 0 0 0 used
@@ -143,6 +145,18 @@ sealed-now s = record {
   «node_count» = s .«node_count»;
 }
 
+unfoldable pub with-shortest : State → ℕ → State
+with-shortest s ticks = record {
+  cpus = s .cpus;
+  nodes = s .nodes;
+  shortest = ticks;
+  wide = s .wide;
+  tick = s .tick;
+  sealed = s .sealed;
+  accepted = s .accepted;
+  «node_count» = s .«node_count»;
+}
+
 unfoldable pub one-node-more : State → State
 one-node-more s = record {
   cpus = s .cpus;
@@ -168,6 +182,7 @@ request-again (req.DeclareCpu c) = refl
 request-again (req.AddNode p k) = refl
 request-again (req.PlaceCpu n c) = refl
 request-again req.Seal = refl
+request-again (req.SetShortest n) = refl
 request-again (req.DeclareThread x k v p) = rw pin-again
 request-again (req.SetTick t) = refl
 request-again (req.ScheduleThread c x) = refl

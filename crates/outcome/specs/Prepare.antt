@@ -10,7 +10,7 @@ use Rattle.processor.specs.Word.{DECLARED, PLACED}
 use Rattle.outcome.specs.declared.answer.Answered.{Answered}
 use Rattle.outcome.specs.declared.call.Call.{Call}
 use Rattle.outcome.specs.Answer.{changed}
-use Rattle.outcome.specs.Call.{sealed-now, one-node-more}
+use Rattle.outcome.specs.Call.{sealed-now, with-shortest, one-node-more}
 
 pub record Prepared : Type 0 where
   pub outcome : Answered
@@ -25,4 +25,6 @@ prepares cs ns s k =
     (record { outcome = changed (one-node-more s) (k .used); cpus = cs; nodes = add-child ns (s .«node_count») (k .node) (k .number) })
     (cond (eqb (k .kind) 0x03)
     (record { outcome = changed s (k .used); cpus = put-word cs (k .cpu) PLACED (k .node); nodes = set-cpu ns (k .node) (k .cpu) })
-    (record { outcome = changed (sealed-now s) (k .used); cpus = cs; nodes = ns })))
+    (cond (eqb (k .kind) 0x04)
+    (record { outcome = changed (sealed-now s) (k .used); cpus = cs; nodes = ns })
+    (record { outcome = changed (with-shortest s (k .number)) (k .used); cpus = cs; nodes = ns }))))

@@ -5,7 +5,7 @@ ghost use lib.Dec.{eqb};
 ghost use Rattle.request.specs.Request.{pin-option, request-of, reading-of};
 ghost use Rattle.lines.specs.Lines.{refusal-number};
 ghost use Rattle.questions.specs.Questions.{refusal-in};
-ghost use Rattle.outcome.specs.Call.{asked-def, refusal-back, pin-number, call-in, call-of, call-read, priority-in, context-of, flags-in, ticked, sealed-now, one-node-more};
+ghost use Rattle.outcome.specs.Call.{asked-def, refusal-back, pin-number, call-in, call-of, call-read, priority-in, context-of, flags-in, ticked, sealed-now, with-shortest, one-node-more};
 use lines::Refusal;
 use lines::refusal_number;
 use processor::words::CpuWords;
@@ -25,8 +25,8 @@ use topology::cpuset::MAX_CPU_ID;
 use topology::node::lesser;
 use topology::words::NodeWords;
 
-// The command byte; the CPU, thread and node that are named; a number: type, tick, flags, nanoseconds or mark; class, value and pin; and the bytes that
-// the command takes. What a command does not name is 0, a thread NONE.
+// The command byte; the CPU, thread and node that are named; a number: type, shortest timeslice, tick, flags, nanoseconds or mark; class, value and pin; and the
+// bytes that the command takes. What a command does not name is 0, a thread NONE.
 pub struct Call {
     pub kind: u64,
     pub cpu: u64,
@@ -125,6 +125,7 @@ fn numbers(request: Request, used: usize) -> Call
         Request::AddNode { parent, kind } => plain(0x02, 0, NONE, parent, kind, used),
         Request::PlaceCpu { node, cpu } => plain(0x03, cpu, NONE, node, 0, used),
         Request::Seal => plain(0x04, 0, NONE, 0, 0, used),
+        Request::SetShortest { ticks } => plain(0x05, 0, NONE, 0, ticks, used),
         Request::DeclareThread {
             thread,
             class,
@@ -205,6 +206,13 @@ pub fn sealed(mut state: State) -> State
     ensures { λ r. ⌜ r ≡ sealed-now state ⌝ }
 {
     state.sealed = true;
+    state
+}
+
+pub fn with_shortest(mut state: State, ticks: u64) -> State
+    ensures { λ r. ⌜ r ≡ with-shortest state ticks ⌝ }
+{
+    state.shortest = ticks;
     state
 }
 

@@ -1,16 +1,17 @@
-// The commands before the seal: they change the words of CPUs and nodes alone.
+// The commands before the seal: they change the words of CPUs and nodes, and the state, alone.
 ghost use mathlib.Core.Path.{_≡_};
 ghost use Rattle.processor.specs.Words.{put-word};
 ghost use Rattle.topology.specs.Node.{add-child, set-cpu};
 ghost use Rattle.processor.specs.Word.{DECLARED, PLACED};
 ghost use Rattle.outcome.specs.Answer.{changed};
-ghost use Rattle.outcome.specs.Call.{sealed-now, one-node-more};
+ghost use Rattle.outcome.specs.Call.{sealed-now, with-shortest, one-node-more};
 ghost use Rattle.outcome.specs.Prepare.{prepares};
 use crate::answer::Answered;
 use crate::answer::changed;
 use crate::call::Call;
 use crate::call::one_node_more;
 use crate::call::sealed;
+use crate::call::with_shortest;
 use processor::words::CpuWords;
 use processor::words::DECLARED;
 use processor::words::PLACED;
@@ -49,6 +50,12 @@ fn seal(state: State, call: Call) -> Answered
     changed(sealed(state), call.used)
 }
 
+fn set_shortest(state: State, call: Call) -> Answered
+    ensures { λ r. ⌜ r ≡ changed (with-shortest state (call .number)) (call .used) ⌝ }
+{
+    changed(with_shortest(state, call.number), call.used)
+}
+
 pub fn prepare(cpus: &mut [CpuWords], nodes: &mut [NodeWords], state: State, call: Call) -> Answered
     ensures { λ r.
         ⌜
@@ -61,6 +68,7 @@ pub fn prepare(cpus: &mut [CpuWords], nodes: &mut [NodeWords], state: State, cal
         0x01 => declare_cpu(cpus, state, call),
         0x02 => add_node(nodes, state, call),
         0x03 => place_cpu(cpus, nodes, state, call),
-        _ => seal(state, call),
+        0x04 => seal(state, call),
+        _ => set_shortest(state, call),
     }
 }

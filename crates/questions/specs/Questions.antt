@@ -5,7 +5,7 @@ use mathlib.Core.Bool.{Bool, true, not, _&&_}
 use mathlib.Core.Option.{Option, none, some}
 use mathlib.Core.List.{List, [], _∷_, _++_}
 use lib.Dec.{eqb, ltb, leb}
-use Rattle.rules.specs.Requests.{Request, declare-cpu, add-node, place-cpu, seal, declare-thread, set-tick, schedule-thread, schedule, hardtick, stattick, resched, maybe-preempt, donate, remove-donation, set-critical, Reading, unknown, cut-short, asks}
+use Rattle.rules.specs.Requests.{Request, declare-cpu, add-node, place-cpu, seal, set-shortest, declare-thread, set-tick, schedule-thread, schedule, hardtick, stattick, resched, maybe-preempt, donate, remove-donation, set-critical, Reading, unknown, cut-short, asks}
 use Rattle.rules.specs.Questions as rules
 use Rattle.rules.specs.Questions.{Question, question, in-range, first-no, most-accepted}
 use Rattle.thread.specs.declared.Thread.{Thread}
@@ -94,6 +94,7 @@ concerning cs ns s t (declare-cpu c) = open-yet s ∷ cpu-new cs s c ∷ []
 concerning cs ns s t (add-node p k) = open-yet s ∷ in-range (add-node p k) ∷ node-exists s p ∷ parent-without-cpus ns p ∷ node-fits s ∷ []
 concerning cs ns s t (place-cpu n c) = open-yet s ∷ cpu-unplaced cs s c ∷ node-exists s n ∷ node-childless ns n ∷ []
 concerning cs ns s t seal = open-yet s ∷ all-placed cs s ∷ []
+concerning cs ns s t (set-shortest n) = open-yet s ∷ in-range (set-shortest n) ∷ []
 concerning cs ns s t (declare-thread x k v pin) = sealed-now s ∷ pin-declared cs s pin ∷ thread-new x t ∷ in-range (declare-thread x k v pin) ∷ []
 concerning cs ns s t (set-tick n) = sealed-now s ∷ tick-fits s n ∷ []
 concerning cs ns s t (schedule-thread c x) = sealed-now s ∷ cpu-declared cs s c ∷ thread-declared t ∷ thread-blocked t ∷ []

@@ -96,6 +96,19 @@ fn seal(cpus: &[CpuWords], state: State) -> Refusal
     Refusal::NotPlaced
 }
 
+// Of a setting, which is in range or not.
+fn setting(state: State, ranges: bool) -> Refusal
+    ensures { λ r. ⌜ refusal-number r ≡ first-no (open-yet state ∷ question 6 ranges ∷ room state ∷ []) ⌝ }
+{
+    if state.sealed {
+        return Refusal::WrongSideOfSeal;
+    }
+    if ranges {
+        return last(state);
+    }
+    Refusal::OutOfRange
+}
+
 // Is thread x new, whose record is t?
 fn thread_new(x: u64, t: Thread) -> bool
     ensures { λ r. ⌜ r ≡ thread-new x t .answer ⌝ }
@@ -230,6 +243,7 @@ fn asked(
         Request::AddNode { parent, kind: _ } => add_node(nodes, state, parent, ranges),
         Request::PlaceCpu { node, cpu } => place_cpu(cpus, nodes, state, node, cpu),
         Request::Seal => seal(cpus, state),
+        Request::SetShortest { ticks: _ } => setting(state, ranges),
         Request::DeclareThread {
             thread,
             class: _,

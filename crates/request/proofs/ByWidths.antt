@@ -1,19 +1,20 @@
 -- Operands read by their widths, four at a time.
-use Prim.Native.Nat.{ℕ, zero, suc, _<_, _≤_}
-use mathlib.Core.Path.{_≡_, refl, ap}
-use mathlib.Core.Bool.{Bool, true, false, cond, _&&_, _||_}
+use Prim.Native.Nat.{ℕ, zero, suc, _<_}
+use mathlib.Core.Path.{_≡_, refl, sym, ap}
+use mathlib.Core.Bool.{Bool, true, false, _&&_, _||_}
 use mathlib.Core.List.{List, [], _∷_}
 use lib.Dec.{eqb}
 use lib.ListN.{length}
 use Rattle.rules.specs.Laws.Below.{all-below, at-below}
 use Rattle.rules.specs.Laws.Line.{both}
 use Rattle.rules.specs.State.{Limits}
-use Rattle.rules.specs.Requests.{Request, set-critical, operand, past, operands, nth, request, widths, widths-or}
+use Rattle.rules.specs.Requests.{Request, operand, past, operands, nth, widths, widths-or}
 use Rattle.rules.specs.Questions.{at-most, in-range}
 use Rattle.rules.specs.Writer.{row as rules-row, ranges}
 use Rattle.request.specs.Request.{width, limits-of}
 use Rattle.request.specs.Fields.{widths-list, four, row, operand-of}
 use Rattle.request.specs.declared.fields.Widths.{Widths}
+use Rattle.request.proofs.Table.{Apart, but-last, last-request}
 
 -- a width that an operand can have
 unfoldable pub plain : ℕ → Bool
@@ -118,19 +119,13 @@ module _ (w : Widths) (ns : List ℕ) (e : widths-list w ≡ four ns) where
   unfolding widths-list four nth
   fourth-width = ap (nth 3) e
 
-last-request : (l : Limits) (byte : ℕ) (vs : List ℕ) → eqb byte 0x01 ≡ false → eqb byte 0x02 ≡ false → eqb byte 0x03 ≡ false → eqb byte 0x04 ≡ false → eqb byte 0x10 ≡ false → eqb byte 0x11 ≡ false → eqb byte 0x12 ≡ false → eqb byte 0x13 ≡ false → eqb byte 0x14 ≡ false → eqb byte 0x15 ≡ false → eqb byte 0x16 ≡ false → eqb byte 0x17 ≡ false → eqb byte 0x18 ≡ false → eqb byte 0x19 ≡ false
-    → request l byte vs ≡ set-critical (nth 0 vs) (nth 1 vs)
-unfolding request
-last-request l byte vs h₀ h₁ h₂ h₃ h₄ h₅ h₆ h₇ h₈ h₉ i₀ i₁ i₂ i₃ = rw (h₀, h₁, h₂, h₃, h₄, h₅, h₆, h₇, h₈, h₉, i₀, i₁, i₂, i₃)
-
--- every other byte is asked as hex 1A
-pub last-ranges : (l : Limits) (byte : ℕ) (vs : List ℕ) → eqb byte 0x01 ≡ false → eqb byte 0x02 ≡ false → eqb byte 0x03 ≡ false → eqb byte 0x04 ≡ false → eqb byte 0x10 ≡ false → eqb byte 0x11 ≡ false → eqb byte 0x12 ≡ false → eqb byte 0x13 ≡ false → eqb byte 0x14 ≡ false → eqb byte 0x15 ≡ false → eqb byte 0x16 ≡ false → eqb byte 0x17 ≡ false → eqb byte 0x18 ≡ false → eqb byte 0x19 ≡ false
-    → ranges l byte vs ≡ at-most 1 (nth 1 vs) .answer
+-- every byte but those tried is asked as hex 1A
+pub last-ranges : (l : Limits) (A : Type 0) (byte : ℕ) (vs : List ℕ) → Apart A byte but-last → at-most 1 (nth 1 vs) .answer ≡ ranges l byte vs
 unfolding ranges
-last-ranges l byte vs h₀ h₁ h₂ h₃ h₄ h₅ h₆ h₇ h₈ h₉ i₀ i₁ i₂ i₃ = ap (λ (r : Request). in-range r .answer) (last-request l byte vs h₀ h₁ h₂ h₃ h₄ h₅ h₆ h₇ h₈ h₉ i₀ i₁ i₂ i₃)
+last-ranges l A byte vs h = sym (ap (λ (r : Request). in-range r .answer) (last-request l A byte h vs))
 
 -- A command has as many fields in one form of the stream as in the other.
 pub rows-alike : (wide : Bool) (byte : ℕ) → length (row false byte) ≡ length (row wide byte)
 unfolding row rules-row widths-or widths limits-of
 rows-alike false byte = refl
-rows-alike true byte = both (eqb byte 0x01) (λ e. rw e) (λ e. rw e (both (eqb byte 0x02) (λ e. rw e) (λ e. rw e (both (eqb byte 0x03) (λ e. rw e) (λ e. rw e (both (eqb byte 0x04) (λ e. rw e) (λ e. rw e (both (eqb byte 0x10) (λ e. rw e) (λ e. rw e (both (eqb byte 0x11) (λ e. rw e) (λ e. rw e (both (eqb byte 0x12) (λ e. rw e) (λ e. rw e (both (eqb byte 0x13) (λ e. rw e) (λ e. rw e (both (eqb byte 0x14) (λ e. rw e) (λ e. rw e (both (eqb byte 0x15) (λ e. rw e) (λ e. rw e (both (eqb byte 0x16) (λ e. rw e) (λ e. rw e (both (eqb byte 0x17) (λ e. rw e) (λ e. rw e (both (eqb byte 0x18) (λ e. rw e) (λ e. rw e (both (eqb byte 0x19) (λ e. rw e) (λ e. rw e (both (eqb byte 0x1a) (λ e. rw e) (λ e. rw e)))))))))))))))))))))))))))))
+rows-alike true byte = both (eqb byte 0x01) (λ e. rw e) (λ e. rw e (both (eqb byte 0x02) (λ e. rw e) (λ e. rw e (both (eqb byte 0x03) (λ e. rw e) (λ e. rw e (both (eqb byte 0x04) (λ e. rw e) (λ e. rw e (both (eqb byte 0x05) (λ e. rw e) (λ e. rw e (both (eqb byte 0x10) (λ e. rw e) (λ e. rw e (both (eqb byte 0x11) (λ e. rw e) (λ e. rw e (both (eqb byte 0x12) (λ e. rw e) (λ e. rw e (both (eqb byte 0x13) (λ e. rw e) (λ e. rw e (both (eqb byte 0x14) (λ e. rw e) (λ e. rw e (both (eqb byte 0x15) (λ e. rw e) (λ e. rw e (both (eqb byte 0x16) (λ e. rw e) (λ e. rw e (both (eqb byte 0x17) (λ e. rw e) (λ e. rw e (both (eqb byte 0x18) (λ e. rw e) (λ e. rw e (both (eqb byte 0x19) (λ e. rw e) (λ e. rw e (both (eqb byte 0x1a) (λ e. rw e) (λ e. rw e)))))))))))))))))))))))))))))))

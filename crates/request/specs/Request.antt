@@ -1,6 +1,6 @@
 -- What the declared requests stand for, and reading by parts.
-use Prim.Native.Nat.{ℕ, zero, suc, _+_}
-use mathlib.Core.Bool.{Bool, true, false, cond}
+use Prim.Native.Nat.{ℕ, _+_}
+use mathlib.Core.Bool.{Bool, cond}
 use mathlib.Core.Option.{Option, none, some}
 use mathlib.Core.List.{List, [], _∷_}
 use Rattle.rules.specs.State.{Limits, base-limits}
@@ -25,6 +25,7 @@ request-of (req.DeclareCpu c) = rules.declare-cpu c
 request-of (req.AddNode p k) = rules.add-node p k
 request-of (req.PlaceCpu n c) = rules.place-cpu n c
 request-of req.Seal = rules.seal
+request-of (req.SetShortest n) = rules.set-shortest n
 request-of (req.DeclareThread x k v p) = rules.declare-thread x k v (pin-option p)
 request-of (req.SetTick t) = rules.set-tick t
 request-of (req.ScheduleThread c x) = rules.schedule-thread c x

@@ -15,6 +15,7 @@ use crate::eight;
 use crate::four;
 use crate::one;
 use crate::priority_in_range;
+use crate::shortest_in_range;
 use crate::skip;
 use crate::two;
 use crate::width;
@@ -57,6 +58,7 @@ pub fn widths_of(byte: u8, wide: bool) -> Widths
         0x02 => widths_in(n, 1, 0, 0),
         0x03 => widths_in(n, n, 0, 0),
         0x04 => widths_in(0, 0, 0, 0),
+        0x05 => widths_in(1, 0, 0, 0),
         0x10 => widths_in(2, 1, 1, n),
         0x11 => widths_in(8, 0, 0, 0),
         0x12 => widths_in(n, 2, 0, 0),
@@ -81,6 +83,7 @@ pub fn field_count(byte: u8) -> usize
         0x02 => 2,
         0x03 => 2,
         0x04 => 0,
+        0x05 => 1,
         0x10 => 4,
         0x11 => 1,
         0x12 => 2,
@@ -105,6 +108,7 @@ pub fn ranges(byte: u8, fields: Fields, wide: bool) -> bool
         0x02 => at_most(MOST_TYPE, fields.second),
         0x03 => true,
         0x04 => true,
+        0x05 => shortest_in_range(fields.first),
         0x10 => priority_in_range(fields.second, fields.third),
         0x11 => true,
         0x12 => true,

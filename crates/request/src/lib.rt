@@ -4,7 +4,7 @@ pub mod fields;
 ghost use mathlib.Core.Path.{_≡_};
 ghost use lib.ListN.{length, drop};
 ghost use Rattle.rules.specs.Requests.{operand, past, read, pin-of};
-ghost use Rattle.rules.specs.Questions.{at-most, priority-in-range, in-range};
+ghost use Rattle.rules.specs.Questions.{at-most, shortest-in-range, priority-in-range, in-range};
 ghost use Rattle.request.specs.Request.{width, limits-of, all-ones-of, pin-option, request-of, reading-of, length-of, operands-of, asked, taken};
 
 // The largest node type, flags and critical mark.
@@ -13,6 +13,11 @@ pub const MOST_TYPE: u64 = 3;
 pub const MOST_FLAGS: u64 = 7;
 
 pub const MOST_MARK: u64 = 1;
+
+// The least and the most that the shortest User timeslice can be set to.
+pub const LEAST_SHORTEST: u64 = 2;
+
+pub const MOST_SHORTEST: u64 = 32;
 
 pub enum Pin {
     None,
@@ -33,6 +38,9 @@ pub enum Request {
         cpu: u64,
     },
     Seal,
+    SetShortest {
+        ticks: u64,
+    },
     DeclareThread {
         thread: u64,
         class: u64,
@@ -200,6 +208,7 @@ fn length(byte: u8, wide: bool) -> usize
         0x02 => n + 1,
         0x03 => n + n,
         0x04 => 0,
+        0x05 => 1,
         0x10 => 4 + n,
         0x11 => 8,
         0x12 => n + 2,
@@ -220,7 +229,7 @@ pub fn operand_bytes(byte: u8, wide: bool) -> Operands
     ensures { λ r. ⌜ r ≡ operands-of wide byte ⌝ }
 {
     match byte {
-        0x01..=0x04 => Operands::Bytes(length(byte, wide)),
+        0x01..=0x05 => Operands::Bytes(length(byte, wide)),
         0x10..=0x1a => Operands::Bytes(length(byte, wide)),
         _ => Operands::Unknown,
     }
@@ -253,6 +262,14 @@ fn place_cpu(bytes: &[u8], at: usize, wide: bool) -> Request
     Request::PlaceCpu {
         node: name(bytes, at, wide),
         cpu: name(bytes, cpu, wide),
+    }
+}
+
+fn set_shortest(bytes: &[u8], at: usize, wide: bool) -> Request
+    ensures { λ r. ⌜ request-of r ≡ asked wide 0x05 (drop at (now (bytes .entry))) ⌝ }
+{
+    Request::SetShortest {
+        ticks: one(bytes, at),
     }
 }
 
@@ -377,6 +394,7 @@ fn ask(bytes: &[u8], at: usize, byte: u8, wide: bool) -> Request
         0x02 => add_node(bytes, at, wide),
         0x03 => place_cpu(bytes, at, wide),
         0x04 => Request::Seal,
+        0x05 => set_shortest(bytes, at, wide),
         0x10 => declare_thread(bytes, at, wide),
         0x11 => set_tick(bytes, at, wide),
         0x12 => schedule_thread(bytes, at, wide),
@@ -424,6 +442,15 @@ fn at_most(most: u64, n: u64) -> bool
     n <= most
 }
 
+fn shortest_in_range(ticks: u64) -> bool
+    ensures { λ r. ⌜ r ≡ shortest-in-range ticks .answer ⌝ }
+{
+    if LEAST_SHORTEST <= ticks {
+        return ticks <= MOST_SHORTEST;
+    }
+    false
+}
+
 fn priority_in_range(class: u64, value: u64) -> bool
     ensures { λ r. ⌜ r ≡ priority-in-range class value .answer ⌝ }
 {
@@ -442,6 +469,7 @@ pub fn in_range(request: Request) -> bool
         Request::AddNode { parent: _, kind } => at_most(MOST_TYPE, kind),
         Request::PlaceCpu { .. } => true,
         Request::Seal => true,
+        Request::SetShortest { ticks } => shortest_in_range(ticks),
         Request::DeclareThread {
             thread: _,
             class,

@@ -1,5 +1,5 @@
-use Rattle.request.proofs.Table.{last-widths}
-use borrow.Author.Tests.{ne-eqb}
+use mathlib.Core.Path.{_∙_}
+use Rattle.request.proofs.Table.{Apart, last-asked}
 use Rattle.request.specs.Request.{asked, limits-of, request-of}
 use Rattle.rules.specs.Requests.{nth, operands, request, widths, widths-or}
 use borrow.Author.Needs.{needs}
@@ -14,6 +14,9 @@ add-node-requires c κs = search needs
 
 place-cpu-requires : tie.Need-place-cpu-requires
 place-cpu-requires c κs = search needs
+
+set-shortest-requires : tie.Need-set-shortest-requires
+set-shortest-requires c κs = search needs
 
 declare-thread-requires : tie.Need-declare-thread-requires
 declare-thread-requires c κs = search needs
@@ -62,38 +65,41 @@ unfolding asked request widths widths-or limits-of operands nth request-of
 returns-4 c = rw (c .match .keys4)
 
 returns-5 : tie.Need-returns-5
-returns-5 c = rw (c .before .match .keys5) (c .declare-thread .ensures)
+returns-5 c = rw (c .before .match .keys5) (c .set-shortest .ensures)
 
 returns-6 : tie.Need-returns-6
-returns-6 c = rw (c .before .match .keys6) (c .set-tick .ensures)
+returns-6 c = rw (c .before .match .keys6) (c .declare-thread .ensures)
 
 returns-7 : tie.Need-returns-7
-returns-7 c = rw (c .before .match .keys7) (c .schedule-thread .ensures)
+returns-7 c = rw (c .before .match .keys7) (c .set-tick .ensures)
 
 returns-8 : tie.Need-returns-8
-returns-8 c = rw (c .before .match .keys8) (c .schedule .ensures)
+returns-8 c = rw (c .before .match .keys8) (c .schedule-thread .ensures)
 
 returns-9 : tie.Need-returns-9
-returns-9 c = rw (c .before .match .keys9) (c .hardtick .ensures)
+returns-9 c = rw (c .before .match .keys9) (c .schedule .ensures)
 
 returns-10 : tie.Need-returns-10
-returns-10 c = rw (c .before .match .keys10) (c .stattick .ensures)
+returns-10 c = rw (c .before .match .keys10) (c .hardtick .ensures)
 
 returns-11 : tie.Need-returns-11
-returns-11 c = rw (c .before .match .keys11) (c .resched .ensures)
+returns-11 c = rw (c .before .match .keys11) (c .stattick .ensures)
 
 returns-12 : tie.Need-returns-12
-returns-12 c = rw (c .before .match .keys12) (c .maybe-preempt .ensures)
+returns-12 c = rw (c .before .match .keys12) (c .resched .ensures)
 
 returns-13 : tie.Need-returns-13
-returns-13 c = rw (c .before .match .keys13) (c .donate .ensures)
+returns-13 c = rw (c .before .match .keys13) (c .maybe-preempt .ensures)
 
 returns-14 : tie.Need-returns-14
-returns-14 c = rw (c .before .match .keys14) (c .remove-donation .ensures)
+returns-14 c = rw (c .before .match .keys14) (c .donate .ensures)
 
 returns-15 : tie.Need-returns-15
-unfolding asked request widths widths-or limits-of
-returns-15 c = rw (ne-eqb _ _ (c .before .match .rest .0 .0 .0 .0 .0 .0 .0 .0 .0 .0 .0 .0 .0 .1), ne-eqb _ _ (c .before .match .rest .0 .0 .0 .0 .0 .0 .0 .0 .0 .0 .0 .0 .1), ne-eqb _ _ (c .before .match .rest .0 .0 .0 .0 .0 .0 .0 .0 .0 .0 .0 .1), ne-eqb _ _ (c .before .match .rest .0 .0 .0 .0 .0 .0 .0 .0 .0 .0 .1), ne-eqb _ _ (c .before .match .rest .0 .0 .0 .0 .0 .0 .0 .0 .0 .1), ne-eqb _ _ (c .before .match .rest .0 .0 .0 .0 .0 .0 .0 .0 .1), ne-eqb _ _ (c .before .match .rest .0 .0 .0 .0 .0 .0 .0 .1), ne-eqb _ _ (c .before .match .rest .0 .0 .0 .0 .0 .0 .1), ne-eqb _ _ (c .before .match .rest .0 .0 .0 .0 .0 .1), ne-eqb _ _ (c .before .match .rest .0 .0 .0 .0 .1), ne-eqb _ _ (c .before .match .rest .0 .0 .0 .1), ne-eqb _ _ (c .before .match .rest .0 .0 .1), ne-eqb _ _ (c .before .match .rest .0 .1), ne-eqb _ _ (c .before .match .rest .1), last-widths) (c .set-critical .ensures)
+returns-15 c = rw (c .before .match .keys15) (c .remove-donation .ensures)
+
+returns-16 : tie.Need-returns-16
+unfolding Apart
+returns-16 c = c .set-critical .ensures ∙ last-asked _ _ _ _ (c .before .match .rest)
 
 pub ask-spec : {M : Type 1} → statement M
 ask-spec =
@@ -102,6 +108,7 @@ ask-spec =
     declare-cpu-requires
     add-node-requires
     place-cpu-requires
+    set-shortest-requires
     declare-thread-requires
     set-tick-requires
     schedule-thread-requires
@@ -127,4 +134,5 @@ ask-spec =
     returns-12
     returns-13
     returns-14
-    returns-15)
+    returns-15
+    returns-16)

@@ -1,7 +1,6 @@
-use borrow.Author.Tests.{ne-eqb}
 use Rattle.request.specs.Request.{length-of, limits-of}
 use Rattle.rules.specs.Requests.{sum, widths, widths-or}
-use Rattle.request.proofs.Table.{width-small}
+use Rattle.request.proofs.Table.{Apart, width-small, no-length}
 use native.Mathlib.Omega.{arith}
 use borrow.Author.Needs.{needs}
 use Rattle.request.proofs.length.Statement.{statement}
@@ -49,15 +48,15 @@ returns-4 c = rw (c .match .keys4)
 
 returns-5 : tie.Need-returns-5
 unfolding length-of widths widths-or limits-of sum
-returns-5 c = rw (c .match .keys5, c .before .width .ensures) (omega arith)
+returns-5 c = rw (c .match .keys5)
 
 returns-6 : tie.Need-returns-6
 unfolding length-of widths widths-or limits-of sum
-returns-6 c = rw (c .match .keys6)
+returns-6 c = rw (c .match .keys6, c .before .width .ensures) (omega arith)
 
 returns-7 : tie.Need-returns-7
 unfolding length-of widths widths-or limits-of sum
-returns-7 c = rw (c .match .keys7, c .before .width .ensures) (omega arith)
+returns-7 c = rw (c .match .keys7)
 
 returns-8 : tie.Need-returns-8
 unfolding length-of widths widths-or limits-of sum
@@ -85,7 +84,7 @@ returns-13 c = rw (c .match .keys13, c .before .width .ensures) (omega arith)
 
 returns-14 : tie.Need-returns-14
 unfolding length-of widths widths-or limits-of sum
-returns-14 c = rw (c .match .keys14)
+returns-14 c = rw (c .match .keys14, c .before .width .ensures) (omega arith)
 
 returns-15 : tie.Need-returns-15
 unfolding length-of widths widths-or limits-of sum
@@ -93,7 +92,11 @@ returns-15 c = rw (c .match .keys15)
 
 returns-16 : tie.Need-returns-16
 unfolding length-of widths widths-or limits-of sum
-returns-16 c = rw (ne-eqb _ _ (c .match .rest .0 .0 .0 .0 .0 .0 .0 .0 .0 .0 .0 .0 .0 .0 .1), ne-eqb _ _ (c .match .rest .0 .0 .0 .0 .0 .0 .0 .0 .0 .0 .0 .0 .0 .1), ne-eqb _ _ (c .match .rest .0 .0 .0 .0 .0 .0 .0 .0 .0 .0 .0 .0 .1), ne-eqb _ _ (c .match .rest .0 .0 .0 .0 .0 .0 .0 .0 .0 .0 .0 .1), ne-eqb _ _ (c .match .rest .0 .0 .0 .0 .0 .0 .0 .0 .0 .0 .1), ne-eqb _ _ (c .match .rest .0 .0 .0 .0 .0 .0 .0 .0 .0 .1), ne-eqb _ _ (c .match .rest .0 .0 .0 .0 .0 .0 .0 .0 .1), ne-eqb _ _ (c .match .rest .0 .0 .0 .0 .0 .0 .0 .1), ne-eqb _ _ (c .match .rest .0 .0 .0 .0 .0 .0 .1), ne-eqb _ _ (c .match .rest .0 .0 .0 .0 .0 .1), ne-eqb _ _ (c .match .rest .0 .0 .0 .0 .1), ne-eqb _ _ (c .match .rest .0 .0 .0 .1), ne-eqb _ _ (c .match .rest .0 .0 .1), ne-eqb _ _ (c .match .rest .0 .1), ne-eqb _ _ (c .match .rest .1))
+returns-16 c = rw (c .match .keys16)
+
+returns-17 : tie.Need-returns-17
+unfolding Apart
+returns-17 c = rw (no-length _ _ _ (c .match .rest))
 
 pub length-spec : {M : Type 1} → statement M
 length-spec =
@@ -122,4 +125,5 @@ length-spec =
     returns-13
     returns-14
     returns-15
-    returns-16)
+    returns-16
+    returns-17)

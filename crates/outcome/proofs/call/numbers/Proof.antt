@@ -32,17 +32,17 @@ plain-requires-4 c κs = search needs
 enum-known-request-4 : tie.Need-enum-known-request-4
 enum-known-request-4 c = search needs
 
+plain-requires-5 : tie.Need-plain-requires-5
+plain-requires-5 c κs = search needs
+
+enum-known-request-5 : tie.Need-enum-known-request-5
+enum-known-request-5 c = search needs
+
 pin-number-requires : tie.Need-pin-number-requires
 pin-number-requires c κs = search needs
 
 with-priority-requires : tie.Need-with-priority-requires
 with-priority-requires c κs = search needs
-
-enum-known-request-5 : tie.Need-enum-known-request-5
-enum-known-request-5 c = search needs
-
-plain-requires-5 : tie.Need-plain-requires-5
-plain-requires-5 c κs = search needs
 
 enum-known-request-6 : tie.Need-enum-known-request-6
 enum-known-request-6 c = search needs
@@ -83,20 +83,26 @@ plain-requires-11 c κs = search needs
 enum-known-request-12 : tie.Need-enum-known-request-12
 enum-known-request-12 c = search needs
 
-with-priority-requires-2 : tie.Need-with-priority-requires-2
-with-priority-requires-2 c κs = search needs
+plain-requires-12 : tie.Need-plain-requires-12
+plain-requires-12 c κs = search needs
 
 enum-known-request-13 : tie.Need-enum-known-request-13
 enum-known-request-13 c = search needs
 
-plain-requires-12 : tie.Need-plain-requires-12
-plain-requires-12 c κs = search needs
+with-priority-requires-2 : tie.Need-with-priority-requires-2
+with-priority-requires-2 c κs = search needs
 
 enum-known-request-14 : tie.Need-enum-known-request-14
 enum-known-request-14 c = search needs
 
 plain-requires-13 : tie.Need-plain-requires-13
 plain-requires-13 c κs = search needs
+
+enum-known-request-15 : tie.Need-enum-known-request-15
+enum-known-request-15 c = search needs
+
+plain-requires-14 : tie.Need-plain-requires-14
+plain-requires-14 c κs = search needs
 
 returns : tie.Need-returns
 unfolding call-of request-of
@@ -116,11 +122,11 @@ returns-4 c = rw (c .before .enum-told .given .1) (c .plain4 .ensures)
 
 returns-5 : tie.Need-returns-5
 unfolding call-of request-of
-returns-5 c = rw (c .before .before .before .request4 .given .1) (rw (c .before .pin-number .ensures) at (c .with-priority .ensures))
+returns-5 c = rw (c .before .before .request4 .given .1) (c .plain5 .ensures)
 
 returns-6 : tie.Need-returns-6
 unfolding call-of request-of
-returns-6 c = rw (c .before .before .request5 .given .1) (c .plain5 .ensures)
+returns-6 c = rw (c .before .before .before .request5 .given .1) (rw (c .before .pin-number .ensures) at (c .with-priority .ensures))
 
 returns-7 : tie.Need-returns-7
 unfolding call-of request-of
@@ -148,15 +154,19 @@ returns-12 c = rw (c .before .before .request11 .given .1) (c .plain11 .ensures)
 
 returns-13 : tie.Need-returns-13
 unfolding call-of request-of
-returns-13 c = rw (c .before .before .request12 .given .1) (c .with-priority2 .ensures)
+returns-13 c = rw (c .before .before .request12 .given .1) (c .plain12 .ensures)
 
 returns-14 : tie.Need-returns-14
 unfolding call-of request-of
-returns-14 c = rw (c .before .before .request13 .given .1) (c .plain12 .ensures)
+returns-14 c = rw (c .before .before .request13 .given .1) (c .with-priority2 .ensures)
 
 returns-15 : tie.Need-returns-15
 unfolding call-of request-of
 returns-15 c = rw (c .before .before .request14 .given .1) (c .plain13 .ensures)
+
+returns-16 : tie.Need-returns-16
+unfolding call-of request-of
+returns-16 c = rw (c .before .before .request15 .given .1) (c .plain14 .ensures)
 
 pub numbers-spec : {M : Type 1} → statement M
 numbers-spec =
@@ -171,10 +181,10 @@ numbers-spec =
     enum-told
     plain-requires-4
     enum-known-request-4
+    plain-requires-5
+    enum-known-request-5
     pin-number-requires
     with-priority-requires
-    enum-known-request-5
-    plain-requires-5
     enum-known-request-6
     plain-requires-6
     enum-known-request-7
@@ -188,11 +198,13 @@ numbers-spec =
     enum-known-request-11
     plain-requires-11
     enum-known-request-12
-    with-priority-requires-2
-    enum-known-request-13
     plain-requires-12
+    enum-known-request-13
+    with-priority-requires-2
     enum-known-request-14
     plain-requires-13
+    enum-known-request-15
+    plain-requires-14
     returns
     returns-2
     returns-3
@@ -207,4 +219,5 @@ numbers-spec =
     returns-12
     returns-13
     returns-14
-    returns-15)
+    returns-15
+    returns-16)

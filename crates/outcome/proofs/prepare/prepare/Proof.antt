@@ -16,6 +16,9 @@ second k e = ne-eqb k 1 (λ f. omega arith)
 third : (k : ℕ) → k ≡ 3 → (eqb k 1 ≡ false) × (eqb k 2 ≡ false)
 third k e = (ne-eqb k 1 (λ f. omega arith), ne-eqb k 2 (λ f. omega arith))
 
+fourth : (k : ℕ) → k ≡ 4 → (eqb k 1 ≡ false) × (eqb k 2 ≡ false) × (eqb k 3 ≡ false)
+fourth k e = (ne-eqb k 1 (λ f. omega arith), ne-eqb k 2 (λ f. omega arith), ne-eqb k 3 (λ f. omega arith))
+
 declare-cpu-requires : tie.Need-declare-cpu-requires
 declare-cpu-requires c κs = search needs
 
@@ -27,6 +30,9 @@ place-cpu-requires c κs = search needs
 
 seal-requires : tie.Need-seal-requires
 seal-requires c κs = search needs
+
+set-shortest-requires : tie.Need-set-shortest-requires
+set-shortest-requires c κs = search needs
 
 same-length : tie.Need-same-length
 same-length c = search needs
@@ -56,7 +62,14 @@ returns-3 c =
 
 returns-4 : tie.Need-returns-4
 unfolding prepares
-returns-4 c = let r = c .before .match .rest in rw (ne-eqb _ 1 (r .0 .0 .1), ne-eqb _ 2 (r .0 .1), ne-eqb _ 3 (r .1)) (c .seal .ensures, (refl, refl))
+returns-4 c =
+    let t = fourth _ (c .before .match .keys4) in
+    rw (t .0, t .1, t .2, eq-eqb _ _ (c .before .match .keys4)) (c .seal .ensures, (refl, refl))
+
+returns-5 : tie.Need-returns-5
+unfolding prepares
+returns-5 c =
+    let r = c .before .match .rest in rw (ne-eqb _ 1 (r .0 .0 .0 .1), ne-eqb _ 2 (r .0 .0 .1), ne-eqb _ 3 (r .0 .1), ne-eqb _ 4 (r .1)) (c .set-shortest .ensures, (refl, refl))
 
 pub prepare-spec : {M : Type 1} → statement M
 prepare-spec =
@@ -66,6 +79,7 @@ prepare-spec =
     add-node-requires
     place-cpu-requires
     seal-requires
+    set-shortest-requires
     same-length
     returns
     same-length-2
@@ -73,4 +87,5 @@ prepare-spec =
     same-length-3
     same-length-4
     returns-3
-    returns-4)
+    returns-4
+    returns-5)

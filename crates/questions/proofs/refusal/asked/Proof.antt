@@ -1,6 +1,6 @@
 use Rattle.questions.specs.Questions.{asked-of, concerning}
 use Rattle.request.specs.Request.{request-of}
-use Rattle.rules.specs.Questions.{at-most, first-no, priority-in-range, question}
+use Rattle.rules.specs.Questions.{at-most, first-no, priority-in-range, question, shortest-in-range}
 use borrow.Author.Needs.{needs}
 use Rattle.questions.proofs.refusal.asked.Statement.{statement}
 use Rattle.questions.proofs.refusal.asked.Tie as tie
@@ -31,6 +31,12 @@ enum-told c = search needs
 
 seal-requires : tie.Need-seal-requires
 seal-requires c κs = search needs
+
+enum-told-2 : tie.Need-enum-told-2
+enum-told-2 c = search needs
+
+setting-requires : tie.Need-setting-requires
+setting-requires c κs = search needs
 
 enum-known-request-4 : tie.Need-enum-known-request-4
 enum-known-request-4 c = search needs
@@ -86,77 +92,81 @@ enum-known-request-12 c = search needs
 donate-requires : tie.Need-donate-requires
 donate-requires c κs = search needs
 
-enum-told-2 : tie.Need-enum-told-2
-enum-told-2 c = search needs
+enum-told-3 : tie.Need-enum-told-3
+enum-told-3 c = search needs
 
 of-thread-requires : tie.Need-of-thread-requires
 of-thread-requires c κs = search needs
 
-enum-told-3 : tie.Need-enum-told-3
-enum-told-3 c = search needs
+enum-told-4 : tie.Need-enum-told-4
+enum-told-4 c = search needs
 
 of-thread-requires-2 : tie.Need-of-thread-requires-2
 of-thread-requires-2 c κs = search needs
 
 returns : tie.Need-returns
-unfolding asked-of concerning first-no question at-most priority-in-range request-of
+unfolding asked-of concerning first-no question at-most shortest-in-range priority-in-range request-of
 returns c = rw (c .before .before .request .given .1) (c .declare-cpu .ensures)
 
 returns-2 : tie.Need-returns-2
-unfolding asked-of concerning first-no question at-most priority-in-range request-of
+unfolding asked-of concerning first-no question at-most shortest-in-range priority-in-range request-of
 returns-2 c = rw (c .before .before .request2 .given .1) (rw (c .before .before .before .before .in-range .ensures, c .before .before .request2 .given .1) at (c .add-node .ensures))
 
 returns-3 : tie.Need-returns-3
-unfolding asked-of concerning first-no question at-most priority-in-range request-of
+unfolding asked-of concerning first-no question at-most shortest-in-range priority-in-range request-of
 returns-3 c = rw (c .before .before .request3 .given .1) (c .place-cpu .ensures)
 
 returns-4 : tie.Need-returns-4
-unfolding asked-of concerning first-no question at-most priority-in-range request-of
+unfolding asked-of concerning first-no question at-most shortest-in-range priority-in-range request-of
 returns-4 c = rw (c .before .enum-told .given .1) (c .seal .ensures)
 
 returns-5 : tie.Need-returns-5
-unfolding asked-of concerning first-no question at-most priority-in-range request-of
-returns-5 c = rw (c .before .before .request4 .given .1) (rw (c .before .before .before .before .in-range .ensures, c .before .before .request4 .given .1) at (c .declare-thread .ensures))
+unfolding asked-of concerning first-no question at-most shortest-in-range priority-in-range request-of
+returns-5 c = rw (c .before .enum-told2 .given .1) (rw (c .before .before .before .in-range .ensures, c .before .enum-told2 .given .1) at (c .setting .ensures))
 
 returns-6 : tie.Need-returns-6
-unfolding asked-of concerning first-no question at-most priority-in-range request-of
-returns-6 c = rw (c .before .before .request5 .given .1) (c .set-tick .ensures)
+unfolding asked-of concerning first-no question at-most shortest-in-range priority-in-range request-of
+returns-6 c = rw (c .before .before .request4 .given .1) (rw (c .before .before .before .before .in-range .ensures, c .before .before .request4 .given .1) at (c .declare-thread .ensures))
 
 returns-7 : tie.Need-returns-7
-unfolding asked-of concerning first-no question at-most priority-in-range request-of
-returns-7 c = rw (c .before .before .request6 .given .1) (c .schedule-thread .ensures)
+unfolding asked-of concerning first-no question at-most shortest-in-range priority-in-range request-of
+returns-7 c = rw (c .before .before .request5 .given .1) (c .set-tick .ensures)
 
 returns-8 : tie.Need-returns-8
-unfolding asked-of concerning first-no question at-most priority-in-range request-of
-returns-8 c = rw (c .before .before .request7 .given .1) (rw (c .before .before .before .before .in-range .ensures, c .before .before .request7 .given .1) at (c .on-cpu .ensures))
+unfolding asked-of concerning first-no question at-most shortest-in-range priority-in-range request-of
+returns-8 c = rw (c .before .before .request6 .given .1) (c .schedule-thread .ensures)
 
 returns-9 : tie.Need-returns-9
-unfolding asked-of concerning first-no question at-most priority-in-range request-of
-returns-9 c = rw (c .before .before .request8 .given .1) (rw (c .before .before .before .before .in-range .ensures, c .before .before .request8 .given .1) at (c .on-cpu2 .ensures))
+unfolding asked-of concerning first-no question at-most shortest-in-range priority-in-range request-of
+returns-9 c = rw (c .before .before .request7 .given .1) (rw (c .before .before .before .before .in-range .ensures, c .before .before .request7 .given .1) at (c .on-cpu .ensures))
 
 returns-10 : tie.Need-returns-10
-unfolding asked-of concerning first-no question at-most priority-in-range request-of
-returns-10 c = rw (c .before .before .request9 .given .1) (rw (c .before .before .before .before .in-range .ensures, c .before .before .request9 .given .1) at (c .on-cpu3 .ensures))
+unfolding asked-of concerning first-no question at-most shortest-in-range priority-in-range request-of
+returns-10 c = rw (c .before .before .request8 .given .1) (rw (c .before .before .before .before .in-range .ensures, c .before .before .request8 .given .1) at (c .on-cpu2 .ensures))
 
 returns-11 : tie.Need-returns-11
-unfolding asked-of concerning first-no question at-most priority-in-range request-of
-returns-11 c = rw (c .before .before .request10 .given .1) (rw (c .before .before .before .before .in-range .ensures, c .before .before .request10 .given .1) at (c .on-cpu4 .ensures))
+unfolding asked-of concerning first-no question at-most shortest-in-range priority-in-range request-of
+returns-11 c = rw (c .before .before .request9 .given .1) (rw (c .before .before .before .before .in-range .ensures, c .before .before .request9 .given .1) at (c .on-cpu3 .ensures))
 
 returns-12 : tie.Need-returns-12
-unfolding asked-of concerning first-no question at-most priority-in-range request-of
-returns-12 c = rw (c .before .before .request11 .given .1) (rw (c .before .before .before .before .in-range .ensures, c .before .before .request11 .given .1) at (c .on-cpu5 .ensures))
+unfolding asked-of concerning first-no question at-most shortest-in-range priority-in-range request-of
+returns-12 c = rw (c .before .before .request10 .given .1) (rw (c .before .before .before .before .in-range .ensures, c .before .before .request10 .given .1) at (c .on-cpu4 .ensures))
 
 returns-13 : tie.Need-returns-13
-unfolding asked-of concerning first-no question at-most priority-in-range request-of
-returns-13 c = rw (c .before .before .request12 .given .1) (rw (c .before .before .before .before .in-range .ensures, c .before .before .request12 .given .1) at (c .donate .ensures))
+unfolding asked-of concerning first-no question at-most shortest-in-range priority-in-range request-of
+returns-13 c = rw (c .before .before .request11 .given .1) (rw (c .before .before .before .before .in-range .ensures, c .before .before .request11 .given .1) at (c .on-cpu5 .ensures))
 
 returns-14 : tie.Need-returns-14
-unfolding asked-of concerning first-no question at-most priority-in-range request-of
-returns-14 c = rw (c .before .enum-told2 .given .1) (rw (c .before .before .before .in-range .ensures, c .before .enum-told2 .given .1) at (c .of-thread .ensures))
+unfolding asked-of concerning first-no question at-most shortest-in-range priority-in-range request-of
+returns-14 c = rw (c .before .before .request12 .given .1) (rw (c .before .before .before .before .in-range .ensures, c .before .before .request12 .given .1) at (c .donate .ensures))
 
 returns-15 : tie.Need-returns-15
-unfolding asked-of concerning first-no question at-most priority-in-range request-of
-returns-15 c = rw (c .before .enum-told3 .given .1) (rw (c .before .before .before .in-range .ensures, c .before .enum-told3 .given .1) at (c .of-thread2 .ensures))
+unfolding asked-of concerning first-no question at-most shortest-in-range priority-in-range request-of
+returns-15 c = rw (c .before .enum-told3 .given .1) (rw (c .before .before .before .in-range .ensures, c .before .enum-told3 .given .1) at (c .of-thread .ensures))
+
+returns-16 : tie.Need-returns-16
+unfolding asked-of concerning first-no question at-most shortest-in-range priority-in-range request-of
+returns-16 c = rw (c .before .enum-told4 .given .1) (rw (c .before .before .before .in-range .ensures, c .before .enum-told4 .given .1) at (c .of-thread2 .ensures))
 
 pub asked-spec : {M : Type 1} → statement M
 asked-spec =
@@ -171,6 +181,8 @@ asked-spec =
     place-cpu-requires
     enum-told
     seal-requires
+    enum-told-2
+    setting-requires
     enum-known-request-4
     declare-thread-requires
     enum-known-request-5
@@ -189,9 +201,9 @@ asked-spec =
     on-cpu-requires-5
     enum-known-request-12
     donate-requires
-    enum-told-2
-    of-thread-requires
     enum-told-3
+    of-thread-requires
+    enum-told-4
     of-thread-requires-2
     returns
     returns-2
@@ -207,4 +219,5 @@ asked-spec =
     returns-12
     returns-13
     returns-14
-    returns-15)
+    returns-15
+    returns-16)

@@ -2,7 +2,7 @@ use Rattle.request.specs.Request.{limits-of}
 use Rattle.rules.specs.Requests.{widths, widths-or, nth}
 use Rattle.rules.specs.Writer.{row as rules-row}
 use Rattle.request.specs.Fields.{row, four}
-use borrow.Author.Tests.{ne-eqb}
+use Rattle.request.proofs.Table.{Apart, no-row}
 use borrow.Author.Needs.{needs}
 use Rattle.request.proofs.fields.widths_of.Statement.{statement}
 use Rattle.request.proofs.fields.widths_of.Tie as tie
@@ -58,6 +58,9 @@ widths-in-requires-15 c κs = search needs
 widths-in-requires-16 : tie.Need-widths-in-requires-16
 widths-in-requires-16 c κs = search needs
 
+widths-in-requires-17 : tie.Need-widths-in-requires-17
+widths-in-requires-17 c κs = search needs
+
 returns : tie.Need-returns
 unfolding row rules-row widths widths-or limits-of four nth
 returns c = rw (c .before .match .keys1, ← c .before .before .width .ensures) (c .widths-in .ensures)
@@ -76,15 +79,15 @@ returns-4 c = rw (c .before .match .keys4) (c .widths-in4 .ensures)
 
 returns-5 : tie.Need-returns-5
 unfolding row rules-row widths widths-or limits-of four nth
-returns-5 c = rw (c .before .match .keys5, ← c .before .before .width .ensures) (c .widths-in5 .ensures)
+returns-5 c = rw (c .before .match .keys5) (c .widths-in5 .ensures)
 
 returns-6 : tie.Need-returns-6
 unfolding row rules-row widths widths-or limits-of four nth
-returns-6 c = rw (c .before .match .keys6) (c .widths-in6 .ensures)
+returns-6 c = rw (c .before .match .keys6, ← c .before .before .width .ensures) (c .widths-in6 .ensures)
 
 returns-7 : tie.Need-returns-7
 unfolding row rules-row widths widths-or limits-of four nth
-returns-7 c = rw (c .before .match .keys7, ← c .before .before .width .ensures) (c .widths-in7 .ensures)
+returns-7 c = rw (c .before .match .keys7) (c .widths-in7 .ensures)
 
 returns-8 : tie.Need-returns-8
 unfolding row rules-row widths widths-or limits-of four nth
@@ -112,7 +115,7 @@ returns-13 c = rw (c .before .match .keys13, ← c .before .before .width .ensur
 
 returns-14 : tie.Need-returns-14
 unfolding row rules-row widths widths-or limits-of four nth
-returns-14 c = rw (c .before .match .keys14) (c .widths-in14 .ensures)
+returns-14 c = rw (c .before .match .keys14, ← c .before .before .width .ensures) (c .widths-in14 .ensures)
 
 returns-15 : tie.Need-returns-15
 unfolding row rules-row widths widths-or limits-of four nth
@@ -120,7 +123,11 @@ returns-15 c = rw (c .before .match .keys15) (c .widths-in15 .ensures)
 
 returns-16 : tie.Need-returns-16
 unfolding row rules-row widths widths-or limits-of four nth
-returns-16 c = rw (ne-eqb _ _ (c .before .match .rest .0 .0 .0 .0 .0 .0 .0 .0 .0 .0 .0 .0 .0 .0 .1), ne-eqb _ _ (c .before .match .rest .0 .0 .0 .0 .0 .0 .0 .0 .0 .0 .0 .0 .0 .1), ne-eqb _ _ (c .before .match .rest .0 .0 .0 .0 .0 .0 .0 .0 .0 .0 .0 .0 .1), ne-eqb _ _ (c .before .match .rest .0 .0 .0 .0 .0 .0 .0 .0 .0 .0 .0 .1), ne-eqb _ _ (c .before .match .rest .0 .0 .0 .0 .0 .0 .0 .0 .0 .0 .1), ne-eqb _ _ (c .before .match .rest .0 .0 .0 .0 .0 .0 .0 .0 .0 .1), ne-eqb _ _ (c .before .match .rest .0 .0 .0 .0 .0 .0 .0 .0 .1), ne-eqb _ _ (c .before .match .rest .0 .0 .0 .0 .0 .0 .0 .1), ne-eqb _ _ (c .before .match .rest .0 .0 .0 .0 .0 .0 .1), ne-eqb _ _ (c .before .match .rest .0 .0 .0 .0 .0 .1), ne-eqb _ _ (c .before .match .rest .0 .0 .0 .0 .1), ne-eqb _ _ (c .before .match .rest .0 .0 .0 .1), ne-eqb _ _ (c .before .match .rest .0 .0 .1), ne-eqb _ _ (c .before .match .rest .0 .1), ne-eqb _ _ (c .before .match .rest .1)) (c .widths-in16 .ensures)
+returns-16 c = rw (c .before .match .keys16) (c .widths-in16 .ensures)
+
+returns-17 : tie.Need-returns-17
+unfolding Apart four nth
+returns-17 c = rw (no-row _ _ _ (c .before .match .rest)) (c .widths-in17 .ensures)
 
 pub widths-of-spec : {M : Type 1} → statement M
 widths-of-spec =
@@ -143,6 +150,7 @@ widths-of-spec =
     widths-in-requires-14
     widths-in-requires-15
     widths-in-requires-16
+    widths-in-requires-17
     returns
     returns-2
     returns-3
@@ -158,4 +166,5 @@ widths-of-spec =
     returns-13
     returns-14
     returns-15
-    returns-16)
+    returns-16
+    returns-17)
