@@ -1,11 +1,14 @@
 -- How long a line is at most.
 use Prim.Native.Nat.{ℕ, zero, suc, _*_, _/_, _≤_}
-use mathlib.Core.Bool.{Bool, cond}
+use mathlib.Core.Path.{_≡_, refl}
+use mathlib.Core.Bool.{Bool, true, cond, _&&_}
 use mathlib.Core.List.{List, [], _∷_}
-use lib.Dec.{eqb, ltb}
+use lib.Dec.{eqb, ltb, leb}
 use lib.ListN.{length, take, length-append}
 use native.Mathlib.Omega.{arith}
+use borrow.Author.Tests.{leb-true}
 use Rattle.rules.specs.Laws.Line.{both}
+use Rattle.rules.specs.Laws.Writer.{and-left, and-right}
 use Rattle.rules.specs.Lines.{digits, decimal, space, line-feed}
 use Rattle.names.specs.Names.{Naming, naming, namings, naming-among, name-of, ascii}
 use Rattle.request.specs.declared.fields.Fields.{Fields}
@@ -24,20 +27,20 @@ unfolding decimal
 decimal-most n = digits-most 20 n
 
 -- every name of the rows has at most eight bytes
-unfoldable Short : List Naming → Type 0
-Short [] = Unit
-Short (n ∷ ns) = (length (ascii (n .name)) ≤ 8) × Short ns
+unfoldable short : List Naming → Bool
+short [] = true
+short (n ∷ ns) = leb (length (ascii (n .name))) 8 && short ns
 
-short-among : (byte : ℕ) (ns : List Naming) → Short ns → length (ascii (naming-among byte ns .name)) ≤ 8
-unfolding Short naming-among naming ascii
+short-among : (byte : ℕ) (ns : List Naming) → short ns ≡ true → length (ascii (naming-among byte ns .name)) ≤ 8
+unfolding short naming-among naming ascii
 short-among byte [] h = omega arith
-short-among byte (n ∷ ns) (a, h) = both (eqb byte (n .byte))
-    (λ e. rw e a)
-    (λ e. rw e (short-among byte ns h))
+short-among byte (n ∷ ns) h = both (eqb byte (n .byte))
+    (λ e. rw e (leb-true _ _ (and-left (leb (length (ascii (n .name))) 8) (short ns) h)))
+    (λ e. rw e (short-among byte ns (and-right (leb (length (ascii (n .name))) 8) (short ns) h)))
 
-all-short : Short namings
-unfolding Short namings naming ascii
-all-short = (omega arith, (omega arith, (omega arith, (omega arith, (omega arith, (omega arith, (omega arith, (omega arith, (omega arith, (omega arith, (omega arith, (omega arith, (omega arith, (omega arith, (omega arith, tt)))))))))))))))
+all-short : short namings ≡ true
+unfolding short namings naming ascii
+all-short = refl
 
 name-most : (byte : ℕ) → length (name-of byte) ≤ 8
 unfolding name-of

@@ -25,6 +25,7 @@ namings =
     ∷ naming 0x02 "node" ("parent" ∷ "type" ∷ [])
     ∷ naming 0x03 "place" ("node" ∷ "cpu" ∷ [])
     ∷ naming 0x04 "seal" []
+    ∷ naming 0x05 "shortest" ("ticks" ∷ [])
     ∷ naming 0x10 "thread" ("thread" ∷ "class" ∷ "value" ∷ "pin" ∷ [])
     ∷ naming 0x11 "tick" ("tick" ∷ [])
     ∷ naming 0x12 "wake" ("cpu" ∷ "thread" ∷ [])

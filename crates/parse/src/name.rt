@@ -12,7 +12,7 @@ pub enum Named {
 
 // The last five names of the table.
 fn last_names(word: &[u8]) -> Named
-    ensures { λ r. ⌜ byte-of r ≡ byte-among (now (word .entry)) (drop 10 namings) ⌝ }
+    ensures { λ r. ⌜ byte-of r ≡ byte-among (now (word .entry)) (drop 11 namings) ⌝ }
 {
     if same(word, b"resched") {
         return Named::Byte(0x16);
@@ -34,7 +34,7 @@ fn last_names(word: &[u8]) -> Named
 
 // The last ten.
 fn later_names(word: &[u8]) -> Named
-    ensures { λ r. ⌜ byte-of r ≡ byte-among (now (word .entry)) (drop 5 namings) ⌝ }
+    ensures { λ r. ⌜ byte-of r ≡ byte-among (now (word .entry)) (drop 6 namings) ⌝ }
 {
     if same(word, b"tick") {
         return Named::Byte(0x11);
@@ -68,6 +68,9 @@ pub fn byte_named(word: &[u8]) -> Named
     }
     if same(word, b"seal") {
         return Named::Byte(0x04);
+    }
+    if same(word, b"shortest") {
+        return Named::Byte(0x05);
     }
     if same(word, b"thread") {
         return Named::Byte(0x10);

@@ -4,10 +4,10 @@ use mathlib.Core.Path.{_≡_, refl, sym, _∙_}
 use mathlib.Core.Bool.{Bool, true, false, false≢true}
 use mathlib.Core.Option.{some}
 use mathlib.Core.List.{List, [], _∷_, _++_, append-assoc}
-use lib.Dec.{eqb, ltb}
+use lib.Dec.{eqb, ltb, leb}
 use lib.ListN.{length, take, set}
 use native.Mathlib.Omega.{arith}
-use borrow.Author.Tests.{eqb-true, ne-eqb, ltb-true}
+use borrow.Author.Tests.{eqb-true, ne-eqb, ltb-true, leb-true}
 use Rattle.rules.specs.Laws.Line.{both}
 use Rattle.rules.specs.Laws.Writer.{and-left, and-right}
 use Rattle.rules.specs.State.{Limits}
@@ -18,6 +18,7 @@ use Rattle.names.specs.Names.{namings, naming, naming-among, name-of, ascii}
 use Rattle.request.specs.declared.fields.Fields.{Fields}
 use Rattle.request.specs.Request.{limits-of, all-ones-of}
 use Rattle.request.specs.Fields.{list-of, four, row}
+use Rattle.request.proofs.Table.{by-row}
 use Rattle.request.proofs.ByWidths as by-widths
 use Rattle.request.proofs.ByWidths.{plain-row, row-plain, not-five}
 use Rattle.parse.specs.Words.{skip-blanks, blanks, word, letters, behind, same}
@@ -27,45 +28,24 @@ use Rattle.parse.proofs.Laws.{decimal-read}
 use Rattle.listing.specs.Listing.{numbers, no-pin, shown-fields, listed}
 use Rattle.text_laws.specs.Words.{plain, decimal-plain, decimal-some, no-comment, word-front, behind-front, skip-none, skip-numbers, not-empty, no-dash}
 
--- ---- the bytes of the table, one by one
-
-by-table : (P : ℕ → Type 0) (l : Limits) (byte : ℕ) → has-row (widths l byte) ≡ true
-    → P 0x01 → P 0x02 → P 0x03 → P 0x04 → P 0x10 → P 0x11 → P 0x12 → P 0x13 → P 0x14 → P 0x15 → P 0x16 → P 0x17 → P 0x18 → P 0x19 → P 0x1a → P byte
-unfolding widths has-row
-by-table P l byte h p₀ p₁ p₂ p₃ p₄ p₅ p₆ p₇ p₈ p₉ q₀ q₁ q₂ q₃ q₄ =
-    both (eqb byte 0x01) (λ e. rw (eqb-true byte 0x01 e) p₀) λ e₀.
-    both (eqb byte 0x02) (λ e. rw (eqb-true byte 0x02 e) p₁) λ e₁.
-    both (eqb byte 0x03) (λ e. rw (eqb-true byte 0x03 e) p₂) λ e₂.
-    both (eqb byte 0x04) (λ e. rw (eqb-true byte 0x04 e) p₃) λ e₃.
-    both (eqb byte 0x10) (λ e. rw (eqb-true byte 0x10 e) p₄) λ e₄.
-    both (eqb byte 0x11) (λ e. rw (eqb-true byte 0x11 e) p₅) λ e₅.
-    both (eqb byte 0x12) (λ e. rw (eqb-true byte 0x12 e) p₆) λ e₆.
-    both (eqb byte 0x13) (λ e. rw (eqb-true byte 0x13 e) p₇) λ e₇.
-    both (eqb byte 0x14) (λ e. rw (eqb-true byte 0x14 e) p₈) λ e₈.
-    both (eqb byte 0x15) (λ e. rw (eqb-true byte 0x15 e) p₉) λ e₉.
-    both (eqb byte 0x16) (λ e. rw (eqb-true byte 0x16 e) q₀) λ f₀.
-    both (eqb byte 0x17) (λ e. rw (eqb-true byte 0x17 e) q₁) λ f₁.
-    both (eqb byte 0x18) (λ e. rw (eqb-true byte 0x18 e) q₂) λ f₂.
-    both (eqb byte 0x19) (λ e. rw (eqb-true byte 0x19 e) q₃) λ f₃.
-    both (eqb byte 0x1a) (λ e. rw (eqb-true byte 0x1a e) q₄) λ f₄.
-    absurd (false≢true (rw (e₀, e₁, e₂, e₃, e₄, e₅, e₆, e₇, e₈, e₉, f₀, f₁, f₂, f₃, f₄) at h))
+-- ---- the names of the table
 
 module _ (l : Limits) (byte : ℕ) (h : has-row (widths l byte) ≡ true) where
   byte-small : byte < 256
-  byte-small = by-table (λ b. b < 256) l byte h (omega arith) (omega arith) (omega arith) (omega arith) (omega arith) (omega arith) (omega arith) (omega arith) (omega arith) (omega arith) (omega arith) (omega arith) (omega arith) (omega arith) (omega arith)
+  byte-small = ltb-true byte 256 (by-row (λ b. ltb b 256) (λ b. true) byte l h refl)
 
   -- a name is read as its command
   name-read : byte-named (name-of byte) ≡ some byte
   unfolding byte-named byte-among same name-of naming-among namings naming ascii
-  name-read = by-table (λ b. byte-named (name-of b) ≡ some b) l byte h refl refl refl refl refl refl refl refl refl refl refl refl refl refl refl
+  name-read = by-row (λ b. byte-named (name-of b)) (λ b. some b) byte l h refl
 
   name-plain : plain (name-of byte) ≡ true
   unfolding plain name-of naming-among namings naming ascii
-  name-plain = by-table (λ b. plain (name-of b) ≡ true) l byte h refl refl refl refl refl refl refl refl refl refl refl refl refl refl refl
+  name-plain = by-row (λ b. plain (name-of b)) (λ b. true) byte l h refl
 
   name-some : 1 ≤ length (name-of byte)
   unfolding name-of naming-among namings naming ascii
-  name-some = by-table (λ b. 1 ≤ length (name-of b)) l byte h (omega arith) (omega arith) (omega arith) (omega arith) (omega arith) (omega arith) (omega arith) (omega arith) (omega arith) (omega arith) (omega arith) (omega arith) (omega arith) (omega arith) (omega arith)
+  name-some = leb-true 1 (length (name-of byte)) (by-row (λ b. leb 1 (length (name-of b))) (λ b. true) byte l h refl)
 
 -- ---- one field
 

@@ -10,7 +10,7 @@ use lib.Seq.{sets}
 use lib.Dec.{eqb, ltb, leb}
 use native.Mathlib.Omega.{arith}
 use native.Mathlib.Nat.{pow-le-pow-right}
-use borrow.Author.Tests.{lt-ltb, le-ltb, ltb-true, ltb-false, le-leb, lt-leb, eqb-true, eqb-false, eq-eqb, ne-eqb, leb-true, leb-false}
+use borrow.Author.Tests.{lt-ltb, le-ltb, ltb-true, eqb-true, eqb-false}
 use Rattle.rules.specs.Laws.Line.{both}
 use Rattle.rules.specs.Writer.{little-endian, field-bytes, fits}
 use Rattle.rules.specs.Writer.{bytes-of, ranges}
@@ -26,6 +26,7 @@ use Rattle.request.specs.declared.Operands.the-variants as operands
 use Rattle.request.specs.Fields.{list-of, widths-list, four, row}
 use Rattle.request.specs.declared.fields.Fields.{Fields}
 use Rattle.request.specs.declared.fields.Widths.{Widths}
+use Rattle.request.proofs.Table.{by-row}
 use Rattle.request.proofs.ByWidths.{plain-row, row-plain, not-five}
 use Rattle.writer.specs.Writer.{written-of, no-misfit, known-answer, known-buffer}
 use Rattle.writer.specs.declared.Written.{Written}
@@ -192,29 +193,10 @@ module _ (wide : Bool) (byte : ℕ) (fs b : List ℕ) where
       k .1 ∙ (same-buffer (no-misfit wide byte fs) _ n b (sets b 0 (bytes-of (limits-of wide) byte fs)) long ∙ rw refusal-so refl),
     )
 
-large : (byte k : ℕ) → 256 ≤ byte → k < 256 → eqb byte k ≡ false
-large byte k h i = ne-eqb byte k (λ e. absurd (omega arith))
-
 large-row : (l : Limits) (byte : ℕ) → 256 ≤ byte → rules.has-row (widths l byte) ≡ false
-unfolding widths rules.has-row
-large-row l byte h =
-    rw (
-      large byte 0x01 h (omega arith),
-      large byte 0x02 h (omega arith),
-      large byte 0x03 h (omega arith),
-      large byte 0x04 h (omega arith),
-      large byte 0x10 h (omega arith),
-      large byte 0x11 h (omega arith),
-      large byte 0x12 h (omega arith),
-      large byte 0x13 h (omega arith),
-      large byte 0x14 h (omega arith),
-      large byte 0x15 h (omega arith),
-      large byte 0x16 h (omega arith),
-      large byte 0x17 h (omega arith),
-      large byte 0x18 h (omega arith),
-      large byte 0x19 h (omega arith),
-      large byte 0x1a h (omega arith),
-    )
+large-row l byte h = both (rules.has-row (widths l byte))
+    (λ e. absurd (omega (arith, ltb-true byte 256 (by-row (λ b. ltb b 256) (λ b. true) byte l e refl))))
+    (λ e. e)
 
 pub large-answer : (wide : Bool) (byte : ℕ) (fs b : List ℕ) → 256 ≤ byte
     → (rules.refused 1 ≡ rules.write-answer (limits-of wide) byte fs (length b)) × (b ≡ rules.buffer-with (limits-of wide) byte fs b)

@@ -1,8 +1,6 @@
 use Rattle.names.specs.Names.{field-name, naming-among, namings, naming, nth-text, ascii}
 use Rattle.lines.specs.Text.{write}
-use Rattle.names.proofs.Table.{Blank, no-field}
-use mathlib.Core.Logic.{inl, inr}
-use mathlib.Core.Path.{refl}
+use Rattle.names.proofs.Table.{with-told, Untold, no-field}
 use borrow.Author.Needs.{needs}
 use Rattle.names.proofs.put_first.Statement.{statement}
 use Rattle.names.proofs.put_first.Tie as tie
@@ -90,6 +88,12 @@ slice-aggregate-put-bytes-14 c = search needs
 
 put-bytes-requires-14 : tie.Need-put-bytes-requires-14
 put-bytes-requires-14 c κs = search needs
+
+slice-aggregate-put-bytes-15 : tie.Need-slice-aggregate-put-bytes-15
+slice-aggregate-put-bytes-15 c = search needs
+
+put-bytes-requires-15 : tie.Need-put-bytes-requires-15
+put-bytes-requires-15 c κs = search needs
 
 same-length : tie.Need-same-length
 same-length c = search needs
@@ -189,9 +193,16 @@ returns-14 : tie.Need-returns-14
 unfolding field-name naming-among namings naming nth-text ascii
 returns-14 c = rw (c .before .before .before .before .before .match .keys14) (c .before .before .put-bytes14 .ensures)
 
+same-length-15 : tie.Need-same-length-15
+same-length-15 c = search needs
+
 returns-15 : tie.Need-returns-15
-unfolding Blank namings naming nth-text write
-returns-15 c = rw (← no-field _ 0 (inl (c .match .rest .0 .0 .0 .0 .0 .0 .0 .0 .0 .0 .0 .0 .0 .1), (inl (c .match .rest .0 .0 .0 .0 .0 .0 .0 .0 .0 .0 .0 .0 .1), (inl (c .match .rest .0 .0 .0 .0 .0 .0 .0 .0 .0 .0 .0 .1), (inr refl, (inl (c .match .rest .0 .0 .0 .0 .0 .0 .0 .0 .0 .0 .1), (inl (c .match .rest .0 .0 .0 .0 .0 .0 .0 .0 .0 .1), (inl (c .match .rest .0 .0 .0 .0 .0 .0 .0 .0 .1), (inl (c .match .rest .0 .0 .0 .0 .0 .0 .0 .1), (inl (c .match .rest .0 .0 .0 .0 .0 .0 .1), (inl (c .match .rest .0 .0 .0 .0 .0 .1), (inl (c .match .rest .0 .0 .0 .0 .1), (inl (c .match .rest .0 .0 .0 .1), (inl (c .match .rest .0 .0 .1), (inl (c .match .rest .0 .1), (inl (c .match .rest .1), tt))))))))))))))))
+unfolding field-name naming-among namings naming nth-text ascii
+returns-15 c = rw (c .before .before .before .before .before .match .keys15) (c .before .before .put-bytes15 .ensures)
+
+returns-16 : tie.Need-returns-16
+unfolding Untold with-told namings naming nth-text write
+returns-16 c = rw (← no-field _ _ 0 (c .match .rest))
 
 pub put-first-spec : {M : Type 1} → statement M
 put-first-spec =
@@ -225,6 +236,8 @@ put-first-spec =
     put-bytes-requires-13
     slice-aggregate-put-bytes-14
     put-bytes-requires-14
+    slice-aggregate-put-bytes-15
+    put-bytes-requires-15
     same-length
     returns
     same-length-2
@@ -253,4 +266,6 @@ put-first-spec =
     returns-13
     same-length-14
     returns-14
-    returns-15)
+    same-length-15
+    returns-15
+    returns-16)

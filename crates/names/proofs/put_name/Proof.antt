@@ -1,6 +1,6 @@
-use borrow.Author.Tests.{ne-eqb}
 use Rattle.names.specs.Names.{name-of, naming-among, namings, naming, ascii}
 use Rattle.lines.specs.Text.{write}
+use Rattle.names.proofs.Table.{with-told, Untold, no-name}
 use borrow.Author.Needs.{needs}
 use Rattle.names.proofs.put_name.Statement.{statement}
 use Rattle.names.proofs.put_name.Tie as tie
@@ -94,6 +94,12 @@ slice-aggregate-put-bytes-15 c = search needs
 
 put-bytes-requires-15 : tie.Need-put-bytes-requires-15
 put-bytes-requires-15 c κs = search needs
+
+slice-aggregate-put-bytes-16 : tie.Need-slice-aggregate-put-bytes-16
+slice-aggregate-put-bytes-16 c = search needs
+
+put-bytes-requires-16 : tie.Need-put-bytes-requires-16
+put-bytes-requires-16 c κs = search needs
 
 same-length : tie.Need-same-length
 same-length c = search needs
@@ -200,9 +206,16 @@ returns-15 : tie.Need-returns-15
 unfolding name-of naming-among namings naming ascii
 returns-15 c = rw (c .before .before .before .before .before .match .keys15) (c .before .before .put-bytes15 .ensures)
 
+same-length-16 : tie.Need-same-length-16
+same-length-16 c = search needs
+
 returns-16 : tie.Need-returns-16
-unfolding name-of naming-among namings naming ascii write
-returns-16 c = rw (ne-eqb _ _ (c .match .rest .0 .0 .0 .0 .0 .0 .0 .0 .0 .0 .0 .0 .0 .0 .1), ne-eqb _ _ (c .match .rest .0 .0 .0 .0 .0 .0 .0 .0 .0 .0 .0 .0 .0 .1), ne-eqb _ _ (c .match .rest .0 .0 .0 .0 .0 .0 .0 .0 .0 .0 .0 .0 .1), ne-eqb _ _ (c .match .rest .0 .0 .0 .0 .0 .0 .0 .0 .0 .0 .0 .1), ne-eqb _ _ (c .match .rest .0 .0 .0 .0 .0 .0 .0 .0 .0 .0 .1), ne-eqb _ _ (c .match .rest .0 .0 .0 .0 .0 .0 .0 .0 .0 .1), ne-eqb _ _ (c .match .rest .0 .0 .0 .0 .0 .0 .0 .0 .1), ne-eqb _ _ (c .match .rest .0 .0 .0 .0 .0 .0 .0 .1), ne-eqb _ _ (c .match .rest .0 .0 .0 .0 .0 .0 .1), ne-eqb _ _ (c .match .rest .0 .0 .0 .0 .0 .1), ne-eqb _ _ (c .match .rest .0 .0 .0 .0 .1), ne-eqb _ _ (c .match .rest .0 .0 .0 .1), ne-eqb _ _ (c .match .rest .0 .0 .1), ne-eqb _ _ (c .match .rest .0 .1), ne-eqb _ _ (c .match .rest .1))
+unfolding name-of naming-among namings naming ascii
+returns-16 c = rw (c .before .before .before .before .before .match .keys16) (c .before .before .put-bytes16 .ensures)
+
+returns-17 : tie.Need-returns-17
+unfolding Untold with-told namings naming write
+returns-17 c = rw (← no-name _ _ (c .match .rest))
 
 pub put-name-spec : {M : Type 1} → statement M
 put-name-spec =
@@ -238,6 +251,8 @@ put-name-spec =
     put-bytes-requires-14
     slice-aggregate-put-bytes-15
     put-bytes-requires-15
+    slice-aggregate-put-bytes-16
+    put-bytes-requires-16
     same-length
     returns
     same-length-2
@@ -268,4 +283,6 @@ put-name-spec =
     returns-14
     same-length-15
     returns-15
-    returns-16)
+    same-length-16
+    returns-16
+    returns-17)

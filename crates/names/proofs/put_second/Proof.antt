@@ -1,8 +1,6 @@
 use Rattle.names.specs.Names.{field-name, naming-among, namings, naming, nth-text, ascii}
 use Rattle.lines.specs.Text.{write}
-use Rattle.names.proofs.Table.{Blank, no-field}
-use mathlib.Core.Logic.{inl, inr}
-use mathlib.Core.Path.{refl}
+use Rattle.names.proofs.Table.{with-told, Untold, no-field}
 use borrow.Author.Needs.{needs}
 use Rattle.names.proofs.put_second.Statement.{statement}
 use Rattle.names.proofs.put_second.Tie as tie
@@ -112,8 +110,8 @@ unfolding field-name naming-among namings naming nth-text ascii
 returns-8 c = rw (c .before .before .before .before .before .match .keys8) (c .before .before .put-bytes8 .ensures)
 
 returns-9 : tie.Need-returns-9
-unfolding Blank namings naming nth-text write
-returns-9 c = rw (← no-field _ 1 (inr refl, (inl (c .match .rest .0 .0 .0 .0 .0 .0 .0 .1), (inl (c .match .rest .0 .0 .0 .0 .0 .0 .1), (inr refl, (inl (c .match .rest .0 .0 .0 .0 .0 .1), (inr refl, (inl (c .match .rest .0 .0 .0 .0 .1), (inl (c .match .rest .0 .0 .0 .1), (inr refl, (inl (c .match .rest .0 .0 .1), (inr refl, (inr refl, (inl (c .match .rest .0 .1), (inr refl, (inl (c .match .rest .1), tt))))))))))))))))
+unfolding Untold with-told namings naming nth-text write
+returns-9 c = rw (← no-field _ _ 1 (c .match .rest))
 
 pub put-second-spec : {M : Type 1} → statement M
 put-second-spec =

@@ -56,12 +56,22 @@ returns-5 : tie.Need-returns-5
 unfolding byte-of byte-named byte-among namings naming ascii
 returns-5 c = rw (sym (c .before .before .before .before .before .before .before .before .before .before .before .before .before .same .ensures) ∙ c .before .before .before .before .before .before .before .before .before .before .before .before .if1 .left, sym (c .before .before .before .before .before .before .before .before .before .before .same2 .ensures) ∙ c .before .before .before .before .before .before .before .before .before .if2 .left, sym (c .before .before .before .before .before .before .before .same3 .ensures) ∙ c .before .before .before .before .before .before .if3 .left, sym (c .before .before .before .before .same4 .ensures) ∙ c .before .before .before .if4 .left, sym (c .before .same5 .ensures) ∙ c .if5 .taken)
 
+slice-aggregate-same-6 : tie.Need-slice-aggregate-same-6
+slice-aggregate-same-6 c = search needs
+
+same-requires-6 : tie.Need-same-requires-6
+same-requires-6 c κs = search needs
+
+returns-6 : tie.Need-returns-6
+unfolding byte-of byte-named byte-among namings naming ascii
+returns-6 c = rw (sym (c .before .before .before .before .before .before .before .before .before .before .before .before .before .before .before .before .same .ensures) ∙ c .before .before .before .before .before .before .before .before .before .before .before .before .before .before .before .if1 .left, sym (c .before .before .before .before .before .before .before .before .before .before .before .before .before .same2 .ensures) ∙ c .before .before .before .before .before .before .before .before .before .before .before .before .if2 .left, sym (c .before .before .before .before .before .before .before .before .before .before .same3 .ensures) ∙ c .before .before .before .before .before .before .before .before .before .if3 .left, sym (c .before .before .before .before .before .before .before .same4 .ensures) ∙ c .before .before .before .before .before .before .if4 .left, sym (c .before .before .before .before .same5 .ensures) ∙ c .before .before .before .if5 .left, sym (c .before .same6 .ensures) ∙ c .if6 .taken)
+
 later-names-requires : tie.Need-later-names-requires
 later-names-requires c κs = search needs
 
-returns-6 : tie.Need-returns-6
+returns-7 : tie.Need-returns-7
 unfolding byte-named byte-among namings naming ascii
-returns-6 c = rw (sym (c .before .before .before .before .before .before .before .before .before .before .before .before .before .before .same .ensures) ∙ c .before .before .before .before .before .before .before .before .before .before .before .before .before .if1 .left, sym (c .before .before .before .before .before .before .before .before .before .before .before .same2 .ensures) ∙ c .before .before .before .before .before .before .before .before .before .before .if2 .left, sym (c .before .before .before .before .before .before .before .before .same3 .ensures) ∙ c .before .before .before .before .before .before .before .if3 .left, sym (c .before .before .before .before .before .same4 .ensures) ∙ c .before .before .before .before .if4 .left, sym (c .before .before .same5 .ensures) ∙ c .before .if5 .left) (c .later-names .ensures)
+returns-7 c = rw (sym (c .before .before .before .before .before .before .before .before .before .before .before .before .before .before .before .before .before .same .ensures) ∙ c .before .before .before .before .before .before .before .before .before .before .before .before .before .before .before .before .if1 .left, sym (c .before .before .before .before .before .before .before .before .before .before .before .before .before .before .same2 .ensures) ∙ c .before .before .before .before .before .before .before .before .before .before .before .before .before .if2 .left, sym (c .before .before .before .before .before .before .before .before .before .before .before .same3 .ensures) ∙ c .before .before .before .before .before .before .before .before .before .before .if3 .left, sym (c .before .before .before .before .before .before .before .before .same4 .ensures) ∙ c .before .before .before .before .before .before .before .if4 .left, sym (c .before .before .before .before .before .same5 .ensures) ∙ c .before .before .before .before .if5 .left, sym (c .before .before .same6 .ensures) ∙ c .before .if6 .left) (c .later-names .ensures)
 
 pub byte-named-spec : {M : Type 1} → statement M
 byte-named-spec =
@@ -82,5 +92,8 @@ byte-named-spec =
     slice-aggregate-same-5
     same-requires-5
     returns-5
+    slice-aggregate-same-6
+    same-requires-6
+    returns-6
     later-names-requires
-    returns-6)
+    returns-7)
