@@ -12,7 +12,7 @@ use borrow.Author.Tests.{eqb-true, eqb-false}
 use Rattle.rules.specs.Laws.Line.{both}
 use Rattle.rules.specs.Puts.{PutOrTake}
 use Rattle.rules.specs.State as rules
-use Rattle.rules.specs.Requests.{Request, declare-cpu, add-node, place-cpu, seal, declare-thread, set-tick, schedule-thread, schedule, hardtick, stattick, resched, maybe-preempt, donate, remove-donation, set-critical, Reading, unknown, cut-short, asks, read}
+use Rattle.rules.specs.Requests.{Request, declare-cpu, add-node, place-cpu, seal, set-shortest, declare-thread, set-tick, schedule-thread, schedule, hardtick, stattick, resched, maybe-preempt, donate, remove-donation, set-critical, Reading, unknown, cut-short, asks, read}
 use Rattle.rules.specs.Questions as rules-ask
 use Rattle.rules.specs.Commands as ruled
 use Rattle.rules.specs.Commands.{obeys, answered}
@@ -50,6 +50,7 @@ request-there (declare-cpu c) = refl
 request-there (add-node p k) = refl
 request-there (place-cpu n c) = refl
 request-there seal = refl
+request-there (set-shortest n) = refl
 request-there (declare-thread x k v p) = ap (declare-thread x k v) (pin-there p)
 request-there (set-tick t) = refl
 request-there (schedule-thread c x) = refl
@@ -96,6 +97,7 @@ call-numbers (asks (declare-cpu c) n) = (refl, refl)
 call-numbers (asks (add-node p k) n) = (refl, refl)
 call-numbers (asks (place-cpu i c) n) = (refl, refl)
 call-numbers (asks seal n) = (refl, refl)
+call-numbers (asks (set-shortest k) n) = (refl, refl)
 call-numbers (asks (declare-thread x k v p) n) = (refl, refl)
 call-numbers (asks (set-tick t) n) = (refl, refl)
 call-numbers (asks (schedule-thread c x) n) = (refl, refl)

@@ -10,8 +10,8 @@ use borrow.Author.Tests.{leb-true, ltb-true}
 use Rattle.rules.specs.Laws.Line.{both}
 use Rattle.rules.specs.Laws.Effect.{and-left, and-right}
 use Rattle.rules.specs.State.{State}
-use Rattle.rules.specs.Requests.{Request, declare-cpu, add-node, place-cpu, seal, declare-thread, set-tick, schedule-thread, schedule, hardtick, stattick, resched, maybe-preempt, donate, remove-donation, set-critical, Reading, unknown, cut-short, asks}
-use Rattle.rules.specs.Questions.{Question, question, first-no, refusal, concerning, room, most-accepted, open-yet, sealed-now, cpu-declared, cpu-new, cpu-unplaced, pin-declared, thread-declared, thread-new, thread-blocked, priority-in-range, at-most, node-exists, parent-without-cpus, node-fits, node-childless, tick-fits, all-placed}
+use Rattle.rules.specs.Requests.{Request, declare-cpu, add-node, place-cpu, seal, set-shortest, declare-thread, set-tick, schedule-thread, schedule, hardtick, stattick, resched, maybe-preempt, donate, remove-donation, set-critical, Reading, unknown, cut-short, asks}
+use Rattle.rules.specs.Questions.{Question, question, first-no, refusal, concerning, room, most-accepted, open-yet, sealed-now, cpu-declared, cpu-new, cpu-unplaced, pin-declared, thread-declared, thread-new, thread-blocked, priority-in-range, at-most, shortest-in-range, node-exists, parent-without-cpus, node-fits, node-childless, tick-fits, all-placed}
 use Rattle.rules.specs.Laws.Reached.{yes}
 
 unfoldable numbered : List Question → Bool
@@ -19,11 +19,12 @@ numbered [] = true
 numbered (q ∷ l) = (leb 1 (q .number) && leb (q .number) 10) && numbered l
 
 concerning-numbered : (s : State) (r : Request) → numbered (concerning s r) ≡ true
-unfolding numbered concerning question open-yet sealed-now cpu-declared cpu-new cpu-unplaced pin-declared thread-declared thread-new thread-blocked priority-in-range at-most node-exists parent-without-cpus node-fits node-childless tick-fits all-placed
+unfolding numbered concerning question open-yet sealed-now cpu-declared cpu-new cpu-unplaced pin-declared thread-declared thread-new thread-blocked priority-in-range at-most shortest-in-range node-exists parent-without-cpus node-fits node-childless tick-fits all-placed
 concerning-numbered s (declare-cpu c) = refl
 concerning-numbered s (add-node p k) = refl
 concerning-numbered s (place-cpu n c) = refl
 concerning-numbered s seal = refl
+concerning-numbered s (set-shortest n) = refl
 concerning-numbered s (declare-thread x k v none) = refl
 concerning-numbered s (declare-thread x k v (some c)) = refl
 concerning-numbered s (set-tick t) = refl

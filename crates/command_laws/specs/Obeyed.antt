@@ -2,11 +2,11 @@
 use Prim.Native.Nat.{ℕ}
 use mathlib.Core.Path.{_≡_, refl}
 use mathlib.Core.List.{List}
-use lib.Dec.{eqb, leb}
+use lib.Dec.{eqb, ltb}
 use Rattle.rules.specs.Laws.Line.{both}
 use Rattle.rules.specs.Puts.{PutOrTake}
 use Rattle.rules.specs.State as rules
-use Rattle.rules.specs.Requests.{Request, declare-cpu, add-node, place-cpu, seal, declare-thread, set-tick, schedule-thread, schedule, hardtick, stattick, resched, maybe-preempt, donate, remove-donation, set-critical, asks}
+use Rattle.rules.specs.Requests.{Request, declare-cpu, add-node, place-cpu, seal, set-shortest, declare-thread, set-tick, schedule-thread, schedule, hardtick, stattick, resched, maybe-preempt, donate, remove-donation, set-critical, asks}
 use Rattle.rules.specs.Questions.{refusal}
 use Rattle.rules.specs.Commands.{obeys}
 use Rattle.thread.specs.declared.Thread.{Thread}
@@ -19,7 +19,7 @@ use Rattle.outcome.specs.Prepare.{prepares}
 use Rattle.command.specs.Command.{declare-thread-command, schedule-thread-command, schedule-command, hardtick-command, stattick-command, resched-command, maybe-preempt-command, donate-command, remove-donation-command, set-critical-command, by-prepared, obey-def}
 use Rattle.represents.specs.State.{State-rep}
 use Rattle.command_laws.specs.Law.{Reachable, As-ruled}
-use Rattle.command_laws.specs.Plain.{plain-declare-cpu, plain-add-node, plain-place-cpu, plain-seal, plain-declare-thread, plain-set-tick, plain-remove-donation, plain-set-critical}
+use Rattle.command_laws.specs.Plain.{plain-declare-cpu, plain-add-node, plain-place-cpu, plain-seal, plain-set-shortest, plain-declare-thread, plain-set-tick, plain-remove-donation, plain-set-critical}
 use Rattle.command_laws.specs.Ran.{ran-schedule-thread, ran-schedule, ran-hardtick, ran-stattick, ran-resched, ran-maybe-preempt, ran-donate}
 use Rattle.command_laws.specs.Law.{lent}
 use Rattle.command.specs.Lent.{Lent}
@@ -33,6 +33,7 @@ obey-law m h (declare-cpu c) used e = plain-declare-cpu m h c used e
 obey-law m h (add-node p k) used e = plain-add-node m h p k used e
 obey-law m h (place-cpu n c) used e = plain-place-cpu m h n c used e
 obey-law m h seal used e = plain-seal m h used e
+obey-law m h (set-shortest n) used e = plain-set-shortest m h n used e
 obey-law m h (declare-thread x k v pin) used e = plain-declare-thread m h x k v pin used e
 obey-law m h (set-tick t) used e = plain-set-tick m h t used e
 obey-law m h (schedule-thread c x) used e = ran-schedule-thread m h c x used e
@@ -57,12 +58,13 @@ prepares-obeyed ts cs ns a k =
     both (eqb (k .kind) 0x01) (λ t. rw t (record { number = refl; used = refl }))
     (λ t. rw t (both (eqb (k .kind) 0x02) (λ t. rw t (record { number = refl; used = refl }))
     (λ t. rw t (both (eqb (k .kind) 0x03) (λ t. rw t (record { number = refl; used = refl }))
-    (λ t. rw t (record { number = refl; used = refl }))))))
+    (λ t. rw t (both (eqb (k .kind) 0x04) (λ t. rw t (record { number = refl; used = refl }))
+    (λ t. rw t (record { number = refl; used = refl }))))))))
 
 pub obey-obeyed : (ts : List Thread) (cs ns : List (List ℕ)) (a : State) (k : Call) → Obeyed k (obey-def a k (lent ts cs ns))
 unfolding obey-def declare-thread-command schedule-thread-command schedule-command hardtick-command stattick-command resched-command maybe-preempt-command donate-command remove-donation-command set-critical-command changed ran nothing-shown shown refusal-number
 obey-obeyed ts cs ns a k =
-    both (leb (k .kind) 4) (λ t. rw t (prepares-obeyed ts cs ns a k))
+    both (ltb (k .kind) 0x10) (λ t. rw t (prepares-obeyed ts cs ns a k))
     (λ t. rw t (both (eqb (k .kind) 0x10) (λ t. rw t (record { number = refl; used = refl }))
     (λ t. rw t (both (eqb (k .kind) 0x11) (λ t. rw t (record { number = refl; used = refl }))
     (λ t. rw t (both (eqb (k .kind) 0x12) (λ t. rw t (record { number = refl; used = refl }))

@@ -1,4 +1,4 @@
--- THE COMMANDS THAT TOUCH NO QUEUE (hex 01 to 04, 10, 11, 19, 1A): once obeyed, memory and answer are those of the rules.
+-- THE COMMANDS THAT TOUCH NO QUEUE (hex 01 to 05, 10, 11, 19, 1A): once obeyed, memory and answer are those of the rules.
 use Prim.Native.Nat.{ℕ, _+_, _%_, _^_, _<_}
 use mathlib.Core.Path.{_≡_, refl, sym, ap, subst, _∙_}
 use mathlib.Core.Bool.{true}
@@ -9,7 +9,7 @@ use lib.ListN.{length}
 use borrow.Author.Tests.{ltb-true}
 use Rattle.rules.specs.Puts.{PutOrTake}
 use Rattle.rules.specs.State as rules
-use Rattle.rules.specs.Requests.{declare-cpu, add-node, place-cpu, seal, declare-thread, set-tick, remove-donation, set-critical, asks}
+use Rattle.rules.specs.Requests.{declare-cpu, add-node, place-cpu, seal, set-shortest, declare-thread, set-tick, remove-donation, set-critical, asks}
 use Rattle.rules.specs.Questions.{refusal, concerning, open-yet, at-most, node-exists, parent-without-cpus, node-fits, most-accepted}
 use Rattle.rules.specs.Commands as ruled
 use Rattle.rules.specs.Commands.{obeys}
@@ -19,12 +19,12 @@ use Rattle.lines.specs.Lines.{refusal-number, shown-option, running-option, ans
 use Rattle.questions.specs.declared.state.State.{State}
 use Rattle.sched_queues.specs.Donate.{remove-donated, set-critical-def}
 use Rattle.outcome.specs.Answer.{accepted, nothing-shown, changed}
-use Rattle.outcome.specs.Call.{call-of, priority-in, ticked, sealed-now, one-node-more}
+use Rattle.outcome.specs.Call.{call-of, priority-in, ticked, sealed-now, with-shortest, one-node-more}
 use Rattle.outcome.specs.Prepare.{prepares}
 use Rattle.command.specs.Command.{declare-thread-command, remove-donation-command, set-critical-command, obey-def}
 use Rattle.represents.specs.State.{limits-in, State-rep}
 use Rattle.represents.specs.Laws.State.{Counted}
-use Rattle.question_laws.specs.Changes.{stands-declare-cpu, stands-add-node, stands-place-cpu, stands-seal, stands-declare-thread, stands-set-tick, stands-remove-donation, stands-set-critical}
+use Rattle.question_laws.specs.Changes.{stands-declare-cpu, stands-add-node, stands-place-cpu, stands-seal, stands-set-shortest, stands-declare-thread, stands-set-tick, stands-remove-donation, stands-set-critical}
 use Rattle.command_laws.specs.Law.{Reachable, As-ruled}
 use Rattle.command_laws.specs.Numbers.{few-accepted}
 -- one command more does not wrap
@@ -92,6 +92,18 @@ module _ {H : ℕ → List PutOrTake} {ts : List Thread} {cs ns : List (List ℕ
   unfolding obey-def prepares call-of changed nothing-shown answer-of refusal-number shown-option running-option obeys ruled.changed ruled.nothing-shown
   plain-seal used e = record {
     stands = stands-seal m (reachable .reached) used (accepted (sealed-now a)) (counted-seal (few-accepted s seal used e)) e;
+    answer = refl;
+  }
+
+  -- 05
+  counted-shortest : (n : ℕ) → s .accepted < most-accepted → Counted (with-shortest a n) (accepted (with-shortest a n)) (s .sealed) (s .tick) (length (s .topology .nodes))
+  unfolding accepted with-shortest limits-in
+  counted-shortest n h = record { limits-stay = refl; sealed-is = m .sealed; tick-is = m .tick; count-is = m .node-count; accepted-is = accepted-one h }
+
+  pub plain-set-shortest : (n used : ℕ) → refusal s (asks (set-shortest n) used) ≡ 0 → As-ruled (obey-def a (call-of (set-shortest n) used) (lent ts cs ns)) (obeys s (set-shortest n))
+  unfolding obey-def prepares call-of changed nothing-shown answer-of refusal-number shown-option running-option obeys ruled.changed ruled.nothing-shown
+  plain-set-shortest n used e = record {
+    stands = stands-set-shortest m (reachable .reached) n used (accepted (with-shortest a n)) (counted-shortest n (few-accepted s (set-shortest n) used e)) e;
     answer = refl;
   }
 

@@ -12,11 +12,12 @@ use borrow.Author.Tests.{eqb-true, ltb-true}
 use Rattle.rules.specs.declared.Priority.{Priority}
 use Rattle.rules.specs.Laws.Line.{both}
 use Rattle.rules.specs.Laws.Effect.{and-left}
+use Rattle.rules.specs.Laws.Limits.{Same-but-shortest}
 use Rattle.rules.specs.Puts.{PutOrTake}
 use Rattle.rules.specs.State as rules
 use Rattle.rules.specs.State.{base-limits}
 use Rattle.rules.specs.Topology.{nr-nodes}
-use Rattle.rules.specs.Requests.{Request, declare-cpu, add-node, place-cpu, seal, declare-thread, set-tick, schedule-thread, schedule, hardtick, stattick, resched, maybe-preempt, donate, remove-donation, set-critical, Reading, unknown, cut-short, asks, read}
+use Rattle.rules.specs.Requests.{Request, declare-cpu, add-node, place-cpu, seal, set-shortest, declare-thread, set-tick, schedule-thread, schedule, hardtick, stattick, resched, maybe-preempt, donate, remove-donation, set-critical, Reading, unknown, cut-short, asks, read}
 use Rattle.rules.specs.Questions.{refusal, concerning, declared, open-yet, sealed-now, cpu-new, cpu-unplaced, thread-declared, thread-new, at-most, node-exists, parent-without-cpus, node-fits}
 use Rattle.rules.specs.Waits.{Under}
 use Rattle.rules.specs.Laws.Reached.{yes, declared-in, runs-below, pin-in}
@@ -36,7 +37,7 @@ use Rattle.records.specs.Left.{mem, Left}
 use Rattle.outcome.specs.declared.answer.Answered.{Answered}
 use Rattle.outcome.specs.declared.call.Call.{Call}
 use Rattle.outcome.specs.Answer.{accepted, refuses, changed, ran}
-use Rattle.outcome.specs.Call.{refusal-back, pin-number, call-of, call-read, context-of, ticked, sealed-now as sealing, one-node-more}
+use Rattle.outcome.specs.Call.{refusal-back, pin-number, call-of, call-read, context-of, ticked, sealed-now as sealing, with-shortest, one-node-more}
 use Rattle.outcome.specs.Prepare.{prepares}
 use Rattle.command.specs.Lent.{Lent, memory-of}
 use Rattle.command.specs.Command.{declare-thread-command, schedule-thread-command, schedule-command, hardtick-command, stattick-command, resched-command, maybe-preempt-command, donate-command, remove-donation-command, set-critical-command, obey-def, command-def}
@@ -66,14 +67,14 @@ unfolding new pin-number Under named cpu-in
 tidy-new p none u = record { link = λ h. refl; pin = rw (named-none NONE (omega arith)) tt; last = tt }
 tidy-new p (some c) u = record { link = λ h. refl; pin = under-field c u; last = tt }
 
-module _ {H : ℕ → List PutOrTake} {ts : List Thread} {cs ns : List (List ℕ)} {a : State} {s : rules.State} (m : State-rep ts cs ns a s) (r : Reachable H s) (base : s .limits ≡ base-limits)
+module _ {H : ℕ → List PutOrTake} {ts : List Thread} {cs ns : List (List ℕ)} {a : State} {s : rules.State} (m : State-rep ts cs ns a s) (r : Reachable H s) (base : Same-but-shortest base-limits (s .limits))
     (found : List (List ℕ)) (sized : Sized found) (t : In-range (mem ts cs)) (k : Nodes found (a .«node_count») ns) where
   cpus-64 : s .limits .cpus ≡ 64
-  unfolding base-limits
+  unfolding base-limits rules.with-shortest
   cpus-64 = ap (λ (l : rules.Limits). l .cpus) base
 
   threads-1024 : s .limits .threads ≡ 1024
-  unfolding base-limits
+  unfolding base-limits rules.with-shortest
   threads-1024 = ap (λ (l : rules.Limits). l .threads) base
 
   near : (c : ℕ) → c < s .limits .cpus → c < 64
@@ -92,7 +93,7 @@ module _ {H : ℕ → List PutOrTake} {ts : List Thread} {cs ns : List (List ℕ
   abbrev Keeps : Request → Type 0
   Keeps q = (used : ℕ) → refusal s (asks q used) ≡ 0 → Written-in-range found ts cs (obey-def a (call-of q used) (lent ts cs ns))
 
-  -- 01 to 04
+  -- 01 to 05
   keeps-declare-cpu : (c : ℕ) → Keeps (declare-cpu c)
   unfolding refusal concerning open-yet cpu-new obey-def prepares call-of changed accepted
   keeps-declare-cpu c used e =
@@ -129,6 +130,10 @@ module _ {H : ℕ → List PutOrTake} {ts : List Thread} {cs ns : List (List ℕ
   keeps-seal : Keeps seal
   unfolding obey-def prepares call-of changed accepted sealing
   keeps-seal used e = record { memory = goes-none t; nodes = k }
+
+  keeps-set-shortest : (n : ℕ) → Keeps (set-shortest n)
+  unfolding obey-def prepares call-of changed accepted with-shortest
+  keeps-set-shortest n used e = record { memory = goes-none t; nodes = k }
 
   -- 10, 11
   keeps-declare-thread : (x class v : ℕ) (pin : Option ℕ) → Keeps (declare-thread x class v pin)
@@ -200,6 +205,7 @@ module _ {H : ℕ → List PutOrTake} {ts : List Thread} {cs ns : List (List ℕ
   obey-confined (add-node p type) used e = keeps-add-node p type used e
   obey-confined (place-cpu n c) used e = keeps-place-cpu n c used e
   obey-confined seal used e = keeps-seal used e
+  obey-confined (set-shortest n) used e = keeps-set-shortest n used e
   obey-confined (declare-thread x class v pin) used e = keeps-declare-thread x class v pin used e
   obey-confined (set-tick n) used e = keeps-set-tick n used e
   obey-confined (schedule-thread c x) used e = keeps-schedule-thread c x used e

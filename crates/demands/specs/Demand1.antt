@@ -6,12 +6,13 @@ use mathlib.Core.Path.{_≡_, ap, _∙_}
 use mathlib.Core.Logic.{_≢_}
 use mathlib.Core.List.{List}
 use native.Mathlib.Omega.{arith}
-use lib.ListN.{length, take}
+use lib.ListN.{length}
 use lib.Seq.{take-all}
-use Rattle.rules.specs.State.{base-limits, start, Limits}
+use Rattle.rules.specs.State.{base-limits, start}
 use Rattle.rules.specs.Requests.{read}
 use Rattle.rules.specs.Questions.{refusal}
 use Rattle.rules.specs.Commands.{Answer, after-calls}
+use Rattle.rules.specs.Laws.Limits.{read-alike}
 use Rattle.rules.specs.Laws.Reached.{limits-kept}
 use Rattle.rules.specs.Laws.Refused.{refused-number}
 use Rattle.lines.specs.Lines.{refusal-number, answer-of}
@@ -28,7 +29,7 @@ unfolding answer-of start
 demand-1-question h ready calls bytes =
     let s = after-calls (start base-limits) calls in
     ap (λ (a : Answer). a .refused) (demand-2-step h ready calls bytes .answer) ∙ refused-number s bytes
-    ∙ ap (λ (l : Limits). refusal s (read l bytes)) (limits-kept (start base-limits) calls)
+    ∙ ap (refusal s) (read-alike base-limits (s .limits) (limits-kept (start base-limits) calls) bytes)
 
 -- A call takes the bytes of its command; where its bytes are no command, or one cut short, none.
 pub demand-1-used : (h : Lent-state) → Ready h → (calls : List (List ℕ)) (bytes : List ℕ) → call (after h calls) bytes .answer .used ≡ used (read base-limits bytes)
@@ -38,7 +39,7 @@ demand-1-used h ready calls bytes =
     let f = follows-after h (start base-limits) calls (follows-start h ready) in
     command-used (f .stood) (f .reachable) bytes (length bytes) 0
     ∙ ap (λ (b : List ℕ). used (read (s .limits) b)) (take-all (length bytes) bytes (omega arith))
-    ∙ ap (λ (l : Limits). used (read l bytes)) (limits-kept (start base-limits) calls)
+    ∙ ap used (read-alike base-limits (s .limits) (limits-kept (start base-limits) calls) bytes)
 
 -- A refused call leaves everything as found: of all memory and states, also such as nobody made.
 pub demand-1-as-found : (h : Lent-state) (bytes : List ℕ) → refusal-number (call h bytes .answer .answer .refusal) ≢ 0 → left-by (call h bytes) ≡ h

@@ -9,6 +9,7 @@ use lib.ListN.{length, getD}
 use Rattle.rules.specs.State as rules
 use Rattle.rules.specs.State.{base-limits, start}
 use Rattle.rules.specs.Commands.{step, after-calls}
+use Rattle.rules.specs.Laws.Limits.{Same-but-shortest, same-limits, then-same}
 use Rattle.rules.specs.Laws.Reached.{limits-kept}
 use Rattle.thread.specs.Thread.{NONE, blank}
 use Rattle.records.specs.Left.{mem}
@@ -53,7 +54,7 @@ record Kept-free (found : List (List ℕ)) (b h : Lent-state) : Type 0 where
   memory : Stays-in-range (mem (b .threads) (b .cpus)) (mem (h .threads) (h .cpus))
   nodes : Nodes found (h .state .«node_count») (h .nodes)
 
-free-after : (found : List (List ℕ)) → Sized found → (h : Lent-state) (s : rules.State) (calls : List (List ℕ)) → Represents-reached h s → s .limits ≡ base-limits → In-range (mem (h .threads) (h .cpus))
+free-after : (found : List (List ℕ)) → Sized found → (h : Lent-state) (s : rules.State) (calls : List (List ℕ)) → Represents-reached h s → Same-but-shortest base-limits (s .limits) → In-range (mem (h .threads) (h .cpus))
     → Nodes found (h .state .«node_count») (h .nodes) → Kept-free found h (after h calls)
 unfolding after after-calls step
 free-after found sized h s [] f base t k = record { memory = goes-none t; nodes = k }
@@ -61,14 +62,14 @@ free-after found sized h s (bytes ∷ calls) f base t k =
     let c = command-confined (f .stood) (f .reachable) base found sized t k bytes (length bytes) 0 in
     let g : Represents-reached (left-by (call h bytes)) (step s bytes .state) =
     record { puts-and-takes = _; stood = call-ruled h bytes (f .stood) (f .reachable) .stands; reachable = reachable-step bytes (f .reachable) } in
-    let r = free-after found sized (left-by (call h bytes)) (step s bytes .state) calls g (limits-kept s (bytes ∷ []) ∙ base) (c .memory .tame) (c .nodes) in
+    let r = free-after found sized (left-by (call h bytes)) (step s bytes .state) calls g (then-same base-limits (s .limits) (step s bytes .state .limits) base (limits-kept s (bytes ∷ []))) (c .memory .tame) (c .nodes) in
     record { memory = goes-then (c .memory) (r .memory); nodes = r .nodes }
 
 -- THE THEOREM: `start` answered Ready on the memory found, and left h; for every list of calls, of any length, each on any bytes.
 pub frame : (h : Lent-state) (ready : Ready h) (calls : List (List ℕ)) → Frame (lent (ready .threads) (ready .cpus) (ready .nodes)) (after h calls)
 frame h ready calls =
     let b = ready-begun h ready in
-    let k = free-after (ready .nodes) (ready .typed .node-rows) h (start base-limits) calls (follows-start h ready) (unfold start in refl) (b .tame) (b .nodes) in
+    let k = free-after (ready .nodes) (ready .typed .node-rows) h (start base-limits) calls (follows-start h ready) (same-limits (unfold start in refl)) (b .tame) (b .nodes) in
     record {
       as-many-records = k .memory .as-many ∙ b .as-many;
       as-many-cpus = k .memory .rows .as-many ∙ b .rows .as-many;

@@ -7,5 +7,6 @@ pub mod Laws
 pub mod Provisos
 pub mod ProvisosMet
 pub mod Selects
+pub mod Shortest
 pub mod Start
 pub mod Witness

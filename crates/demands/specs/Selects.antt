@@ -1,7 +1,7 @@
 -- ONCE SEALED, A CPU IS ALWAYS FOUND: after every list of calls with the seal among them, `select_cpu` on a declared CPU finds a CPU, in every world that a command
 -- may come to. So the rules' clauses for "none found" (`scheduled-on` in Commands, `reinserted` in Schedule) are never taken.
 use Prim.Native.Nat.{ℕ, _<_}
-use mathlib.Core.Path.{_≡_, refl, sym, ap, _∙_}
+use mathlib.Core.Path.{_≡_, refl, ap}
 use mathlib.Core.Bool.{true, false≢true}
 use mathlib.Core.Option.{Option, none, some}
 use mathlib.Core.List.{List}
@@ -30,7 +30,7 @@ module _ (h : Lent-state) (s : rules.State) (f : Represents-reached h s) (us : �
 pub selects : (calls : List (List ℕ)) (us : ℕ) → us < 64
     → (let s : rules.State = after-calls (start base-limits) calls in
     s .sealed ≡ true → s .topology .declared us ≡ true → (w : World) (x : ℕ) (avoid : Option ℕ) → is-some (sched.select-cpu (s .limits) (s .topology) (s .tick) us w x avoid .got) ≡ true)
-unfolding start base-limits
+unfolding start base-limits rules.with-shortest
 selects calls us near sealed declared w x avoid =
     let s : rules.State = after-calls (start base-limits) calls in
     let f : Represents-reached (after begun calls) s = follows-after begun (start base-limits) calls (follows-start begun ready) in

@@ -11,13 +11,14 @@ use lib.Dec.{eqb, ltb, leb}
 use borrow.Author.Tests.{ne-eqb, lt-ltb, lt-leb, ltb-true}
 use Rattle.rules.specs.Line.{has}
 use Rattle.rules.specs.Laws.Line.{both}
+use Rattle.rules.specs.Laws.Limits.{read-widths}
 use Rattle.rules.specs.Times.{is-some}
 use Rattle.rules.specs.Queue.{order}
 use Rattle.rules.specs.Puts.{PutOrTake}
 use Rattle.rules.specs.State as rules
 use Rattle.rules.specs.State.{Limits, any-below, runs-on, waits-on, blocked}
 use Rattle.rules.specs.Topology.{nr-nodes, leaf}
-use Rattle.rules.specs.Requests.{Request, declare-cpu, add-node, place-cpu, seal, declare-thread, set-tick, schedule-thread, schedule, hardtick, stattick, resched, maybe-preempt, donate, remove-donation, set-critical, Reading, unknown, cut-short, asks, widths, pin-of, operands, request, read-operands, read}
+use Rattle.rules.specs.Requests.{Request, declare-cpu, add-node, place-cpu, seal, set-shortest, declare-thread, set-tick, schedule-thread, schedule, hardtick, stattick, resched, maybe-preempt, donate, remove-donation, set-critical, Reading, unknown, cut-short, asks, widths, request, read}
 use Rattle.rules.specs.Questions as rules-ask
 use Rattle.rules.specs.Questions.{Question, question, first-no, refusal}
 use Rattle.rules.specs.Seal.{those-alone}
@@ -48,6 +49,7 @@ thread-named (declare-cpu c) = NONE
 thread-named (add-node p k) = NONE
 thread-named (place-cpu n c) = NONE
 thread-named seal = NONE
+thread-named (set-shortest n) = NONE
 thread-named (declare-thread x k v pin) = x
 thread-named (set-tick n) = NONE
 thread-named (schedule-thread c x) = x
@@ -93,29 +95,6 @@ unfolding place-in is-blocked
 blocked-test n =
     both (eqb n BLOCKED) (λ t. rw t)
     (λ t. rw t (both (eqb n RUNNING) (λ u. rw u) (λ u. rw u (both (eqb n WAITING) (λ v. rw v) (λ v. rw v)))))
-
--- reading asks only how many bytes an operand has that names a CPU or a node
-record Widths (l k : Limits) : Type 0 where
-  of-cpus : l .cpu-bytes ≡ k .cpu-bytes
-  of-nodes : l .node-bytes ≡ k .node-bytes
-
-widths-same : (l k : Limits) → Widths l k → (byte : ℕ) → widths l byte ≡ widths k byte
-unfolding widths
-widths-same l k e byte = rw (e .of-cpus, e .of-nodes)
-
-request-same : (l k : Limits) → Widths l k → (byte : ℕ) (v : List ℕ) → request l byte v ≡ request k byte v
-unfolding request pin-of
-request-same l k e byte v = rw (e .of-cpus)
-
-read-operands-same : (l k : Limits) → Widths l k → (byte : ℕ) (bytes : List ℕ) (o : Option (List ℕ)) → read-operands l byte bytes o ≡ read-operands k byte bytes o
-unfolding read-operands
-read-operands-same l k e byte bytes none = refl
-read-operands-same l k e byte bytes (some ns) = rw (request-same l k e byte (operands ns bytes))
-
-read-widths : (l k : Limits) → Widths l k → (bytes : List ℕ) → read l bytes ≡ read k bytes
-unfolding read
-read-widths l k e [] = refl
-read-widths l k e (byte ∷ bytes) = read-operands-same l k e byte bytes (widths l byte) ∙ ap (read-operands k byte bytes) (widths-same l k e byte)
 
 -- ---- memory that stands for a state
 
@@ -285,6 +264,7 @@ module _ {H : ℕ → List PutOrTake} {ts : List Thread} {cs ns : List (List ℕ
       rw (open-same, cpu-unplaced-same c, node-exists-same n, room-same)
       (first-then _ _ _ _ refl (λ o. first-then _ _ _ _ refl (λ l. first-then _ _ _ _ refl (λ e. first-then _ _ _ _ (childless-same n (exists n e)) (λ y. refl)))))
   asked-same seal = rw (open-same, all-placed-same, room-same)
+  asked-same (set-shortest n) = rw (open-same, room-same)
   asked-same (declare-thread x k v pin) = rw (sealed-same, pin-declared-same pin, thread-new-same x, room-same)
   asked-same (set-tick n) = rw (sealed-same, tick-fits-same n, room-same)
   asked-same (schedule-thread c x) =

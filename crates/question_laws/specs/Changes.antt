@@ -1,4 +1,4 @@
--- THE COMMANDS THAT TOUCH NO QUEUE (hex 01 to 04, 10, 11, 19, 1A): memory that stands for a state stands, once such a command is obeyed, for the state that
+-- THE COMMANDS THAT TOUCH NO QUEUE (hex 01 to 05, 10, 11, 19, 1A): memory that stands for a state stands, once such a command is obeyed, for the state that
 -- the rules leave.
 use Prim.Native.Nat.{ℕ, zero, suc, _+_, _^_, _≤_, _<_}
 use mathlib.Core.Path.{_≡_, refl, sym, ap, subst, _∙_}
@@ -18,9 +18,9 @@ use Rattle.rules.specs.State as rules
 use Rattle.rules.specs.State.{at, Limits, Topology, is-number, runs-on, new-thread}
 use Rattle.rules.specs.Topology.{nr-nodes}
 use Rattle.rules.specs.Schedule.{World, with-thread}
-use Rattle.rules.specs.Requests.{declare-cpu, add-node, place-cpu, seal, declare-thread, set-tick, remove-donation, set-critical, asks}
-use Rattle.rules.specs.Questions.{Question, first-no, refusal, concerning, open-yet, sealed-now, declared, cpu-declared, cpu-new, cpu-unplaced, pin-declared, thread-declared, thread-new, priority-in-range, at-most, node-exists, parent-without-cpus, node-fits, node-childless, tick-fits}
-use Rattle.rules.specs.Commands.{no-log, changed, world-of, with-cpu-declared, with-node, with-placed, obeys}
+use Rattle.rules.specs.Requests.{declare-cpu, add-node, place-cpu, seal, set-shortest, declare-thread, set-tick, remove-donation, set-critical, asks}
+use Rattle.rules.specs.Questions.{Question, first-no, refusal, concerning, open-yet, sealed-now, declared, cpu-declared, cpu-new, cpu-unplaced, pin-declared, thread-declared, thread-new, priority-in-range, at-most, least-shortest, most-shortest, shortest-in-range, node-exists, parent-without-cpus, node-fits, node-childless, tick-fits}
+use Rattle.rules.specs.Commands.{no-log, changed, world-of, shortened, with-cpu-declared, with-node, with-placed, obeys}
 use Rattle.rules.specs.Laws.Effect.{and-left, and-right}
 use Rattle.rules.specs.Waits.{Under, Free, waits}
 use Rattle.rules.specs.Laws.Sound.{at-here, at-there}
@@ -48,8 +48,8 @@ use Rattle.represents.specs.Laws.Grown.{tree-child}
 use Rattle.represents.specs.Laws.Placed.{tree-declared, tree-placed}
 use Rattle.questions.specs.declared.state.State.{State}
 use Rattle.represents.specs.State.{limits-in, runs, State-rep}
-use Rattle.represents.specs.Laws.State.{Counted, stands-changed}
-use Rattle.outcome.specs.Call.{pin-number}
+use Rattle.represents.specs.Laws.State.{Counted, stands-changed, stands-shortened}
+use Rattle.outcome.specs.Call.{pin-number, with-shortest}
 
 -- ---- questions answered yes
 
@@ -188,6 +188,16 @@ module _ {H : ℕ → List PutOrTake} {ts : List Thread} {cs ns : List (List ℕ
   pub stands-seal : (used : ℕ) (b : State) → Counted a b true (s .tick) (length (s .topology .nodes)) → refusal s (asks seal used) ≡ 0 → State-rep ts cs ns b (obeys s seal .state)
   unfolding obeys
   stands-seal used b n e = stands-changed m ts cs ns b (s .topology) true (s .tick) (s .known) (s .threads) n (m .tree) (m .rows) shows-now (m .nodes-fit) (m .tick-fits)
+
+  -- 05
+  pub stands-set-shortest : (n used : ℕ) (b : State) → Counted (with-shortest a n) b (s .sealed) (s .tick) (length (s .topology .nodes)) → refusal s (asks (set-shortest n) used) ≡ 0
+      → State-rep ts cs ns b (obeys s (set-shortest n) .state)
+  unfolding obeys refusal concerning open-yet shortest-in-range with-shortest limits-in rules.with-shortest world-of shortened
+  stands-set-shortest n used b k e =
+      let in-range = yes 5 (leb least-shortest n && leb n most-shortest) _ (yes 2 _ _ e .1) in
+      let most : n ≤ most-shortest = leb-true _ _ (and-right (leb least-shortest n) (leb n most-shortest) (in-range .0)) in
+      let now : State-rep ts cs ns (with-shortest a n) (shortened s n) = stands-shortened m (with-shortest a n) n most refl refl refl refl refl in
+      stands-changed now ts cs ns b (s .topology) (s .sealed) (s .tick) (s .known) (s .threads) k (now .tree) (now .rows) (now .shows) (now .nodes-fit) (now .tick-fits)
 
   -- 11
   pub stands-set-tick : (t used : ℕ) (b : State) → Counted a b (s .sealed) t (length (s .topology .nodes)) → refusal s (asks (set-tick t) used) ≡ 0

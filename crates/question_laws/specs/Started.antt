@@ -9,6 +9,7 @@ use lib.Dec.{ltb}
 use borrow.Author.Tests.{ltb-false}
 use Rattle.rules.specs.Laws.Line.{both}
 use Rattle.rules.specs.State.{base-limits, start}
+use Rattle.rules.specs.Questions.{most-shortest}
 use Rattle.thread.specs.declared.Thread.{Thread}
 use Rattle.thread.specs.Thread.{NONE}
 use Rattle.processor.specs.Words.{width}
@@ -29,7 +30,7 @@ room-enough t c n e =
     (λ q. both (ltb n 128) (λ r. absurd (true≢false (rw (p, q, r) at e))) (λ r. (ltb-false _ _ p, (ltb-false _ _ q, ltb-false _ _ r)))))
 
 small-base : Small base-limits
-unfolding base-limits
+unfolding base-limits most-shortest
 small-base = record { cpus = omega arith; threads = omega arith; shortest = omega arith }
 
 pub start-stands : (ts : List Thread) (cs ns : List (List ℕ)) → no-room-def (length ts) (length cs) (length ns) ≡ false → length ts ≤ NONE

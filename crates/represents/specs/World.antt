@@ -7,6 +7,7 @@ use mathlib.Core.Option.{Option, none, some}
 use mathlib.Core.List.{List, []}
 use lib.ListN.{length, getD}
 use lib.Dec.{eqb}
+use Rattle.rules.specs.Questions.{most-shortest}
 use Rattle.rules.specs.Priority.{from-raw}
 use Rattle.rules.specs.Times.{is-some}
 use Rattle.rules.specs.State.{Limits, Topology, Cpu}
@@ -77,7 +78,7 @@ most-tick = 2 ^ 62
 pub record Small (limits : Limits) : Type 0 where
   pub cpus : limits .cpus ≤ 2147483648
   pub threads : limits .threads ≤ 2147483648
-  pub shortest : limits .shortest ≤ 2147483648
+  pub shortest : limits .shortest ≤ most-shortest
 
 -- There are records and rows enough, and no record has the number for none; each run queue is well formed and reads as the rules' (`Queues-rep`);
 -- each record below the limit reads as the rules' thread, whose queue is that of a CPU, and each other word of a CPU as the rules' field; the places of

@@ -10,7 +10,7 @@ use Rattle.rules.specs.Laws.Line.{both}
 use Rattle.rules.specs.Times.{is-some}
 use Rattle.rules.specs.State.{Limits, State, start}
 use Rattle.rules.specs.Schedule.{World}
-use Rattle.rules.specs.Requests.{Request, declare-cpu, add-node, place-cpu, seal, declare-thread, set-tick, schedule-thread, schedule, hardtick, stattick, resched, maybe-preempt, donate, remove-donation, set-critical, Reading, unknown, cut-short, asks, read}
+use Rattle.rules.specs.Requests.{Request, declare-cpu, add-node, place-cpu, seal, set-shortest, declare-thread, set-tick, schedule-thread, schedule, hardtick, stattick, resched, maybe-preempt, donate, remove-donation, set-critical, Reading, unknown, cut-short, asks, read}
 use Rattle.rules.specs.Questions.{Question, question, open-yet, placed, all-placed, declared, concerning, first-no, room, refusal}
 use Rattle.rules.specs.Seal.{question-9}
 use Rattle.rules.specs.Laws.Reached.{yes}
@@ -48,6 +48,7 @@ module _ (s : State) (k : Sealed s) where
   goes (add-node p n) e = record { on-node = λ t. absurd (true≢false (sym t ∙ unsealed s _ e)) }
   goes (place-cpu n c) e = record { on-node = λ t. absurd (true≢false (sym t ∙ unsealed s _ e)) }
   goes seal e = record { on-node = λ t. all-on-nodes e }
+  goes (set-shortest n) e = record { on-node = λ t. absurd (true≢false (sym t ∙ unsealed s _ e)) }
   goes (declare-thread x c v p) e = record { on-node = k .on-node }
   goes (set-tick t) e = record { on-node = k .on-node }
   goes (schedule-thread c x) e = on-cpu c x _ _

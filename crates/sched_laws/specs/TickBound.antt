@@ -12,9 +12,9 @@ use Rattle.rules.specs.State.{at, Limits, Topology, Cpu, new-cpu, State, start}
 use Rattle.rules.specs.Schedule as sched
 use Rattle.rules.specs.Schedule.{World, Flags, with-cpu, with-thread, with-queue, with-draws, with-preempt, with-rebalance-time, with-ticks}
 use Rattle.rules.specs.Laws.Sound.{at-keeps}
-use Rattle.rules.specs.Requests.{Request, declare-cpu, add-node, place-cpu, seal, declare-thread, set-tick, schedule-thread, schedule, hardtick, stattick, resched, maybe-preempt, donate, remove-donation, set-critical, Reading, unknown, cut-short, asks, read, flags-of}
+use Rattle.rules.specs.Requests.{Request, declare-cpu, add-node, place-cpu, seal, set-shortest, declare-thread, set-tick, schedule-thread, schedule, hardtick, stattick, resched, maybe-preempt, donate, remove-donation, set-critical, Reading, unknown, cut-short, asks, read, flags-of}
 use Rattle.rules.specs.Questions.{Question, sealed-now, tick-fits, concerning, first-no, room, refusal}
-use Rattle.rules.specs.Commands.{Answer, world-of, refuses, changed, ran, ran-on, schedules, scheduled-on, obeys, answered, step, after-calls}
+use Rattle.rules.specs.Commands.{Answer, world-of, refuses, changed, shortened, ran, ran-on, schedules, scheduled-on, obeys, answered, step, after-calls}
 use Rattle.rules.specs.Laws.Reached.{yes}
 use Rattle.rules.specs.Laws.Effect.{and-left}
 use Rattle.sched_laws.specs.Frames.{put-last, pick-last, select-last, balance-last, donate-last, mark-last}
@@ -105,11 +105,12 @@ module _ (s : State) (k : Tick-bound s) where
   on-cpu us x w (some d) e = kept-late _ _ (λ c. put-last (s .limits) (s .topology) (s .tick) us w d x c ∙ e c)
 
   goes : (r : Request) → first-no (concerning s r ++ (room s ∷ [])) ≡ 0 → Tick-bound (obeys s r .state)
-  unfolding concerning obeys changed ran-on schedules world-of
+  unfolding concerning obeys changed shortened ran-on schedules world-of
   goes (declare-cpu c) e = record { last = k .last }
   goes (add-node p n) e = record { last = k .last }
   goes (place-cpu n c) e = record { last = k .last }
   goes seal e = record { last = k .last }
+  goes (set-shortest n) e = record { last = k .last }
   goes (declare-thread x c v p) e = record { last = k .last }
   goes (set-tick t) e = record { last = λ c. let h : s .tick ≤ t = tick-grows s t _ e in omega (arith, k .last c) }
   goes (schedule-thread us x) e = on-cpu us x _ _ (λ c. select-last (s .limits) (s .topology) (s .tick) us (world-of s) x none c)

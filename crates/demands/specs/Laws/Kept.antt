@@ -7,6 +7,7 @@ use native.Mathlib.Omega.{arith}
 use lib.ListN.{length}
 use lib.Seq.{take-all}
 use Rattle.rules.specs.Laws.Line.{both}
+use Rattle.rules.specs.Laws.Limits.{Same-but-shortest}
 use Rattle.rules.specs.Puts.{PutOrTake}
 use Rattle.rules.specs.State as rules
 use Rattle.rules.specs.State.{base-limits, start}
@@ -75,8 +76,8 @@ follows-start h r = record { puts-and-takes = no-log; stood = ready-stands h r; 
 
 -- ---- the queues read off the memory
 
-pub queue-is : (h : Lent-state) (s : rules.State) → s .limits ≡ base-limits → Represents h s → (c : ℕ) → c < 64 → queue-in h c ≡ s .cpus c .queue
-unfolding reading reading-of world-of base-limits
+pub queue-is : (h : Lent-state) (s : rules.State) → Same-but-shortest base-limits (s .limits) → Represents h s → (c : ℕ) → c < 64 → queue-in h c ≡ s .cpus c .queue
+unfolding reading reading-of world-of base-limits rules.with-shortest
 queue-is h s e m c near =
     let threads : s .limits .threads ≡ 1024 = ap (λ (l : rules.Limits). l .threads) e in
     let near-c : c < s .limits .cpus = rw (ap (λ (l : rules.Limits). l .cpus) e) near in

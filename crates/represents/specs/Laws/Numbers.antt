@@ -8,6 +8,7 @@ use lib.ListN.{getD}
 use lib.Dec.{eqb}
 use native.Mathlib.Omega.{arith}
 use native.Mathlib.Nat.{mul-le-mul}
+use Rattle.rules.specs.Questions.{most-shortest}
 use Rattle.rules.specs.declared.PriorityClass.{PriorityClass}
 use Rattle.rules.specs.Laws.Line.{distinct-length}
 use Rattle.rules.specs.Priority.{from-raw}
@@ -123,12 +124,13 @@ module _ {limits : Limits} {topology : Topology} {known active : ℕ → Bool} {
   pub deadline-shown : (tick : ℕ) (k : PriorityClass) → tick ≤ most-tick
       → sum tick (deadline-distance (limits .shortest) k (queue-at cs c .«timeshare_load») (queue-at cs c .load) % 2 ^ 64)
       ≡ tick + deadline-distance (limits .shortest) k (timeshare-load (w .cpus c .queue)) (load (w .cpus c .queue))
-  unfolding reading-of
+  unfolding reading-of most-shortest
   deadline-shown tick k h =
       let Q : Queue = w .cpus c .queue in
       let d : ℕ = deadline-distance (limits .shortest) k (timeshare-load Q) (load Q) in
-      let m : d ≤ 4611686018427387904 = distance-most (limits .shortest) k (timeshare-load Q) (load Q) (small .shortest) (omega (arith, load-most, small .threads)) in
-      ap (sum tick) (deadline-exact (limits .threads) (fits small) (marks ts) (queue-at cs c) (reading-of (w .cpus c)) well (limits .shortest) k (omega (arith, small .shortest)) (omega (arith, small .threads)))
+      let short : limits .shortest ≤ 32 = small .shortest in
+      let m : d ≤ 4611686018427387904 = distance-most (limits .shortest) k (timeshare-load Q) (load Q) (omega arith) (omega (arith, load-most, small .threads)) in
+      ap (sum tick) (deadline-exact (limits .threads) (fits small) (marks ts) (queue-at cs c) (reading-of (w .cpus c)) well (limits .shortest) k (omega arith) (omega (arith, small .threads)))
       ∙ sum-exact tick d (omega arith)
 
   -- what it runs

@@ -6,13 +6,54 @@ use mathlib.Core.List.{List}
 use lib.ListN.{length}
 use Rattle.rules.specs.Times as times
 use Rattle.rules.specs.State as rules
-use Rattle.rules.specs.State.{Limits, Topology, runs-on}
-use Rattle.rules.specs.Commands.{no-log, changed, world-of}
+use Rattle.rules.specs.State.{Limits, with-shortest, Topology, runs-on}
+use Rattle.rules.specs.Topology.{nr-nodes, parent-of, children, no-nodes, leaf, upward, above, holds, on-node}
+use Rattle.rules.specs.Questions.{most-shortest}
+use Rattle.rules.specs.Schedule.{World}
+use Rattle.rules.specs.Commands.{no-log, changed, world-of, shortened}
 use Rattle.thread.specs.declared.Thread.{Thread}
 use Rattle.represents.specs.World.{World-rep}
-use Rattle.represents.specs.Topology.{Topology-rep}
+use Rattle.represents.specs.Topology.{met-first, Topology-rep}
 use Rattle.questions.specs.declared.state.State.{State}
 use Rattle.represents.specs.State.{limits-in, runs, State-rep}
+
+-- ---- neither topology nor world asks the shortest timeslice
+
+topology-shortened : (limits : Limits) (n : ℕ) (rows : List (List ℕ)) (t : Topology) → Topology-rep limits rows t → Topology-rep (with-shortest limits n) rows t
+unfolding with-shortest nr-nodes parent-of children no-nodes leaf upward above holds on-node met-first
+topology-shortened limits n rows t r = record {
+  sound = record {
+    root = r .sound .root;
+    parents = r .sound .parents;
+    placed-there = r .sound .placed-there;
+    distinct = r .sound .distinct;
+    no-root = r .sound .no-root;
+    within = r .sound .within;
+    all-met = r .sound .all-met;
+  };
+  sized = r .sized;
+  room = r .room;
+  cpus-fit = r .cpus-fit;
+  parent-is = r .parent-is;
+  type-is = r .type-is;
+  children-is = r .children-is;
+  order-is = r .order-is;
+  set-is = r .set-is;
+  range-is = r .range-is;
+}
+
+world-shortened : (limits : Limits) (n : ℕ) {topology : Topology} {known active : ℕ → Bool} {ts : List Thread} {cs : List (List ℕ)} {w : World}
+    → World-rep limits topology known active ts cs w → World-rep (with-shortest limits n) topology known active ts cs w
+unfolding with-shortest
+world-shortened limits n r = record {
+  queues = r .queues;
+  none-past = r .none-past;
+  rows = r .rows;
+  threads = r .threads;
+  queue-cpus = r .queue-cpus;
+  words = r .words;
+  places = r .places;
+}
 
 -- The state by value after a command: the limits stay, and one command more is accepted.
 pub record Counted (a b : State) (sealed : Bool) (tick node-count : ℕ) : Type 0 where
@@ -55,4 +96,23 @@ module _ {ts : List Thread} {cs ns : List (List ℕ)} {a : State} {s : rules.Sta
     few-nodes = m .few-nodes;
     nodes-fit = f;
     tick-fits = k;
+  }
+
+  -- another shortest timeslice, of which the words of CPUs and nodes and the records say nothing
+  pub stands-shortened : (b : State) (n : ℕ) → n ≤ most-shortest → limits-in b ≡ with-shortest (limits-in a) n → b .sealed ≡ a .sealed → b .tick ≡ a .tick → b .accepted ≡ a .accepted
+      → b .«node_count» ≡ a .«node_count» → State-rep ts cs ns b (shortened s n)
+  unfolding shortened with-shortest world-of runs runs-on
+  stands-shortened b n h l e t k c = record {
+    limits = ap (λ (i : Limits). with-shortest i n) (m .limits) ∙ sym l;
+    sealed = e ∙ m .sealed;
+    tick = t ∙ m .tick;
+    accepted = k ∙ m .accepted;
+    node-count = c ∙ m .node-count;
+    tree = topology-shortened (s .limits) n ns (s .topology) (m .tree);
+    rows = m .rows;
+    shows = world-shortened (s .limits) n (m .shows);
+    small = record { cpus = m .small .cpus; threads = m .small .threads; shortest = h };
+    few-nodes = m .few-nodes;
+    nodes-fit = m .nodes-fit;
+    tick-fits = m .tick-fits;
   }

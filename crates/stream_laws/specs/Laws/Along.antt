@@ -9,7 +9,8 @@ use borrow.Author.Tests.{ltb-true, ltb-false, ne-eqb}
 use native.Mathlib.Omega.{arith}
 use native.Mathlib.Numerals.{add-one}
 use Rattle.rules.specs.Laws.Line.{both}
-use Rattle.rules.specs.State.{Limits, base-limits, State, start}
+use Rattle.rules.specs.State.{base-limits, State, start}
+use Rattle.rules.specs.Laws.Limits.{Same-but-shortest, same-limits, then-same, read-alike}
 use Rattle.rules.specs.Laws.Reached.{limits-kept}
 use Rattle.rules.specs.Requests.{Reading, unknown, cut-short, asks, read, past}
 use Rattle.rules.specs.Commands.{Step, step, after-calls}
@@ -20,7 +21,7 @@ use Rattle.stream_laws.specs.Laws.Reading.{is-whole, read-more, past-mor
 use Rattle.stream_laws.specs.Laws.Going.{left}
 use Rattle.stream_laws.specs.Taken.{says, does, next-place, after-commands, lines-of, so-far, Ended-within}
 
-pub limits-step : (s : State) (bytes : List ℕ) → step s bytes .state .limits ≡ s .limits
+pub limits-step : (s : State) (bytes : List ℕ) → Same-but-shortest (s .limits) (step s bytes .state .limits)
 unfolding after-calls
 limits-step s bytes = limits-kept s (bytes ∷ [])
 
@@ -88,14 +89,19 @@ unfolding waits no-bytes past read used
 stuck [] e = refl
 stuck (b ∷ bytes) e = rw (used-none (read base-limits (b ∷ bytes)) (cut-none _ e))
 
-base-at : (k : ℕ) (stream : List ℕ) → after-commands k stream .state .limits ≡ base-limits
+base-at : (k : ℕ) (stream : List ℕ) → Same-but-shortest base-limits (after-commands k stream .state .limits)
 unfolding after-commands next-place does start
-base-at zero stream = refl
-base-at (suc k) stream = limits-step _ _ ∙ base-at k stream
+base-at zero stream = same-limits refl
+base-at (suc k) stream =
+    let p = after-commands k stream in
+    then-same base-limits (p .state .limits) (step (p .state) (p .bytes) .state .limits) (base-at k stream) (limits-step (p .state) (p .bytes))
+
+read-at : (k : ℕ) (stream bytes : List ℕ) → read (after-commands k stream .state .limits) bytes ≡ read base-limits bytes
+read-at k stream bytes = read-alike base-limits (after-commands k stream .state .limits) (base-at k stream) bytes
 
 stays-one : (k : ℕ) (stream : List ℕ) → waits (after-commands k stream .bytes) ≡ true → after-commands (suc k) stream .bytes ≡ after-commands k stream .bytes
 unfolding after-commands next-place says
-stays-one k stream e = rw (base-at k stream) (stuck (after-commands k stream .bytes) e)
+stays-one k stream e = rw (read-at k stream (after-commands k stream .bytes)) (stuck (after-commands k stream .bytes) e)
 
 stays : (k m : ℕ) (stream : List ℕ) → m ≤ k → waits (after-commands m stream .bytes) ≡ true → after-commands k stream .bytes ≡ after-commands m stream .bytes
 stays zero m stream h e = ap (λ (i : ℕ). after-commands i stream .bytes) (omega arith)
@@ -118,7 +124,7 @@ never-ended stream m e w d =
     (λ t. not-there (after-commands (d .number) stream .bytes)
     (ap waits (stays (d .number) m stream (ltb-false (d .number) m t) e) ∙ e)
     (d .there)
-    (ap (λ (l : Limits). is-whole (read l (after-commands (d .number) stream .bytes))) (sym (base-at (d .number) stream)) ∙ d .whole))
+    (ap is-whole (sym (read-at (d .number) stream (after-commands (d .number) stream .bytes))) ∙ d .whole))
 
 -- ---- a command that ends the run does so whatever comes behind the bytes that hold it
 
@@ -140,7 +146,7 @@ module _ (bytes more : List ℕ) (e : Ended-within bytes) where
   comes j h =
       both (waits (b j))
       (λ t. absurd (not-there (b (e .number)) (ap waits (stays (e .number) j bytes h t) ∙ t) (e .there)
-      (ap (λ (l : Limits). is-whole (read l (b (e .number)))) (sym (base-at (e .number) bytes)) ∙ e .whole)))
+      (ap is-whole (sym (read-at (e .number) bytes (b (e .number)))) ∙ e .whole)))
       (λ t. t)
 
   some-here : (j : ℕ) → j ≤ e .number → no-bytes (b j) ≡ false
@@ -149,7 +155,7 @@ module _ (bytes more : List ℕ) (e : Ended-within bytes) where
   alike-here : (j : ℕ) → j ≤ e .number → read (s j .limits) (b j ++ more) ≡ read (s j .limits) (b j)
   alike-here j h =
       read-more (s j .limits) (b j) more (some-here j h)
-      (ap (λ (l : Limits). is-whole (read l (b j))) (base-at j bytes) ∙ waits-not (b j) (comes j h) .1)
+      (ap is-whole (read-at j bytes (b j)) ∙ waits-not (b j) (comes j h) .1)
 
   alike-step : (j : ℕ) → j ≤ e .number → step (s j) (b j ++ more) ≡ step (s j) (b j)
   unfolding step

@@ -10,8 +10,9 @@ use lib.Dec.{eqb, ltb, leb}
 use borrow.Author.Tests.{le-ltb, ltb-true, ltb-false, leb-true, leb-false, le-leb, eqb-true, eqb-false, eq-eqb, ne-eqb}
 use native.Mathlib.Omega.{arith}
 use native.Mathlib.Nat.{zero-add}
+use Rattle.rules.specs.Laws.Limits.{read-alike}
 use Rattle.rules.specs.Laws.Line.{both}
-use Rattle.rules.specs.State.{Limits, base-limits, State}
+use Rattle.rules.specs.State.{Limits, base-limits, with-shortest, State}
 use Rattle.rules.specs.Commands.{step}
 use Rattle.rules.specs.Requests as rules
 use Rattle.rules.specs.Requests.{read}
@@ -470,7 +471,7 @@ module _ (bytes : List ℕ) (n : ℕ) (fits : n ≤ length bytes) (to-come : Lis
       more-commands e = sym (more-rest (then .output) (then .fed) e room-then) ∙ stopped
 
       short-left : then .fed .phase ≡ COMMANDS → last ≡ false → length (drop (then .fed .at) block) ≤ 8
-      unfolding base-limits
+      unfolding base-limits with-shortest
       short-left e l =
           both (ltb (then .fed .at) n)
           (λ q. let cut : whole bytes n (then .fed .at) (then .fed .state .wide) ≡ false = then-cut (ltb (then .fed .at) n) last _ (more-commands e) q l in
@@ -487,7 +488,7 @@ module _ (bytes : List ℕ) (n : ℕ) (fits : n ≤ length bytes) (to-come : Lis
           both (ltb (then .fed .at) n)
           (λ q. let cut : whole bytes n (then .fed .at) (then .fed .state .wide) ≡ false = then-cut (ltb (then .fed .at) n) last _ (more-commands e) q l in
           let cut-here : is-whole (read base-limits (drop (then .fed .at) block)) ≡ false =
-          ap (λ (m : Limits). is-whole (read m (drop (then .fed .at) block))) (sym (ran .going .base)) ∙ sym (whole-is then (ran .state) ran-ok (then .fed .at)) ∙ cut in
+          ap is-whole (sym (read-alike base-limits (ran .state .limits) (ran .going .base) (drop (then .fed .at) block))) ∙ sym (whole-is then (ran .state) ran-ok (then .fed .at)) ∙ cut in
           both (no-bytes (drop (then .fed .at) block)) (λ t. rw t) (λ t. rw (t, cut-here)))
           (λ q. rw (drop-of-length-le block {i = then .fed .at} (rw long (ltb-false (then .fed .at) n q))) waits-none)
 

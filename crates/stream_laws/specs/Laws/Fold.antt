@@ -8,6 +8,7 @@ use lib.ListN.{length, take, drop, length-append, length-drop}
 use lib.Seq.{take-append-seam}
 use native.Mathlib.Omega.{arith}
 use Rattle.rules.specs.State.{base-limits, State, start}
+use Rattle.rules.specs.Laws.Limits.{same-limits}
 use Rattle.rules.specs.Lines.{no-bytes, output}
 use Rattle.stream.specs.declared.progress.Progress.{Progress}
 use Rattle.stream.specs.Progress.{END, ENDED, begin}
@@ -142,7 +143,7 @@ begun-goes h r = record {
   history = _;
   stands = ready-stands h r;
   reachable = reachable-start base-limits;
-  base = refl;
+  base = same-limits refl;
   number-fits = omega arith;
   goes-on = λ i. omega arith;
   refused-fits = omega arith;

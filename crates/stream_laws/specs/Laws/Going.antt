@@ -11,6 +11,7 @@ use native.Mathlib.Omega.{arith}
 use native.Mathlib.Nat.{mod-eq-of-lt}
 use Rattle.rules.specs.Puts.{PutOrTake}
 use Rattle.rules.specs.State.{base-limits, State}
+use Rattle.rules.specs.Laws.Limits.{Same-but-shortest}
 use Rattle.rules.specs.Lines.{header, end-line, lines-from}
 use Rattle.thread.specs.declared.Thread.{Thread}
 use Rattle.lines.specs.Lines.{room, rendered, buffer-with}
@@ -53,7 +54,7 @@ pub record Going (ts : List Thread) (cs ns : List (List ℕ)) (f : Progress) (s 
   pub history : ℕ → List PutOrTake
   pub stands : State-rep ts cs ns (f .state) s
   pub reachable : Reachable history s
-  pub base : s .limits ≡ base-limits
+  pub base : Same-but-shortest base-limits (s .limits)
   pub number-fits : f .number ≤ 4294967295
   pub goes-on : f .phase < END → f .number ≤ 4294967294
   pub refused-fits : f .refused ≤ f .number

@@ -7,12 +7,13 @@ use lib.ListN.{length, length-append}
 use lib.Dec.{eqb, ltb}
 use borrow.Author.Tests.{eqb-true}
 use native.Mathlib.Omega.{arith}
+use Rattle.rules.specs.Laws.Limits.{Same-but-shortest}
 use Rattle.rules.specs.Laws.Line.{both, distinct-length}
 use Rattle.rules.specs.Puts.{PutOrTake}
 use Rattle.rules.specs.Queue.{order, load}
-use Rattle.rules.specs.State.{Limits, base-limits, State}
+use Rattle.rules.specs.State.{Limits, base-limits, with-shortest, State}
 use Rattle.rules.specs.Schedule.{World}
-use Rattle.rules.specs.Requests.{Request, declare-cpu, add-node, place-cpu, seal, declare-thread, set-tick, schedule-thread, schedule, hardtick, stattick, resched, maybe-preempt, donate, remove-donation, set-critical, Reading, unknown, cut-short, asks, read}
+use Rattle.rules.specs.Requests.{Request, declare-cpu, add-node, place-cpu, seal, set-shortest, declare-thread, set-tick, schedule-thread, schedule, hardtick, stattick, resched, maybe-preempt, donate, remove-donation, set-critical, Reading, unknown, cut-short, asks, read}
 use Rattle.rules.specs.Questions.{concerning, first-no, room, refusal}
 use Rattle.rules.specs.Commands.{Running, thread, idle, Answer, nothing-shown, running-of, shown, refuses, changed, world-of, ran, ran-on, scheduled-on, schedules, obeys, answered, step}
 use Rattle.rules.specs.Waits.{Under}
@@ -67,6 +68,7 @@ module _ {H : ℕ → List PutOrTake} (s : State) where
   obeyed-within (add-node p k) g e r = within-nothing (s .limits) 0
   obeyed-within (place-cpu n c) g e r = within-nothing (s .limits) 0
   obeyed-within seal g e r = within-nothing (s .limits) 0
+  obeyed-within (set-shortest n) g e r = within-nothing (s .limits) 0
   obeyed-within (declare-thread x k v p) g e r = within-nothing (s .limits) 0
   obeyed-within (set-tick t) g e r = within-nothing (s .limits) 0
   obeyed-within {G} (schedule-thread c x) g e r =
@@ -152,10 +154,10 @@ line-most l number a cpus threads r w few =
       number-length 0 3 (a .wakeups) (omega arith) few,
     ))
 
--- the line of a command, under the base's limits, with any number
-pub line-fits : {H : ℕ → List PutOrTake} (s : State) (bytes : List ℕ) (number : ℕ) (r : Refusal) → Reached H s → s .limits ≡ base-limits
+-- the line of a command, under the base's limits and any shortest timeslice, with any number
+pub line-fits : {H : ℕ → List PutOrTake} (s : State) (bytes : List ℕ) (number : ℕ) (r : Refusal) → Reached H s → Same-but-shortest base-limits (s .limits)
     → step s bytes .answer .refused ≡ refusal-number r → length (line number (step s bytes .answer)) ≤ 48
-unfolding base-limits
+unfolding base-limits with-shortest
 line-fits s bytes number r d e f =
     line-most (s .limits) number (step s bytes .answer) (rw (ap (λ (l : Limits). l .cpus) e) (omega arith)) (rw (ap (λ (l : Limits). l .threads) e) (omega arith))
     (rw f (refusal-most r)) (step-within s bytes d) (wakeups-two s bytes)

@@ -157,25 +157,30 @@ unfoldable sum-of : Option (List ℕ) → ℕ
 sum-of none = 0
 sum-of (some ns) = sum ns
 
+-- one row of the table, or those behind it
+row-or : (b : Bool) (o p : Option (List ℕ)) → sum-of o ≤ 8 → sum-of p ≤ 8 → sum-of (cond b o p) ≤ 8
+row-or true o p h k = h
+row-or false o p h k = k
+
 widths-most : (l : Limits) (byte : ℕ) → l .cpu-bytes ≤ 2 → l .node-bytes ≤ 2 → sum-of (widths l byte) ≤ 8
 unfolding widths sum-of sum
 widths-most l byte h i =
-    both (eqb byte 0x01) (λ e0. rw e0 (omega arith))
-    (λ e0. both (eqb byte 0x02) (λ e1. rw (e0, e1) (omega arith))
-    (λ e1. both (eqb byte 0x03) (λ e2. rw (e0, e1, e2) (omega arith))
-    (λ e2. both (eqb byte 0x04) (λ e3. rw (e0, e1, e2, e3) (omega arith))
-    (λ e3. both (eqb byte 0x10) (λ e4. rw (e0, e1, e2, e3, e4) (omega arith))
-    (λ e4. both (eqb byte 0x11) (λ e5. rw (e0, e1, e2, e3, e4, e5) (omega arith))
-    (λ e5. both (eqb byte 0x12) (λ e6. rw (e0, e1, e2, e3, e4, e5, e6) (omega arith))
-    (λ e6. both (eqb byte 0x13) (λ e7. rw (e0, e1, e2, e3, e4, e5, e6, e7) (omega arith))
-    (λ e7. both (eqb byte 0x14) (λ e8. rw (e0, e1, e2, e3, e4, e5, e6, e7, e8) (omega arith))
-    (λ e8. both (eqb byte 0x15) (λ e9. rw (e0, e1, e2, e3, e4, e5, e6, e7, e8, e9) (omega arith))
-    (λ e9. both (eqb byte 0x16) (λ e10. rw (e0, e1, e2, e3, e4, e5, e6, e7, e8, e9, e10) (omega arith))
-    (λ e10. both (eqb byte 0x17) (λ e11. rw (e0, e1, e2, e3, e4, e5, e6, e7, e8, e9, e10, e11) (omega arith))
-    (λ e11. both (eqb byte 0x18) (λ e12. rw (e0, e1, e2, e3, e4, e5, e6, e7, e8, e9, e10, e11, e12) (omega arith))
-    (λ e12. both (eqb byte 0x19) (λ e13. rw (e0, e1, e2, e3, e4, e5, e6, e7, e8, e9, e10, e11, e12, e13) (omega arith))
-    (λ e13. both (eqb byte 0x1a) (λ e14. rw (e0, e1, e2, e3, e4, e5, e6, e7, e8, e9, e10, e11, e12, e13, e14) (omega arith))
-    (λ e14. rw (e0, e1, e2, e3, e4, e5, e6, e7, e8, e9, e10, e11, e12, e13, e14) (omega arith))))))))))))))))
+    row-or (eqb byte 0x01) _ _ (omega arith)
+    (row-or (eqb byte 0x02) _ _ (omega arith)
+    (row-or (eqb byte 0x03) _ _ (omega arith)
+    (row-or (eqb byte 0x04) _ _ (omega arith)
+    (row-or (eqb byte 0x05) _ _ (omega arith)
+    (row-or (eqb byte 0x10) _ _ (omega arith)
+    (row-or (eqb byte 0x11) _ _ (omega arith)
+    (row-or (eqb byte 0x12) _ _ (omega arith)
+    (row-or (eqb byte 0x13) _ _ (omega arith)
+    (row-or (eqb byte 0x14) _ _ (omega arith)
+    (row-or (eqb byte 0x15) _ _ (omega arith)
+    (row-or (eqb byte 0x16) _ _ (omega arith)
+    (row-or (eqb byte 0x17) _ _ (omega arith)
+    (row-or (eqb byte 0x18) _ _ (omega arith)
+    (row-or (eqb byte 0x19) _ _ (omega arith)
+    (row-or (eqb byte 0x1a) _ _ (omega arith) (omega arith))))))))))))))))
 
 operands-cut : (l : Limits) (byte : ℕ) (bytes : List ℕ) (o : Option (List ℕ)) → is-whole (read-operands l byte bytes o) ≡ false → suc (length bytes) ≤ sum-of o
 unfolding read-operands is-whole sum-of

@@ -10,7 +10,8 @@ use borrow.Author.Tests.{ltb-true, ltb-false, eqb-false, eqb-true}
 use native.Mathlib.Omega.{arith}
 use native.Mathlib.Nat.{mod-eq-of-lt}
 use Rattle.rules.specs.Laws.Line.{both}
-use Rattle.rules.specs.State.{State}
+use Rattle.rules.specs.State.{base-limits, State}
+use Rattle.rules.specs.Laws.Limits.{then-same}
 use Rattle.rules.specs.Commands.{Answer, Step, step}
 use Rattle.rules.specs.Requests.{read, past}
 use Rattle.rules.specs.Lines.{line, end-line, lines-from, used, ends, refused-by, last-number}
@@ -245,7 +246,7 @@ module _ (bytes : List ℕ) (n : ℕ) (fits : n ≤ length bytes) (to-come : Lis
     history = _;
     stands = ruled .stands;
     reachable = reachable-step (drop (f .at) block) (g .reachable);
-    base = limits-step s (drop (f .at) block) ∙ g .base;
+    base = then-same base-limits (s .limits) (step s (drop (f .at) block) .state .limits) (g .base) (limits-step s (drop (f .at) block));
     number-fits = rw number-is (omega (arith, number-most));
     goes-on = λ q. rw number-is (not-last (f .number) _ (phase-before ended q) number-most);
     refused-fits = omega (arith, number-most, g .refused-fits, one-most (refusal-number (next .answer .answer .refusal)));

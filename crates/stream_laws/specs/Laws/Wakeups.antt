@@ -18,7 +18,7 @@ use Rattle.rules.specs.Choice.{Pair, no-pair, pair}
 use Rattle.rules.specs.Laws.Effect.{and-right}
 use Rattle.rules.specs.Schedule as sched
 use Rattle.rules.specs.Schedule.{World, Got, Balancing, Flags, with-cpu, with-thread}
-use Rattle.rules.specs.Requests.{Request, declare-cpu, add-node, place-cpu, seal, declare-thread, set-tick, schedule-thread, schedule, hardtick, stattick, resched, maybe-preempt, donate, remove-donation, set-critical, Reading, unknown, cut-short, asks, read, flags-of}
+use Rattle.rules.specs.Requests.{Request, declare-cpu, add-node, place-cpu, seal, set-shortest, declare-thread, set-tick, schedule-thread, schedule, hardtick, stattick, resched, maybe-preempt, donate, remove-donation, set-critical, Reading, unknown, cut-short, asks, read, flags-of}
 use Rattle.rules.specs.Questions.{refusal}
 use Rattle.rules.specs.Commands.{nothing-shown, shown, refuses, changed, world-of, ran, ran-on, scheduled-on, schedules, obeys, answered, step}
 use Rattle.lines.proofs.Laws.{Below}
@@ -140,6 +140,7 @@ obeyed-two s (declare-cpu c) = tt
 obeyed-two s (add-node p k) = tt
 obeyed-two s (place-cpu n c) = tt
 obeyed-two s seal = tt
+obeyed-two s (set-shortest n) = tt
 obeyed-two s (declare-thread x k v p) = tt
 obeyed-two s (set-tick t) = tt
 obeyed-two s (schedule-thread c x) = scheduled-two s c x _ _ (select-wakeups (s .limits) (s .topology) (s .tick) c (world-of s) x none)
