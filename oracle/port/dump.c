@@ -95,8 +95,10 @@ static void dump_thread(struct text *out, uint64_t number, const struct thread *
     text_word(out, "\n");
 }
 
-void dump(struct text *out, const struct thread *threads, const cpu *cpus)
+void dump(struct text *out, uint64_t shortest, const struct thread *threads, const cpu *cpus)
 {
+    pair(out, "s shortest ", shortest);
+    text_word(out, "\n");
     for (uint64_t c = 0; c < CPUS; c++)
         if (cpus[c][DECLARED] == 1)
             dump_cpu(out, c, threads, cpus[c]);

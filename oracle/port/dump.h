@@ -1,10 +1,11 @@
-/* The state of all declared CPUs and threads, read off the lent memory, in the form of oracle/README.md. */
+/* The shortest timeslice, and the state of all declared CPUs and threads, read off the lent memory, in the form of
+ * oracle/README.md. */
 #ifndef DUMP_H
 #define DUMP_H
 
 #include "scheduler.h"
 #include "text.h"
 
-void dump(struct text *, const struct thread *, const cpu *);
+void dump(struct text *, uint64_t shortest, const struct thread *, const cpu *);
 
 #endif

@@ -1,6 +1,7 @@
 /* foreign COUNT [SEED]: calls of the static library on records, words and states that nobody made. "On other records or states
  * a call still gives an answer": every call comes back, a refused one changes nothing, the same call twice answers the same,
- * and no byte outside the lent slices changes. A seal is answered as question 9's sentence has it. */
+ * and no byte outside the lent slices changes. A seal is answered as question 9's sentence has it, the shortest timeslice as the
+ * sixth has its range, and no other command changes that figure. */
 #include "scheduler.h"
 #include "text.h"
 
@@ -94,7 +95,7 @@ static struct state any_state(void)
 /* Mostly the bytes of a command. */
 static size_t any_bytes(uint8_t *bytes)
 {
-    static const uint8_t kinds[] = {0x01, 0x02, 0x03, 0x04, 0x10, 0x11, 0x12, 0x13, 0x14, 0x15, 0x16, 0x17, 0x18, 0x19, 0x1a};
+    static const uint8_t kinds[] = {0x01, 0x02, 0x03, 0x04, 0x05, 0x10, 0x11, 0x12, 0x13, 0x14, 0x15, 0x16, 0x17, 0x18, 0x19, 0x1a};
     for (size_t i = 0; i < 16; i++)
         bytes[i] = below(4) ? below(5) : draw();
     bytes[0] = below(50) ? kinds[below(sizeof kinds)] : draw();
@@ -125,7 +126,9 @@ static uint64_t one_command(struct world *w, const size_t *lengths, const uint8_
         fail("foreign: a refusal past 10");
     if (step.row.refusal && memcmp(w, &before, sizeof before))
         fail("foreign: a refused call changed the lent memory");
-    return row_digest(step.row) + 31 * step.used + 37 * step.state.accepted + 41 * step.state.tick;
+    if (step.state.shortest != (bytes[0] == 0x05 && !step.row.refusal ? bytes[1] : state.shortest))
+        fail("foreign: another shortest timeslice");
+    return row_digest(step.row) + 31 * step.used + 37 * step.state.accepted + 41 * step.state.tick + 43 * step.state.shortest;
 }
 
 /* "is CPU 0 declared and every declared CPU placed?", of the CPUs below the limit and within the rows lent */
@@ -157,6 +160,32 @@ static bool one_seal(const size_t *lengths)
     return yes;
 }
 
+static bool same_memory(struct world *a, struct world *b)
+{
+    clear_padding(a);
+    clear_padding(b);
+    return memcmp(a, b, sizeof *a) == 0;
+}
+
+/* 05 on an open state: the questions 6 and 10. */
+static bool one_figure(const size_t *lengths)
+{
+    struct state state = any_state();
+    uint8_t bytes[] = {0x05, below(4) ? below(40) : draw()};
+    state.sealed = false;
+    bool fits = bytes[1] >= 2 && bytes[1] <= 32;
+    uint64_t refusal = !fits ? 6 : state.accepted >= 4294967295 ? 10 : 0;
+    world = before;
+    struct step step = scheduler_command(world.threads, lengths[0], world.cpus, lengths[1], world.nodes, lengths[2], bytes,
+                                         sizeof bytes, state);
+    fences(&world);
+    if (step.row.refusal != refusal)
+        fail("foreign: the range of the shortest timeslice is asked otherwise");
+    if (step.state.shortest != (refusal ? state.shortest : bytes[1]) || step.state.sealed || !same_memory(&world, &before))
+        fail("foreign: 05 changes something else");
+    return fits;
+}
+
 static void one_feed(const size_t *lengths, const uint8_t *bytes, size_t count, struct state state)
 {
     struct fed fed = {number(), number(), number(), number(), below(5), state};
@@ -166,13 +195,6 @@ static void one_feed(const size_t *lengths, const uint8_t *bytes, size_t count, 
     fences(&world);
 }
 
-static bool same_memory(struct world *a, struct world *b)
-{
-    clear_padding(a);
-    clear_padding(b);
-    return memcmp(a, b, sizeof *a) == 0;
-}
-
 static size_t length(size_t most)
 {
     return below(4) ? most : below(most + 1);
@@ -180,7 +202,7 @@ static size_t length(size_t most)
 
 int main(int argc, char **argv)
 {
-    uint64_t count = argc > 1 ? strtoull(argv[1], NULL, 10) : 0, obeyed = 0, sealed = 0;
+    uint64_t count = argc > 1 ? strtoull(argv[1], NULL, 10) : 0, obeyed = 0, sealed = 0, set = 0;
     seed = 88172645463325252 + (argc > 2 ? strtoull(argv[2], NULL, 10) : 0);
     if (!count)
         fail("usage: foreign COUNT [SEED]");
@@ -197,11 +219,12 @@ int main(int argc, char **argv)
             obeyed += !same_memory(&world, &before);
             one_feed(lengths, bytes, n, state);
             sealed += one_seal(lengths);
+            set += one_figure(lengths);
         }
     }
-    printf("foreign: %llu calls, %llu changed the lent memory, all came back; %llu asked question 9, %llu yes, each as document "
-           "01 has it\n",
-           (unsigned long long)(80 * count), (unsigned long long)obeyed, (unsigned long long)(20 * count),
-           (unsigned long long)sealed);
+    printf("foreign: %llu calls, %llu changed the lent memory, all came back; %llu asked question 9, %llu yes, and as many the "
+           "shortest timeslice's range, %llu yes, each as documents 01 and 02 have it\n",
+           (unsigned long long)(100 * count), (unsigned long long)obeyed, (unsigned long long)(20 * count),
+           (unsigned long long)sealed, (unsigned long long)set);
     return 0;
 }

@@ -97,6 +97,7 @@ static const struct {
     {true, 3, {0x02, 0, 0}},
     {true, 3, {0x03, 0, 2}},
     {true, 1, {0x04}},
+    {true, 2, {0x05, 32}},
     {false, 6, {0x10, 0xff, 3, 3, 127, 1}},
     {false, 9, {0x11, 0, 0, 0, 0, 0, 0, 0, 0x40}},
     {false, 4, {0x12, 1, 7, 0}},
@@ -147,11 +148,14 @@ static void order(void)
     running();
     state.accepted = 4294967295;
     REFUSED(1, 0x00);
-    REFUSED(1, 0x05);
+    REFUSED(1, 0x08);
     REFUSED(1, 0x1b);
     refused(NULL, 0, 1);
     REFUSED(2, 0x12, 0, 7);
+    REFUSED(2, 0x05);
     REFUSED(3, 0x01, 2);
+    REFUSED(3, 0x05, 2);
+    REFUSED(3, 0x05, 33);
     REFUSED(4, 0x14, 2);
     REFUSED(4, 0x10, 9, 0, 2, 64, 2);
     REFUSED(5, 0x12, 0, 9, 0);
@@ -167,6 +171,9 @@ static void order(void)
     OBEYED(0x01, 0);
     state.accepted = 4294967295;
     REFUSED(9, 0x04);
+    REFUSED(2, 0x05);
+    REFUSED(6, 0x05, 1);
+    REFUSED(6, 0x05, 33);
 }
 
 static uint8_t output[4096];
@@ -289,6 +296,92 @@ static void seals(void)
     }
 }
 
+/* "New command hex 05 before the seal, operand 1 byte, sets the shortest User timeslice to 2 to 32; unset it is 2, the last one
+ * given holds." "The range is part of the sixth question." Nothing else of the state changes, and nothing that is lent. */
+static void figures(void)
+{
+    static struct world before;
+    start();
+    same("unset", state.shortest, 2);
+    for (unsigned figure = 0; figure < 256; figure++) {
+        struct state then = state;
+        if (figure < 2 || figure > 32) {
+            REFUSED(6, 0x05, figure);
+            continue;
+        }
+        memcpy(&before, &world, sizeof world);
+        OBEYED(0x05, figure);
+        then.shortest = figure;
+        then.accepted++;
+        same("set, and nothing else", same_state(then, state), true);
+        same("lent memory is kept", memcmp(&before, &world, sizeof world), 0);
+    }
+    REFUSED(2, 0x05);
+    same("the last one given holds", state.shortest, 32);
+    OBEYED(0x05, 2);
+    same("also where it is less", state.shortest, 2);
+    running();
+    for (unsigned figure = 0; figure < 256; figure++)
+        REFUSED(3, 0x05, figure);
+    REFUSED(2, 0x05);
+}
+
+/* "User timeslice: 100 at timeshare load 0, else 32 / load rounded down, at least" the shortest one. */
+static uint64_t timeslice(uint64_t shortest, uint64_t load)
+{
+    if (!load)
+        return 100;
+    return 32 / load < shortest ? shortest : 32 / load;
+}
+
+/* CPU 0 runs thread 0, which has paid one tick, and a hard tick comes after so many more. */
+static void pays(uint64_t ticks, uint64_t paid, uint64_t expired)
+{
+    world.cpus[0][LAST_TICK] = 0;
+    world.cpus[0][PREEMPT] = 0;
+    world.threads[0].timeslice = 1;
+    state.tick = ticks;
+    OBEYED(0x14, 0);
+    same("paid", world.threads[0].timeslice, paid);
+    same("expired", world.cpus[0][PREEMPT], expired);
+}
+
+/* "Deadlines and hard ticks use the new figure", the first and last ones, some between, and those of states that nobody made:
+ * sums and products are taken modulo 2^64, and what is paid modulo 2^32. The thread that runs is critical, so that a hard tick
+ * marks nothing unless the timeslice expires. */
+static void timeslices(void)
+{
+    static const uint64_t shortest[] = {2, 3, 8, 10, 31, 32, 0, 1, 33, 100, 101, 4294967295, 4294967296, 1ull << 63, UINT64_MAX};
+    enum { WAITING_MOST = 42 };
+    for (size_t i = 0; i < sizeof shortest / sizeof *shortest; i++) {
+        start();
+        OBEYED(0x01, 0);
+        OBEYED(0x03, 0, 0);
+        OBEYED(0x04);
+        state.shortest = shortest[i];
+        OBEYED(0x10, 0, 0, 2, 64, 0xff);
+        OBEYED(0x12, 0, 0, 0);
+        OBEYED(0x13, 0, 0);
+        OBEYED(0x1a, 0, 0, 1);
+        same("runs", world.cpus[0][RUNS], 0);
+        for (uint8_t thread = 1; thread <= WAITING_MOST; thread++) {
+            uint64_t load = world.cpus[0][LOAD], slice = timeslice(shortest[i], world.cpus[0][TIMESHARE_LOAD]);
+            state.tick = 5;
+            OBEYED(0x10, thread, 0, 2, 64, 0xff);
+            OBEYED(0x12, 0, thread, 0);
+            same("deadline", world.threads[thread].deadline, 5 + slice * load);
+            uint64_t allowed = timeslice(shortest[i], world.cpus[0][TIMESHARE_LOAD]);
+            if (allowed >= 2)
+                pays(allowed - 2, (uint32_t)(allowed - 1), 0);
+            if (allowed >= 1)
+                pays(allowed - 1, 0, 1);
+            if (allowed < UINT64_MAX)
+                pays(allowed, 0, 1);
+        }
+        same("kept", state.shortest, shortest[i]);
+    }
+}
+
 /* "has the lent buffer at least 48 bytes? 11 (Bytes past a rendered line keep their content.)" */
 static void lines(void)
 {
@@ -336,6 +429,8 @@ int main(void)
     ticks();
     draws();
     seals();
+    figures();
+    timeslices();
     lines();
     printf("near: %u checks, no difference\n", checks);
     return 0;

@@ -40,16 +40,16 @@ static void by_blocks(void)
     } while (fed.phase != ENDED);
 }
 
-static void show_state(struct text *out, enum show show)
+static void show_state(struct text *out, uint64_t shortest, enum show show)
 {
     if (show == DUMP) {
-        dump(out, threads, cpus);
+        dump(out, shortest, threads, cpus);
         return;
     }
     static struct text state;
     char line[32];
     state.length = 0;
-    dump(&state, threads, cpus);
+    dump(&state, shortest, threads, cpus);
     snprintf(line, sizeof line, "d %016llx\n", (unsigned long long)text_digest(&state));
     text_word(out, line);
 }
@@ -74,7 +74,7 @@ static void by_commands(enum show show)
         at += step.used;
         refused += step.row.refusal != 0;
         if (state.sealed)
-            show_state(&out, show);
+            show_state(&out, state.shortest, show);
         if (out.length > 1 << 15)
             text_flush(&out);
         number++;

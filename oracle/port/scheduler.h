@@ -57,7 +57,7 @@ enum word {
     IDLE_TIMESLICE
 };
 
-/* crates/questions: the state between calls. */
+/* crates/questions: the state between calls. `shortest` is the shortest User timeslice, at the start 2; command hex 05 sets it. */
 struct state {
     uint64_t cpus, nodes, shortest;
     bool wide;

@@ -8,7 +8,7 @@ use thread::Thread;
 use thread::priority::class_at;
 use thread::priority::raw;
 
-// number: the thread's deadline, or the new tick.
+// number: the thread's deadline, the new tick, or the shortest timeslice.
 pub struct Operation {
     pub kind: u64,
     pub queue: u64,
@@ -93,10 +93,10 @@ pub fn asked(cpus: &[CpuWords], op: Operation) -> u64 {
     let q = load_queue(cpus, op.queue);
     let class = class_at(op.class);
     if op.kind == 7 {
-        return q.timeslice(2, class);
+        return q.timeslice(op.number, class);
     }
     if op.kind == 8 {
-        return q.deadline(2, class);
+        return q.deadline(op.number, class);
     }
     0
 }

@@ -1,4 +1,5 @@
-//! differ FIRST LAST [PROFILE] [--left SIDE] [--right SIDE] [--count N] [--without HEX]... [--lines] [--as-found]
+//! differ FIRST LAST [PROFILE] [--left SIDE] [--right SIDE] [--count N] [--without HEX]... [--figure 2|other|any] [--lines]
+//!     [--as-found]
 //! differ --stream FILE [--left SIDE] [--right SIDE] [--lines] [--as-found]
 //!
 //! Runs two sides over streams and stops at the first byte that differs, with the shortest stream it can find, or with
@@ -6,13 +7,14 @@
 //! oracle/sides lists the sides; the first two are compared unless others are named.
 
 use std::{
+    collections::BTreeMap,
     fs,
     io::Write,
     process::{Command, Stdio, exit},
 };
 
-use r#gen::{PROFILES, draws::PROFILE, generate, pattern, split};
-use second::{Answer, Place, State};
+use r#gen::{PROFILES, Wanted, draws::PROFILE, figures::Figures, generate, pattern, split};
+use second::{Answer, Place, State, UNSET, notes::{Noted, Slices}};
 
 const SHRUNK: &str = "oracle/build/difference.stream";
 
@@ -151,7 +153,7 @@ impl Pair<'_> {
                 return;
             }
             let line = l.unwrap();
-            if !line.starts_with("c ") && !line.starts_with("t ") {
+            if !["s ", "c ", "t "].iter().any(|state| line.starts_with(state)) {
                 last = line;
             }
         }
@@ -186,7 +188,7 @@ impl Pair<'_> {
     }
 }
 
-/// What the streams reach of three rules that ordinary commands seldom touch.
+/// What the streams reach of four rules that ordinary commands seldom touch.
 #[derive(Default)]
 struct Reached {
     /// Calls of `wakeup` by donations to a thread that waits: of the CPU that runs the command, and of another.
@@ -195,6 +197,21 @@ struct Reached {
     seals: Seals,
     /// Puts of a User thread of value 0 into timeshare beside another value, by filling and emptying index.
     zero_puts: [[u64; 8]; 8],
+    figures: Reaching,
+}
+
+/// The shortest timeslice: commands read while it was 2 and while it was another, what became of 05, and what timeslices were.
+#[derive(Default)]
+struct Reaching {
+    at_two: u64,
+    at_others: u64,
+    /// Obeyed, by operand.
+    set: BTreeMap<u8, u64>,
+    cut_short: u64,
+    late: u64,
+    /// Refused with 6, by operand.
+    outside: BTreeMap<u8, u64>,
+    noted: [Noted; 2],
 }
 
 /// Question 9, asked before the seal: yes, or why not.
@@ -217,6 +234,7 @@ impl Reached {
                 self.seals.add(&state);
             }
             let answer = state.command(command);
+            self.figures.add(command, answer, &state);
             if matches!(answer, Answer::Refused(_)) || command[0] != 0x18 {
                 continue;
             }
@@ -229,6 +247,58 @@ impl Reached {
         for (filling, emptying) in state.cpus.iter().flat_map(|cpu| &cpu.queue.zero_puts) {
             self.zero_puts[*filling][*emptying] += 1;
         }
+        self.figures.noted[0].add(&state.notes.at_two);
+        self.figures.noted[1].add(&state.notes.at_others);
+    }
+}
+
+impl Reaching {
+    fn add(&mut self, command: &[u8], answer: Answer, state: &State) {
+        *(if state.shortest == UNSET { &mut self.at_two } else { &mut self.at_others }) += 1;
+        if command[0] == 0x05 {
+            match answer {
+                Answer::Refused(2) => self.cut_short += 1,
+                Answer::Refused(3) => self.late += 1,
+                Answer::Refused(_) => *self.outside.entry(command[1]).or_default() += 1,
+                _ => *self.set.entry(command[1]).or_default() += 1,
+            }
+        }
+    }
+
+    fn show(&self) {
+        let Reaching { cut_short, late, .. } = self;
+        let set = |first, last| self.set.range(first..=last).map(|(_, times)| times).sum::<u64>();
+        let outside = |first, last| self.outside.range(first..=last).map(|(_, times)| times).sum::<u64>();
+        println!(
+            "command 05: 2 set {} times, 3 {}, 4 to 30 {}, 31 {}, 32 {}; refused: cut short {cut_short}, after the seal {late}, \
+             0 {}, 1 {}, 33 {}, 34 to 255 {}",
+            set(2, 2),
+            set(3, 3),
+            set(4, 30),
+            set(31, 31),
+            set(32, 32),
+            outside(0, 0),
+            outside(1, 1),
+            outside(33, 33),
+            outside(34, 255)
+        );
+        for (noted, figure) in self.noted.iter().zip(["2", "others"]) {
+            if *noted == Noted::default() {
+                continue;
+            }
+            let slices = |of: &Slices| format!("below it {}, equal {}, above {}", of.below, of.equal, of.above);
+            println!(
+                "User timeslices at shortest {figure}: load 0 {}; 32 / load at deadlines {}, at hard ticks {}; paid there, \
+                 where the shortest is allowed: one tick less {}, as many {}, one more {}",
+                noted.load_0,
+                slices(&noted.deadlines),
+                slices(&noted.hard_ticks),
+                noted.one_before,
+                noted.expiring,
+                noted.one_after
+            );
+        }
+        println!("{} commands at shortest timeslice 2, {} at others", self.at_two, self.at_others);
     }
 }
 
@@ -253,7 +323,7 @@ impl Seals {
 fn main() {
     let sides = sides();
     let (mut left, mut right) = (sides[0].name.clone(), sides[1].name.clone());
-    let (mut count, mut without, mut file) = (1000, Vec::new(), None);
+    let (mut count, mut wanted, mut file) = (1000, Wanted::default(), None);
     let (mut lines, mut as_found) = (false, false);
     let mut plain = Vec::new();
     let mut arguments = std::env::args().skip(1);
@@ -264,7 +334,10 @@ fn main() {
             "--right" => right = value(),
             "--count" => count = value().parse().unwrap_or_else(|_| stop("--count N")),
             "--without" => {
-                without.push(pattern(&value()).unwrap_or_else(|| stop("--without HEX")))
+                wanted.without.push(pattern(&value()).unwrap_or_else(|| stop("--without HEX")))
+            }
+            "--figure" => {
+                wanted.figures = Figures::named(&value()).unwrap_or_else(|| stop("--figure 2, other or any"))
             }
             "--lines" => lines = true,
             "--as-found" => as_found = true,
@@ -289,7 +362,8 @@ fn main() {
         return;
     }
     if plain.len() < 2 {
-        stop("usage: compare FIRST LAST [PROFILE] [--left SIDE] [--right SIDE] [--count N] [--without HEX]...");
+        stop("usage: compare FIRST LAST [PROFILE] [--left SIDE] [--right SIDE] [--count N] [--without HEX]... \
+              [--figure 2|other|any]");
     }
     let seed = |text: &str| text.parse::<u64>().unwrap_or_else(|_| stop("a seed is a number"));
     let (first, last) = (seed(&plain[0]), seed(&plain[1]));
@@ -302,7 +376,7 @@ fn main() {
     let mut reached = Reached::default();
     for seed in first..=last {
         for profile in &profiles {
-            let stream = generate(seed, profile, count, &without).unwrap();
+            let stream = generate(seed, profile, count, &wanted).unwrap();
             commands += pair.check(&stream, &format!("seed {seed} profile {profile} count {count}"));
             reached.add(&stream);
             streams += 1;
@@ -333,6 +407,7 @@ fn main() {
         ahead(0),
         ahead(7)
     );
+    reached.figures.show();
     println!(
         "{} and {}: seeds {first} to {last}, {} profiles, {streams} streams, {commands} commands, no difference",
         pair.left.name,

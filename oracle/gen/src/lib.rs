@@ -3,10 +3,12 @@
 
 pub mod bad;
 pub mod draws;
+pub mod figures;
 pub mod mangled;
 pub mod plan;
 pub mod random;
 
+use figures::{Figures, Said};
 use plan::Plan;
 use random::Random;
 use second::{Answer, Place, State, operands};
@@ -20,7 +22,8 @@ pub struct Generator {
     pub stream: Vec<u8>,
     written: usize,
     count: usize,
-    without: Vec<Pattern>,
+    wanted: Wanted,
+    said: Said,
     /// The CPUs and threads declared.
     cpus: Vec<u8>,
     threads: Vec<u16>,
@@ -43,16 +46,30 @@ fn left_out(command: &[u8], without: &[Pattern]) -> bool {
     without.iter().any(|pattern| pattern.len() <= command.len() && pattern.iter().zip(command).all(fits))
 }
 
-/// A stream of at most `count` commands. Those that begin as one of `without` are left out.
-pub fn generate(seed: u64, profile: &str, count: usize, without: &[Pattern]) -> Option<Vec<u8>> {
+/// What the streams may have in them.
+#[derive(Clone, Default)]
+pub struct Wanted {
+    /// Commands that begin as one of these are left out.
+    pub without: Vec<Pattern>,
+    pub figures: Figures,
+}
+
+impl Wanted {
+    fn leaves_out(&self, command: &[u8], state: &State) -> bool {
+        left_out(command, &self.without) || self.figures.leave_out(command, state)
+    }
+}
+
+/// A stream of at most `count` commands.
+pub fn generate(seed: u64, profile: &str, count: usize, wanted: &Wanted) -> Option<Vec<u8>> {
     if profile == draws::PROFILE {
         return Some(draws::generate(count));
     }
     if profile == mangled::PROFILE {
-        return Some(mangled::generate(seed, count, without));
+        return Some(mangled::generate(seed, count, wanted));
     }
     if let Some(plan) = Plan::steady(profile) {
-        return Some(follow(plan, Random::new(seed, 1001), count, without));
+        return Some(follow(plan, Random::new(seed, 1001), Said::nothing(), count, wanted));
     }
     let number = PROFILES.iter().position(|name| *name == profile)?;
     let mut random = Random::new(seed, number as u64);
@@ -63,10 +80,11 @@ pub fn generate(seed: u64, profile: &str, count: usize, without: &[Pattern]) -> 
         _ => count,
     };
     let plan = Plan::draw(profile, seed, &mut random, count);
-    Some(follow(plan, random, count, without))
+    let said = Said::draw(profile, Random::new(seed, 2000 + number as u64), wanted.figures);
+    Some(follow(plan, random, said, count, wanted))
 }
 
-fn follow(plan: Plan, random: Random, count: usize, without: &[Pattern]) -> Vec<u8> {
+fn follow(plan: Plan, random: Random, said: Said, count: usize, wanted: &Wanted) -> Vec<u8> {
     let mut generator = Generator {
         random,
         plan,
@@ -74,7 +92,8 @@ fn follow(plan: Plan, random: Random, count: usize, without: &[Pattern]) -> Vec<
         stream: Vec::new(),
         written: 0,
         count,
-        without: without.to_vec(),
+        wanted: wanted.clone(),
+        said,
         cpus: Vec::new(),
         threads: Vec::new(),
     };
@@ -102,7 +121,7 @@ impl Generator {
 
     /// Write a command and let the second reading obey it.
     fn write(&mut self, command: &[u8]) -> Option<Answer> {
-        if self.full() || left_out(command, &self.without) {
+        if self.full() || self.wanted.leaves_out(command, &self.state) {
             return None;
         }
         self.written += 1;
@@ -119,16 +138,15 @@ impl Generator {
         while !self.full() {
             let before = self.written;
             if self.random.chance(self.plan.bad) {
-                let command = self.bad_command();
-                self.write(&command);
+                self.write_bad();
             } else if self.state.sealed {
+                self.say_late();
                 self.step();
             } else {
                 // Never sealed: only refusals are left.
-                let command = self.bad_command();
-                self.write(&command);
+                self.write_bad();
             }
-            if self.written == before && !self.state.sealed && left_out(&[0x04], &self.without) {
+            if self.written == before && !self.state.sealed && left_out(&[0x04], &self.wanted.without) {
                 break;
             }
         }
@@ -166,6 +184,7 @@ impl Generator {
         self.make_nodes(self.plan.nodes);
         self.place(&cpus[early..]);
         self.sprinkle();
+        self.say_all();
         self.write(&[0x04]);
         cpus.sort();
         self.cpus = cpus;
@@ -221,12 +240,18 @@ impl Generator {
         }
     }
 
-    /// A refused command now and then, also before the seal.
+    /// A refused command now and then, also before the seal, and what is said of the shortest timeslice.
     fn sprinkle(&mut self) {
+        self.say_some();
         while self.random.chance(self.plan.bad) {
-            let command = self.bad_command();
-            self.write(&command);
+            self.write_bad();
         }
+    }
+
+    fn write_bad(&mut self) {
+        self.say_bad();
+        let command = self.bad_command();
+        self.write(&command);
     }
 
     fn declare(&mut self) {
@@ -297,6 +322,9 @@ impl Generator {
         // Now and then the target changes, so that queues fill and run dry.
         if self.random.chance(1) {
             self.plan.target = self.random.of(self.plan.targets);
+        }
+        if self.plan.near > 0 && self.random.chance(self.plan.near) {
+            return self.near_expiry();
         }
         let many = waits > self.plan.target * self.cpus.len();
         let roll = self.random.weighted(&self.plan.weights);

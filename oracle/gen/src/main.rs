@@ -1,12 +1,13 @@
-//! gen SEED PROFILE COUNT [--without HEX]...
+//! gen SEED PROFILE COUNT [--without HEX]... [--figure 2|other|any]
 //!
 //! Writes a stream of COUNT commands to standard output. `gen --profiles` lists the profiles; two more are `draws` and
-//! `steady:CPUS:THREADS`, in which nothing varies but the commands.
+//! `steady:CPUS:THREADS`, in which nothing varies but the commands. With `--figure 2` no stream sets another shortest
+//! timeslice, with `--figure other` each does.
 
 use std::io::Write;
 
 fn usage() -> ! {
-    eprintln!("usage: gen SEED PROFILE COUNT [--without HEX]...\n       gen --profiles");
+    eprintln!("usage: gen SEED PROFILE COUNT [--without HEX]... [--figure 2|other|any]\n       gen --profiles");
     std::process::exit(2);
 }
 
@@ -17,18 +18,21 @@ fn main() {
         return;
     }
     let mut plain = Vec::new();
-    let mut without = Vec::new();
+    let mut wanted = r#gen::Wanted::default();
     let mut list = arguments.iter();
     while let Some(argument) = list.next() {
         if argument == "--without" {
             let pattern = list.next().and_then(|hex| r#gen::pattern(hex));
-            without.push(pattern.unwrap_or_else(|| usage()));
+            wanted.without.push(pattern.unwrap_or_else(|| usage()));
+        } else if argument == "--figure" {
+            let figures = list.next().and_then(|name| r#gen::figures::Figures::named(name));
+            wanted.figures = figures.unwrap_or_else(|| usage());
         } else {
             plain.push(argument);
         }
     }
     let [seed, profile, count] = plain[..] else { usage() };
     let (Ok(seed), Ok(count)) = (seed.parse(), count.parse()) else { usage() };
-    let Some(stream) = r#gen::generate(seed, profile, count, &without) else { usage() };
+    let Some(stream) = r#gen::generate(seed, profile, count, &wanted) else { usage() };
     std::io::stdout().write_all(&stream).unwrap();
 }

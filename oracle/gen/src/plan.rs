@@ -2,9 +2,9 @@
 
 use crate::random::Random;
 
-pub const PROFILES: [&str; 18] = [
+pub const PROFILES: [&str; 19] = [
     "solo", "leaf", "flat", "deep", "uneven", "nodes", "wide", "queues", "pins", "classes", "ticks", "balance",
-    "steal", "donate", "refuse", "endings", "mixed", "mangled",
+    "steal", "donate", "refuse", "endings", "mixed", "mangled", "shortest",
 ];
 
 #[derive(Clone, Copy)]
@@ -28,7 +28,7 @@ pub enum Values {
 pub enum Ending {
     Clean,
     Unknown,
-    /// One of the 41 places in which a command can be cut.
+    /// One of the 42 places in which a command can be cut.
     Cut(u64),
 }
 
@@ -52,6 +52,7 @@ pub struct Plan {
     pub follow: u64,
     pub boot: u64,
     pub often: u64,
+    pub near: u64,
     pub classes: &'static [u8],
     pub values: Values,
     pub flags: &'static [u8],
@@ -89,6 +90,7 @@ impl Plan {
             follow: 60,
             boot: 20,
             often: 30,
+            near: 0,
             classes: USER,
             values: Values::Any,
             flags: ALL_FLAGS,
@@ -119,6 +121,7 @@ impl Plan {
             follow: r.of(&[20, 60, 90]),
             boot: r.of(&[20, 60]),
             often: r.of(&[0, 30, 80]),
+            near: 0,
             classes: r.of(&mixes),
             values: if r.chance(70) { Values::Any } else { Values::Few(r.below(126) as u8) },
             flags: ALL_FLAGS,
@@ -208,12 +211,23 @@ impl Plan {
                 plan.nodes = plan.nodes.min(12);
             }
             "endings" => {
-                // 123 seeds have every cut.
+                // The seeds 1 to 125 have every cut.
                 plan.ending = [Ending::Clean, Ending::Unknown, Ending::Cut(seed / 3)][seed as usize % 3];
                 plan.bad = r.of(&[0, 20]);
                 plan.cpus = plan.cpus.min(4);
                 plan.nodes = plan.nodes.min(6);
                 plan.threads = plan.threads.min(6);
+            }
+            "shortest" => {
+                // Up to 40 threads wait in timeshare, so that 32 / load is below, at and above every figure.
+                plan.cpus = r.of(&[1, 1, 1, 2, 3]);
+                plan.nodes = plan.nodes.min(6);
+                plan.threads = (plan.cpus * r.between(1, 42) as usize).min(count / 4);
+                plan.classes = r.of(&[&[2], &[2], &[2, 2, 2, 2, 3], &[2, 2, 2, 1]]);
+                plan.near = r.of(&[15, 30]);
+                plan.target = r.between(0, 40) as usize;
+                plan.targets = &[0, 1, 2, 3, 4, 5, 6, 8, 9, 10, 11, 14, 16, 17, 20, 31, 32, 33, 36, 40];
+                plan.weights = [34, 14, 4, 8, 12, 6, 2, 6, 4, 2, 2, 1];
             }
             _ => {}
         }

@@ -35,6 +35,7 @@ pub mod memory;
 pub mod mutex;
 pub mod obj;
 pub mod security;
+pub mod shortest;
 pub mod syscall;
 pub mod time;
 pub mod trace;

@@ -1,17 +1,22 @@
 //! A second reading of document 01, written from its text: queues are lists of thread numbers, and every count is
 //! counted when it is asked for. It shares nothing with the original Rust.
 
+pub mod notes;
 pub mod queue;
 pub mod render;
 pub mod schedule;
 pub mod topology;
 
+pub use notes::Notes;
 pub use queue::{Priority, Queue};
 pub use topology::Topology;
 
 pub const CPUS: usize = 64;
 pub const THREADS: usize = 1024;
 pub const LAST_TICK: u64 = 1 << 62;
+/// "sets the shortest User timeslice to 2 to 32; unset it is 2"
+pub const SHORTEST: std::ops::RangeInclusive<u8> = 2..=32;
+pub const UNSET: u8 = 2;
 
 pub const IDLE: u8 = 0;
 pub const USER: u8 = 2;
@@ -64,12 +69,15 @@ pub struct State {
     pub cpus: Vec<Cpu>,
     pub topology: Topology,
     pub sealed: bool,
+    /// The shortest User timeslice.
+    pub shortest: u8,
     pub threads: Vec<Option<Thread>>,
     pub tick: u64,
     pub accepted: u64,
     /// Wake-ups of other CPUs by the last command obeyed, and its calls of its own CPU, which no line shows.
     pub wakeups: u64,
     pub own_calls: u64,
+    pub notes: Notes,
 }
 
 #[derive(Clone, Copy, PartialEq, Eq, Debug)]
@@ -85,7 +93,7 @@ pub enum Answer {
 pub fn operands(command: u8) -> Option<usize> {
     match command {
         0x04 => Some(0),
-        0x01 | 0x14 | 0x16 | 0x17 => Some(1),
+        0x01 | 0x05 | 0x14 | 0x16 | 0x17 => Some(1),
         0x02 | 0x03 | 0x13 | 0x19 => Some(2),
         0x12 | 0x1A => Some(3),
         0x10 | 0x15 | 0x18 => Some(5),
@@ -107,6 +115,7 @@ struct Request {
     number: u64,
     flags: u8,
     mark: u8,
+    figure: u8,
 }
 
 fn little(bytes: &[u8]) -> u64 {
@@ -120,6 +129,7 @@ fn read(command: u8, o: &[u8]) -> Request {
         0x01 | 0x14 | 0x16 | 0x17 => Request { cpu: o[0], ..none },
         0x02 => Request { node: o[0], kind: o[1], ..none },
         0x03 => Request { node: o[0], cpu: o[1], ..none },
+        0x05 => Request { figure: o[0], ..none },
         0x10 => Request { thread: thread(0), class: o[2], value: o[3], pin: o[4], ..none },
         0x11 => Request { number: little(o), ..none },
         0x12 => Request { cpu: o[0], thread: thread(1), ..none },
@@ -150,11 +160,13 @@ impl State {
             cpus: vec![cpu; CPUS],
             topology: Topology::new(),
             sealed: false,
+            shortest: UNSET,
             threads: vec![None; THREADS],
             tick: 0,
             accepted: 0,
             wakeups: 0,
             own_calls: 0,
+            notes: Notes::default(),
         }
     }
 
@@ -197,7 +209,7 @@ impl State {
                 failing.push(number)
             }
         };
-        question(3, (command <= 0x04) != self.sealed);
+        question(3, (command <= 0x05) != self.sealed);
         question(4, match command {
             0x01 => (r.cpu as usize) < CPUS && !self.declared(r.cpu),
             0x03 => self.declared(r.cpu) && !self.topology.placed(r.cpu),
@@ -213,6 +225,7 @@ impl State {
         question(6, match command {
             0x02 => self.topology.may_have_child(r.node) && r.kind <= 3,
             0x03 => self.topology.is_leaf(r.node),
+            0x05 => SHORTEST.contains(&r.figure),
             0x10 | 0x18 => r.class <= 3 && r.value <= 127,
             0x13 => r.flags <= 7,
             0x1A => r.mark <= 1,
@@ -251,6 +264,8 @@ impl State {
                     cpu.idle = true;
                 }
             }
+            // "the last one given holds"
+            0x05 => self.shortest = r.figure,
             0x10 => {
                 let own = Priority::new(r.class, r.value);
                 self.threads[r.thread as usize] = Some(Thread {

@@ -192,16 +192,17 @@ impl Queue {
         }
     }
 
-    /// "User timeslice: 100 at timeshare load 0, else 32 / load rounded down, at least 2; others 100."
-    pub fn timeslice(&self, class: u8) -> u64 {
+    /// "User timeslice: 100 at timeshare load 0, else 32 / load rounded down, at least 2; others 100." 2026-07: at least the
+    /// shortest one that is set. "Timeslices at timeshare load 0 are still 100."
+    pub fn timeslice(&self, class: u8, shortest: u64) -> u64 {
         match self.timeshare_load() {
-            load if class == USER && load > 0 => (32 / load as u64).max(2),
+            load if class == USER && load > 0 => (32 / load as u64).max(shortest),
             _ => 100,
         }
     }
 
     /// "Deadline distance = timeslice × queue load."
-    pub fn deadline(&self, class: u8) -> u64 {
-        self.timeslice(class) * self.load() as u64
+    pub fn deadline(&self, class: u8, shortest: u64) -> u64 {
+        self.timeslice(class, shortest) * self.load() as u64
     }
 }

@@ -35,6 +35,7 @@ impl State {
     }
 
     pub fn dump(&self, out: &mut String) {
+        writeln!(out, "s shortest {}", self.shortest).unwrap();
         for cpu in (0..CPUS).filter(|cpu| self.cpus[*cpu].declared) {
             self.dump_cpu(out, cpu);
         }

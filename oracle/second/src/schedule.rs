@@ -69,7 +69,9 @@ impl State {
     /// Deadline and timeslice of a thread that is about to wait on the CPU, or to run on.
     fn reset_time(&mut self, thread: u16, cpu: u8) {
         let class = self.th(thread).effective().class;
-        let deadline = self.tick + self.cpus[cpu as usize].queue.deadline(class);
+        let queue = &self.cpus[cpu as usize].queue;
+        let deadline = self.tick + queue.deadline(class, self.shortest as u64);
+        self.notes.deadline(class, queue.timeshare_load(), self.shortest);
         let record = self.th_mut(thread);
         record.deadline = deadline;
         record.paid = 0;
@@ -256,11 +258,12 @@ impl State {
         let cpu = &mut self.cpus[us as usize];
         let ticks = tick - cpu.queue.last_tick;
         cpu.queue.last_tick = tick;
-        let allowed = cpu.queue.timeslice(class);
+        let allowed = cpu.queue.timeslice(class, self.shortest as u64);
         let paid = match cpu.running {
             Some(thread) => &mut self.threads[thread as usize].as_mut().unwrap().paid,
             None => &mut cpu.idle_paid,
         };
+        self.notes.hard_tick(class, cpu.queue.timeshare_load(), self.shortest, *paid as u64 + ticks);
         let expired = *paid as u64 + ticks >= allowed;
         *paid = if expired { 0 } else { *paid + ticks as u32 };
         if resched || expired {

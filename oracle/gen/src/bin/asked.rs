@@ -5,7 +5,7 @@
 
 use std::collections::BTreeMap;
 
-use r#gen::{PROFILES, generate, split};
+use r#gen::{PROFILES, Wanted, generate, split};
 use second::State;
 
 fn main() {
@@ -17,7 +17,7 @@ fn main() {
     let mut seen: BTreeMap<(u8, String), u64> = BTreeMap::new();
     for seed in 1..=last {
         for profile in PROFILES {
-            let stream = generate(seed, profile, count as usize, &[]).unwrap();
+            let stream = generate(seed, profile, count as usize, &Wanted::default()).unwrap();
             let mut state = State::new();
             for command in split(&stream) {
                 let failing: Vec<String> = state.failing(command).iter().map(|n| n.to_string()).collect();

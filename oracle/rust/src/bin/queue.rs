@@ -8,6 +8,7 @@ use std::sync::{Arc, atomic::Ordering};
 use kernel::{
     clock::set_current_ticks,
     processor::{PROBE_NR_QUEUES, ProbeRunQueue},
+    shortest::set_shortest_timeslice,
     thread::{
         Thread, ThreadRef,
         priority::{Priority, PriorityClass},
@@ -97,6 +98,9 @@ impl Bench {
 
     fn perform(&mut self, op: &Operation) -> [u8; 48] {
         let queue = &self.queues[op.queue as usize];
+        if matches!(op.kind, 7 | 8) {
+            set_shortest_timeslice(op.number as u32);
+        }
         let class = CLASSES[op.class as usize];
         let mut place = (0xff, 0xff);
         let taken = |thread: Option<ThreadRef>| {
@@ -235,6 +239,8 @@ fn main() {
         std::process::exit(2);
     };
     let mut random = Random(seed.parse().unwrap());
+    // The shortest timeslices have a source of their own.
+    let mut figures = Random(!random.0);
     let mut bench = Bench {
         queues: (0..QUEUES).map(|_| ProbeRunQueue::new()).collect(),
         threads: (0..THREADS)
@@ -251,7 +257,14 @@ fn main() {
     let mut waiting = vec![false; THREADS];
     let (mut written, mut answered) = (Vec::new(), Vec::new());
     for number in 0..count.parse().unwrap() {
-        let op = draw(&mut random, number, &bench, &waiting);
+        let mut op = draw(&mut random, number, &bench, &waiting);
+        if matches!(op.kind, 7 | 8) {
+            op.number = match figures.below(3) {
+                0 => 2,
+                1 => figures.of(&[3, 31, 32]),
+                _ => 2 + figures.below(31),
+            };
+        }
         let answer = bench.perform(&op);
         match op.kind {
             1 => waiting[op.thread as usize] = true,
