@@ -1,1 +1,3 @@
 // No code: that `balance` and the stat tick over lent records and words are those of the rules, in specs/.
+#![tactic(auto)]
+

@@ -19,7 +19,7 @@ use topology::node::{contains, end, first};
 use topology::words::NodeWords;
 
 // The highest score, and the lowest of the CPUs that did not raise the highest.
-#[derive(Drop)]
+#[derive(Clone, Copy)]
 pub struct Extremes {
     pub highest: u64,
     pub highest_score: u64,
@@ -27,20 +27,21 @@ pub struct Extremes {
     pub draws: u64,
 }
 
-#[derive(Drop)]
+#[derive(Clone, Copy)]
 pub enum Pair {
     Nothing,
     Cpus { donor: u64, recipient: u64 },
 }
 
 // A donor and a recipient, or nothing, and the draw state after the draws.
-#[derive(Drop)]
+#[derive(Clone, Copy)]
 pub struct Chosen {
     pub found: Pair,
     pub draws: u64,
 }
 
 // CPU 0 has the highest score, 0, at first.
+#[tactic(auto, unfolding(crate::specs::Balance::extremes_in, crate::specs::Balance::unraised, crate::specs::Found::best_in))]
 pub fn start(draws: u64) -> Extremes
     ensures { extremes_in result ≡ unraised draws }
 {
@@ -53,6 +54,7 @@ pub fn start(draws: u64) -> Extremes
 }
 
 // A CPU is tested for the lowest only if it did not raise the highest.
+#[tactic(auto, unfolding(crate::specs::Balance::extremes_in, rules::specs::Choice::weigh))]
 pub fn weigh(e: Extremes, s: u64, c: u64, draws: u64) -> Extremes
     ensures { extremes_in result ≡ rule.weigh (extremes_in e) s c draws }
 {
@@ -74,6 +76,7 @@ pub fn weigh(e: Extremes, s: u64, c: u64, draws: u64) -> Extremes
     }
 }
 
+#[tactic(auto, unfolding(crate::specs::Balance::raised, crate::specs::Reads::weight_at, crate::specs::Balance::extremes_in))]
 pub fn raise(cpus: &[CpuWords], us: u64, c: u64, e: Extremes) -> Extremes
     ensures { extremes_in result ≡ raised us (weight_at cpus.now) c (extremes_in e) }
 {
@@ -92,6 +95,7 @@ fn counts(nodes: &[NodeWords], allowed: CpuSet, n: u64, c: u64) -> bool
     false
 }
 
+#[tactic(auto, using(crate::specs::Balance::extremes_end, crate::specs::Balance::extremes_no, crate::specs::Balance::extremes_yes))]
 pub fn balance_range(
     cpus: &[CpuWords],
     nodes: &[NodeWords],
@@ -116,6 +120,7 @@ pub fn balance_range(
     e
 }
 
+#[tactic(auto, unfolding(crate::specs::Balance::pair_in, rules::specs::Choice::pair_of))]
 pub fn pair_unless(highest: u64, c: u64) -> Pair
     ensures { pair_in result ≡ rule.pair_of highest (rule.best 0 c) }
 {
@@ -128,6 +133,7 @@ pub fn pair_unless(highest: u64, c: u64) -> Pair
     }
 }
 
+#[tactic(auto, unfolding(crate::specs::Balance::pair_in, rules::specs::Choice::pair_of, crate::specs::Found::best_in))]
 pub fn pair_of(highest: u64, lowest: Best) -> Pair
     ensures { pair_in result ≡ rule.pair_of highest (best_in lowest) }
 {
@@ -138,6 +144,7 @@ pub fn pair_of(highest: u64, lowest: Best) -> Pair
 }
 
 // Over the CPUs of the root that are allowed, ascending: one draw for each.
+#[tactic(auto, unfolding(crate::specs::Balance::chosen_in, rules::specs::Choice::choose_cpu_balance, topology::specs::Walk::cpus_at, crate::specs::Balance::unraised, crate::specs::Balance::extremes_in, crate::specs::Balance::finished))]
 pub fn choose_cpu_balance(
     cpus: &[CpuWords],
     nodes: &[NodeWords],

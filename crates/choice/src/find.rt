@@ -16,19 +16,20 @@ use topology::node::{NEXT, contains, end, first, has_children};
 use topology::words::{NodeWords, word};
 
 // The CPU found so far, with its score.
-#[derive(Drop)]
+#[derive(Clone, Copy)]
 pub enum Best {
     Nothing,
     Cpu { score: u64, cpu: u64 },
 }
 
 // What a search found, and the draw state after its draws.
-#[derive(Drop)]
+#[derive(Clone, Copy)]
 pub struct Searched {
     pub found: Best,
     pub draws: u64,
 }
 
+#[tactic(auto, unfolding(crate::specs::Found::searched_in, crate::specs::Found::begun, crate::specs::Found::best_in))]
 pub fn begin(draws: u64) -> Searched
     ensures { searched_in result ≡ begun draws }
 {
@@ -39,6 +40,7 @@ pub fn begin(draws: u64) -> Searched
 }
 
 // The first of equals wins.
+#[tactic(auto, unfolding(crate::specs::Found::best_in, rules::specs::Choice::lower))]
 pub fn lower_of(least: u64, found: u64, score: u64, cpu: u64) -> Best
     ensures { best_in result ≡ lower (best_in (Best.Cpu least found)) score cpu }
 {
@@ -51,6 +53,7 @@ pub fn lower_of(least: u64, found: u64, score: u64, cpu: u64) -> Best
     }
 }
 
+#[tactic(auto, unfolding(crate::specs::Found::best_in, rules::specs::Choice::lower))]
 pub fn lower(found: Best, score: u64, cpu: u64) -> Best
     ensures { best_in result ≡ lower (best_in found) score cpu }
 {
@@ -61,6 +64,7 @@ pub fn lower(found: Best, score: u64, cpu: u64) -> Best
 }
 
 // A CPU that is not skipped: one draw, and its score beside the lowest so far.
+#[tactic(auto, unfolding(crate::specs::Found::searched_in, crate::specs::Found::weighed, crate::specs::Reads::weight_at))]
 pub fn weigh(cpus: &[CpuWords], us: u64, c: u64, so_far: Searched) -> Searched
     ensures { searched_in result ≡ weighed us (weight_at cpus.now) c (searched_in so_far) }
 {
@@ -72,6 +76,7 @@ pub fn weigh(cpus: &[CpuWords], us: u64, c: u64, so_far: Searched) -> Searched
 }
 
 // One number of a leaf's range: weighed if it is a CPU of the leaf and is not skipped.
+#[tactic(auto, unfolding(crate::specs::Found::considered))]
 pub fn consider(
     cpus: &[CpuWords],
     nodes: &[NodeWords],
@@ -94,6 +99,7 @@ pub fn consider(
 }
 
 // The CPUs of a node from one number to below another, ascending.
+#[tactic(auto, using(crate::specs::Found::find_end, crate::specs::Found::find_turn))]
 pub fn search_range(
     cpus: &[CpuWords],
     nodes: &[NodeWords],
@@ -118,6 +124,7 @@ pub fn search_range(
 }
 
 // The CPUs of a leaf; a node with children has none to look at.
+#[tactic(auto, unfolding(topology::specs::Walk::leaf_cpus, rules::specs::Choice::find_cpu, topology::specs::Walk::cpus_at))]
 pub fn search_leaf(
     cpus: &[CpuWords],
     nodes: &[NodeWords],
@@ -139,6 +146,7 @@ pub fn search_leaf(
 }
 
 // All leaves in their order, the CPUs of each ascending: the lowest score, one draw for each CPU that is not skipped, the first of equals.
+#[tactic(auto, using(crate::specs::Found::find_node), unfolding(topology::specs::Walk::visited_at, topology::specs::Walk::to_root, rules::specs::State::join_all, rules::specs::Choice::find_cpu))]
 pub fn find_cpu_from_topo(
     cpus: &[CpuWords],
     nodes: &[NodeWords],

@@ -11,6 +11,7 @@ use processor::words::{CpuWords, LOAD, MOVABLE, word};
 use thread::priority::{OptionPriority, less};
 
 // 256 times the load, modulo 2^64, less the draw modulo 128, not below 0. The product of the last 56 bits is the wrapping one.
+#[tactic(auto, unfolding(rules::specs::Choice::score))]
 pub fn score(load: u64, state: u64) -> u64
     ensures { result ≡ choice.score (load % 2 ^ 56) (draw state) }
 {
@@ -23,6 +24,7 @@ pub fn score(load: u64, state: u64) -> u64
 }
 
 // Is the CPU skipped in a search for a thread of this priority, if one is given?
+#[tactic(auto, unfolding(crate::specs::Reads::skips_at, thread::specs::Reads::held))]
 pub fn skips(cpus: &[CpuWords], pri: OptionPriority, c: u64) -> bool
     ensures { result ≡ skips_at cpus.now (held pri) c }
 {
@@ -33,12 +35,14 @@ pub fn skips(cpus: &[CpuWords], pri: OptionPriority, c: u64) -> bool
 }
 
 // How many wait in its queue, and how many of them are not pinned.
+#[tactic(auto, unfolding(crate::specs::Reads::queue_load_at))]
 pub fn queue_load(cpus: &[CpuWords], c: u64) -> u64
     ensures { result ≡ queue_load_at cpus.now c }
 {
     word(cpus, c, LOAD)
 }
 
+#[tactic(auto, unfolding(crate::specs::Reads::movable_at))]
 pub fn movable(cpus: &[CpuWords], c: u64) -> u64
     ensures { result ≡ movable_at cpus.now c }
 {

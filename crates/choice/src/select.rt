@@ -16,6 +16,7 @@ use thread::time::OptionCpu;
 use topology::words::NodeWords;
 
 // Is the CPU the one named?
+#[tactic(auto, unfolding(rules::specs::Schedule::same_cpu, thread::specs::Reads::named))]
 pub fn same_cpu(c: u64, avoid: OptionCpu) -> bool
     ensures { result ≡ same_cpu c (named avoid) }
 {
@@ -26,6 +27,7 @@ pub fn same_cpu(c: u64, avoid: OptionCpu) -> bool
 }
 
 // 1: the CPU is not to be avoided, and nobody waits there or the thread is above its priority.
+#[tactic(auto, unfolding(crate::specs::Select::runs_at_once))]
 pub fn runs_at_once(cpus: &[CpuWords], c: u64, pri: Priority, avoid: OptionCpu) -> bool
     ensures { result ≡ runs_at_once cpus.now pri (named avoid) c }
 {
@@ -38,6 +40,7 @@ pub fn runs_at_once(cpus: &[CpuWords], c: u64, pri: Priority, avoid: OptionCpu) 
     less(current_priority(cpus, c), pri)
 }
 
+#[tactic(auto, unfolding(crate::specs::Select::at_once, thread::specs::Reads::named))]
 pub fn at_once(cpus: &[CpuWords], preferred: OptionCpu, pri: Priority, avoid: OptionCpu) -> bool
     ensures { result ≡ at_once cpus.now pri (named avoid) (named preferred) }
 {
@@ -47,6 +50,7 @@ pub fn at_once(cpus: &[CpuWords], preferred: OptionCpu, pri: Priority, avoid: Op
     }
 }
 
+#[tactic(auto, unfolding(crate::specs::Reads::as_cpu, crate::specs::Select::cpu_found, crate::specs::Found::best_in))]
 pub fn cpu_found(found: Best) -> OptionCpu
     ensures { result ≡ as_cpu (cpu_found (best_in found)) }
 {
@@ -56,6 +60,7 @@ pub fn cpu_found(found: Best) -> OptionCpu
     }
 }
 
+#[tactic(auto, unfolding(crate::specs::Select::accepted, crate::specs::Found::best_in))]
 pub fn accepted_unless(c: u64, avoid: OptionCpu) -> bool
     ensures { result ≡ accepted (named avoid) (best_in (Best.Cpu 0 c)) }
 {
@@ -66,6 +71,7 @@ pub fn accepted_unless(c: u64, avoid: OptionCpu) -> bool
 }
 
 // Was a CPU found that is not to be avoided?
+#[tactic(auto, unfolding(crate::specs::Select::accepted, crate::specs::Found::best_in))]
 pub fn accepted(found: Best, avoid: OptionCpu) -> bool
     ensures { result ≡ accepted (named avoid) (best_in found) }
 {
@@ -76,6 +82,7 @@ pub fn accepted(found: Best, avoid: OptionCpu) -> bool
 }
 
 // 2: the least loaded that will run the thread at once, if it is not to be avoided; else 3: the least loaded of all.
+#[tactic(auto, unfolding(crate::specs::Select::search_twice, crate::specs::Select::search_again, crate::specs::Select::search_from, thread::specs::Reads::held, crate::specs::Found::searched_in))]
 pub fn search_twice(
     cpus: &[CpuWords],
     nodes: &[NodeWords],
@@ -96,6 +103,7 @@ pub fn search_twice(
 }
 
 // Writes the draw state of CPU `us` and nothing else.
+#[tactic(auto, using(crate::specs::Reads::as_named), unfolding(crate::specs::Select::select_cpu, crate::specs::Select::after_select, crate::specs::Found::searched_in))]
 pub fn select_cpu(
     cpus: &mut [CpuWords],
     nodes: &[NodeWords],

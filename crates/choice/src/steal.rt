@@ -17,6 +17,7 @@ use topology::words::{NodeWords, word};
 // The running thread is counted.
 pub const STEAL_LOAD_THRESH: u64 = 2;
 
+#[tactic(auto, unfolding(rules::specs::Choice::may_steal_from))]
 pub fn may_steal_from(cpus: &[CpuWords], us: u64, c: u64) -> bool
     ensures { result ≡ may_steal_from us (load_at cpus.now) (movable_at cpus.now) c }
 {
@@ -39,6 +40,7 @@ pub fn is_donor(cpus: &[CpuWords], nodes: &[NodeWords], us: u64, n: u64, c: u64)
     false
 }
 
+#[tactic(auto, using(crate::specs::Steal::first_end, crate::specs::Steal::first_turn), unfolding(crate::specs::Reads::as_cpu))]
 pub fn steal_range(
     cpus: &[CpuWords],
     nodes: &[NodeWords],
@@ -60,6 +62,7 @@ pub fn steal_range(
     OptionCpu::None
 }
 
+#[tactic(auto, unfolding(topology::specs::Walk::cpus_at))]
 pub fn steal_node(cpus: &[CpuWords], nodes: &[NodeWords], us: u64, limit: u64, n: u64) -> OptionCpu
     ensures { result ≡ as_cpu (first_that (may_steal_from us (load_at cpus.now) (movable_at cpus.now)) (cpus_at nodes.now limit n)) }
 {
@@ -68,6 +71,7 @@ pub fn steal_node(cpus: &[CpuWords], nodes: &[NodeWords], us: u64, limit: u64, n
     steal_range(cpus, nodes, us, n, from, to)
 }
 
+#[tactic(auto, unfolding(rules::specs::Times::is_some, thread::specs::Reads::named))]
 pub fn is_some(c: OptionCpu) -> bool
     ensures { result ≡ is_some (named c) }
 {
@@ -78,6 +82,7 @@ pub fn is_some(c: OptionCpu) -> bool
 }
 
 // `node` is the leaf of CPU `us`.
+#[tactic(auto, using(crate::specs::Steal::first_here, crate::specs::Steal::first_on, crate::specs::Steal::found_so), unfolding(topology::specs::Walk::nearest_at, crate::specs::Reads::as_cpu, topology::specs::Walk::to_root, rules::specs::State::join_all, rules::specs::Choice::first_that))]
 pub fn choose_cpu_steal_via_topo(
     cpus: &[CpuWords],
     nodes: &[NodeWords],

@@ -1,1 +1,3 @@
 // No code: that the choice of a CPU over words is the choice of the rules, in specs/.
+#![tactic(auto)]
+

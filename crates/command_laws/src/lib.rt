@@ -1,1 +1,3 @@
 // No code: that one call over lent memory leaves and answers what one step of the rules does, in specs/.
+#![tactic(auto)]
+

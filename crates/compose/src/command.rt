@@ -7,7 +7,7 @@ use request::fields::Fields;
 use writer::{Written, write_command};
 
 // The bytes in the output, and whether the run ends here: then standard error has the reason.
-#[derive(Drop)]
+#[derive(Clone, Copy)]
 pub struct Step {
     pub done: usize,
     pub ended: bool,

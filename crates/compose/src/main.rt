@@ -1,4 +1,6 @@
 // Text from standard input, command bytes to standard output: one command to a line.
+#![tactic(auto)]
+
 mod command;
 mod message;
 
@@ -10,7 +12,7 @@ use files::{fill, show};
 use message::{report_input, report_length, report_output};
 
 // What a block left: its first byte that is in no whole line, the bytes in the output, the number of the next line, whether the run ends here.
-#[derive(Drop)]
+#[derive(Clone, Copy)]
 pub struct Block {
     pub at: usize,
     pub done: usize,

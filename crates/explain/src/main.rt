@@ -1,4 +1,6 @@
 // Command bytes from standard input, their text to standard output, one line to a command.
+#![tactic(auto)]
+
 use blocks::keep;
 use files::{Filled, fill, show};
 use lines::{put, put_bytes, put_number};
@@ -7,7 +9,7 @@ use request::fields::operands;
 use request::{Operands, operand_bytes};
 
 // Why the listing of a block stops.
-#[derive(Drop)]
+#[derive(Clone, Copy)]
 pub enum Stop {
     // It goes on.
     Not,
@@ -22,7 +24,7 @@ pub enum Stop {
 }
 
 // Where the next command begins in the input, and how many bytes of output there are.
-#[derive(Drop)]
+#[derive(Clone, Copy)]
 pub struct Progress {
     pub at: usize,
     pub done: usize,
@@ -30,7 +32,7 @@ pub struct Progress {
 }
 
 // The unfinished command: how many of its bytes are kept at the front of the input, and the offset of the first of them in the stream.
-#[derive(Drop)]
+#[derive(Clone, Copy)]
 pub struct Serving {
     pub kept: usize,
     pub offset: u64,

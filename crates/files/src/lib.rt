@@ -1,7 +1,9 @@
 // Standard input block by block, and bytes to a file.
+#![tactic(auto)]
+
 
 // The bytes at the front of the input, whether they are the last, and whether reading failed.
-#[derive(Drop)]
+#[derive(Clone, Copy)]
 pub struct Filled {
     pub bytes: usize,
     pub last: bool,

@@ -1,11 +1,13 @@
 // The answer to a command, and the lines that the program prints, written into a lent buffer.
+#![tactic(auto)]
+
 ghost use Rattle.std.specs.Prelude.{◌≡◌, [], ◌∷◌, ◌+◌, ◌-◌, ◌%◌};
 ghost use Rattle.rules.specs.Lines.{digits, decimal, number_or_dash, running_or_dash, line, header, end_line};
 ghost use Rattle.lines.specs.Lines.{refusal_number, shown_option, running_option, answer_of, room, rendered, buffer_with};
 ghost use Rattle.lines.specs.Text.{text, write, two_digits, four_digits, counts_part, cpu_part, numbers_part};
 
 // The questions of document 01 and of the requests that are in; `refusal_number` has their numbers.
-#[derive(Drop)]
+#[derive(Clone, Copy)]
 pub enum Refusal {
     Obeyed,
     UnknownCommand,
@@ -22,20 +24,20 @@ pub enum Refusal {
     ShortBuffer,
 }
 
-#[derive(Drop)]
+#[derive(Clone, Copy)]
 pub enum Shown {
     Number(u64),
     Dash,
 }
 
-#[derive(Drop)]
+#[derive(Clone, Copy)]
 pub enum Running {
     Thread(u64),
     Idle,
     Dash,
 }
 
-#[derive(Drop)]
+#[derive(Clone, Copy)]
 pub struct Answer {
     pub refusal: Refusal,
     pub cpu: Shown,
@@ -45,7 +47,7 @@ pub struct Answer {
 }
 
 // The bytes written, or refusal 11.
-#[derive(Drop)]
+#[derive(Clone, Copy)]
 pub enum Rendered {
     Written(usize),
     Refused(Refusal),
@@ -54,6 +56,7 @@ pub enum Rendered {
 // The fewest bytes that a buffer for a line has.
 pub const LINE: usize = 48;
 
+#[tactic(auto, unfolding(crate::specs::Lines::refusal_number))]
 pub fn refusal_number(refusal: Refusal) -> u64
     ensures { result ≡ refusal_number refusal }
 {
@@ -75,6 +78,7 @@ pub fn refusal_number(refusal: Refusal) -> u64
 }
 
 // One byte; nothing past the end. Answers where the next one goes.
+#[tactic(auto, using(crate::proofs::Writing::write_past, crate::proofs::Writing::write_there))]
 pub fn put(buffer: &mut [u8], at: usize, byte: u8) -> usize
     ensures { text buffer.new result ≡ write (text buffer.old at) (byte ∷ []) }
 {
@@ -86,6 +90,7 @@ pub fn put(buffer: &mut [u8], at: usize, byte: u8) -> usize
 }
 
 // The bytes of a fixed string.
+#[tactic(auto, using(crate::proofs::Writing::write_done, crate::proofs::Writing::write_next))]
 pub fn put_bytes(buffer: &mut [u8], at: usize, bytes: &[u8]) -> usize
     ensures { text buffer.new result ≡ write (text buffer.old at) bytes.now }
 {
@@ -106,6 +111,7 @@ fn digit(n: u64) -> u8
 }
 
 // The last two digits of a number.
+#[tactic(auto, using(crate::proofs::Writing::then), unfolding(crate::specs::Text::two_digits))]
 fn put_two(buffer: &mut [u8], at: usize, n: u64) -> usize
     ensures { text buffer.new result ≡ write (text buffer.old at) (two_digits n) }
 {
@@ -114,6 +120,7 @@ fn put_two(buffer: &mut [u8], at: usize, n: u64) -> usize
 }
 
 // The last four digits of a number.
+#[tactic(auto, using(crate::proofs::Writing::then), unfolding(crate::specs::Text::four_digits))]
 fn put_four(buffer: &mut [u8], at: usize, n: u64) -> usize
     ensures { text buffer.new result ≡ write (text buffer.old at) (four_digits n) }
 {
@@ -122,6 +129,7 @@ fn put_four(buffer: &mut [u8], at: usize, n: u64) -> usize
 }
 
 // A number below 10,000; of a larger one the last four digits.
+#[tactic(auto, using(crate::proofs::Digits::short_four, crate::proofs::Digits::short_one, crate::proofs::Digits::short_three, crate::proofs::Digits::short_two, crate::proofs::Writing::then))]
 fn put_short(buffer: &mut [u8], at: usize, n: u64) -> usize
     ensures { text buffer.new result ≡ write (text buffer.old at) (digits 4 n) }
 {
@@ -150,6 +158,7 @@ fn put_long(buffer: &mut [u8], at: usize, n: u64) -> usize
 }
 
 // A number in decimal digits. One digit, the common case, is written without a further call.
+#[tactic(auto, using(crate::proofs::Digits::decimal_small))]
 pub fn put_number(buffer: &mut [u8], at: usize, n: u64) -> usize
     ensures { text buffer.new result ≡ write (text buffer.old at) (decimal n) }
 {
@@ -159,6 +168,7 @@ pub fn put_number(buffer: &mut [u8], at: usize, n: u64) -> usize
     put_long(buffer, at, n)
 }
 
+#[tactic(auto, unfolding(rules::specs::Lines::number_or_dash, crate::specs::Lines::shown_option, rules::specs::Lines::dash))]
 fn put_shown(buffer: &mut [u8], at: usize, shown: Shown) -> usize
     ensures { text buffer.new result ≡ write (text buffer.old at) (number_or_dash (shown_option shown)) }
 {
@@ -168,6 +178,7 @@ fn put_shown(buffer: &mut [u8], at: usize, shown: Shown) -> usize
     }
 }
 
+#[tactic(auto, unfolding(rules::specs::Lines::running_or_dash, crate::specs::Lines::running_option, rules::specs::Lines::idle_word, rules::specs::Lines::dash))]
 fn put_running(buffer: &mut [u8], at: usize, running: Running) -> usize
     ensures { text buffer.new result ≡ write (text buffer.old at) (running_or_dash (running_option running)) }
 {
@@ -179,6 +190,7 @@ fn put_running(buffer: &mut [u8], at: usize, running: Running) -> usize
 }
 
 // Queue load and wake-ups, up to the line's end.
+#[tactic(auto, using(crate::proofs::Writing::then), unfolding(crate::specs::Text::counts_part, rules::specs::Lines::space, rules::specs::Lines::line_feed))]
 fn put_counts(buffer: &mut [u8], at: usize, load: Shown, wakeups: Shown) -> usize
     ensures { text buffer.new result ≡ write (text buffer.old at) (counts_part (shown_option load) (shown_option wakeups)) }
 {
@@ -190,6 +202,7 @@ fn put_counts(buffer: &mut [u8], at: usize, load: Shown, wakeups: Shown) -> usiz
 }
 
 // The CPU and what it runs.
+#[tactic(auto, using(crate::proofs::Writing::then), unfolding(crate::specs::Text::cpu_part, rules::specs::Lines::space))]
 fn put_cpu(buffer: &mut [u8], at: usize, cpu: Shown, running: Running) -> usize
     ensures { text buffer.new result ≡ write (text buffer.old at) (cpu_part (shown_option cpu) (running_option running)) }
 {
@@ -200,6 +213,7 @@ fn put_cpu(buffer: &mut [u8], at: usize, cpu: Shown, running: Running) -> usize
 }
 
 // The command's number and its refusal.
+#[tactic(auto, using(crate::proofs::Writing::then), unfolding(crate::specs::Text::numbers_part, rules::specs::Lines::space))]
 fn put_numbers(buffer: &mut [u8], at: usize, number: u64, refusal: u64) -> usize
     ensures { text buffer.new result ≡ write (text buffer.old at) (numbers_part number refusal) }
 {
@@ -209,6 +223,7 @@ fn put_numbers(buffer: &mut [u8], at: usize, number: u64, refusal: u64) -> usize
 }
 
 // The line of one command.
+#[tactic(auto, using(crate::proofs::Writing::line_parts, crate::proofs::Writing::then), unfolding(crate::specs::Lines::answer_of))]
 fn put_line(buffer: &mut [u8], at: usize, number: u64, answer: Answer) -> usize
     ensures { text buffer.new result ≡ write (text buffer.old at) (line number (answer_of answer)) }
 {
@@ -223,6 +238,7 @@ fn put_line(buffer: &mut [u8], at: usize, number: u64, answer: Answer) -> usize
 }
 
 // The line that ends a run.
+#[tactic(auto, using(crate::proofs::Writing::end_parts, crate::proofs::Writing::then), unfolding(rules::specs::Lines::end_word, rules::specs::Lines::space, rules::specs::Lines::line_feed))]
 fn put_end(buffer: &mut [u8], at: usize, commands: u64, refused: u64) -> usize
     ensures { text buffer.new result ≡ write (text buffer.old at) (end_line commands refused) }
 {
@@ -233,6 +249,7 @@ fn put_end(buffer: &mut [u8], at: usize, commands: u64, refused: u64) -> usize
 }
 
 // "has the lent buffer at least 48 bytes?", counted from `at` on.
+#[tactic(auto, using(crate::proofs::Writing::no_room, crate::proofs::Writing::room_left))]
 pub fn has_room(buffer: &[u8], at: usize) -> bool
     ensures { result ≡ room buffer.now at }
 {
@@ -252,6 +269,7 @@ fn written(at: usize, next: usize) -> Rendered
 }
 
 // The line of one command, from `at` on.
+#[tactic(auto, using(crate::proofs::Writing::buffer_is, crate::proofs::Writing::buffer_kept, crate::proofs::Writing::refused_is, crate::proofs::Writing::rendered_is))]
 pub fn render_at(buffer: &mut [u8], at: usize, number: u64, answer: Answer) -> Rendered
     ensures { (result ≡ rendered buffer.old at (line number (answer_of answer))) × (buffer.new ≡ buffer_with buffer.old at (line number (answer_of answer))) }
 {
@@ -263,6 +281,7 @@ pub fn render_at(buffer: &mut [u8], at: usize, number: u64, answer: Answer) -> R
 }
 
 // The first line, from `at` on.
+#[tactic(auto, using(crate::proofs::Writing::buffer_is, crate::proofs::Writing::buffer_kept, crate::proofs::Writing::refused_is, crate::proofs::Writing::rendered_is), unfolding(rules::specs::Lines::header))]
 pub fn render_header(buffer: &mut [u8], at: usize) -> Rendered
     ensures { (result ≡ rendered buffer.old at header) × (buffer.new ≡ buffer_with buffer.old at header) }
 {
@@ -274,6 +293,7 @@ pub fn render_header(buffer: &mut [u8], at: usize) -> Rendered
 }
 
 // The last line, from `at` on.
+#[tactic(auto, using(crate::proofs::Writing::buffer_is, crate::proofs::Writing::buffer_kept, crate::proofs::Writing::refused_is, crate::proofs::Writing::rendered_is))]
 pub fn render_end(buffer: &mut [u8], at: usize, commands: u64, refused: u64) -> Rendered
     ensures { (result ≡ rendered buffer.old at (end_line commands refused)) × (buffer.new ≡ buffer_with buffer.old at (end_line commands refused)) }
 {

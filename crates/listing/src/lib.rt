@@ -1,4 +1,6 @@
 // The text of one command, written into a lent buffer.
+#![tactic(auto)]
+
 ghost use Rattle.std.specs.Prelude.{◌≡◌, cond, [], ◌∷◌, length, take};
 ghost use Rattle.request.specs.Fields.{list_of, row};
 ghost use Rattle.lines.specs.Text.{text, write};
@@ -17,6 +19,7 @@ const SPACE: u8 = 32;
 const LINE_FEED: u8 = 10;
 
 // Is it a thread whose pin is none?
+#[tactic(auto, unfolding(crate::specs::Listing::no_pin, request::specs::Fields::list_of, rules::specs::Requests::nth))]
 fn no_pin(byte: u8, fields: Fields, wide: bool) -> bool
     ensures { result ≡ no_pin wide byte (list_of fields) }
 {
@@ -27,6 +30,7 @@ fn no_pin(byte: u8, fields: Fields, wide: bool) -> bool
 }
 
 // How many fields its line shows.
+#[tactic(auto, using(request::proofs::ByWidths::rows_alike))]
 fn shown_count(byte: u8, fields: Fields, wide: bool) -> usize
     ensures { result ≡ cond (no_pin wide byte (list_of fields)) 3 (length (row wide byte)) }
 {
@@ -37,6 +41,7 @@ fn shown_count(byte: u8, fields: Fields, wide: bool) -> usize
 }
 
 // A space and a number, once, twice, three and four times.
+#[tactic(auto, using(crate::proofs::Numbers::numbers_one, lines::proofs::Writing::then), unfolding(rules::specs::Lines::space))]
 fn put_one(buffer: &mut [u8], at: usize, a: u64) -> usize
     ensures { text buffer.new result ≡ write (text buffer.old at) (numbers (a ∷ [])) }
 {
@@ -44,6 +49,7 @@ fn put_one(buffer: &mut [u8], at: usize, a: u64) -> usize
     put_number(buffer, next, a)
 }
 
+#[tactic(auto, using(crate::proofs::Numbers::numbers_more, lines::proofs::Writing::then))]
 fn put_two(buffer: &mut [u8], at: usize, a: u64, b: u64) -> usize
     ensures { text buffer.new result ≡ write (text buffer.old at) (numbers (a ∷ b ∷ [])) }
 {
@@ -51,6 +57,7 @@ fn put_two(buffer: &mut [u8], at: usize, a: u64, b: u64) -> usize
     put_one(buffer, next, b)
 }
 
+#[tactic(auto, using(crate::proofs::Numbers::numbers_more, lines::proofs::Writing::then))]
 fn put_three(buffer: &mut [u8], at: usize, a: u64, b: u64, c: u64) -> usize
     ensures { text buffer.new result ≡ write (text buffer.old at) (numbers (a ∷ b ∷ c ∷ [])) }
 {
@@ -58,6 +65,7 @@ fn put_three(buffer: &mut [u8], at: usize, a: u64, b: u64, c: u64) -> usize
     put_two(buffer, next, b, c)
 }
 
+#[tactic(auto, using(crate::proofs::Numbers::numbers_more, lines::proofs::Writing::then))]
 fn put_four(buffer: &mut [u8], at: usize, a: u64, b: u64, c: u64, d: u64) -> usize
     ensures { text buffer.new result ≡ write (text buffer.old at) (numbers (a ∷ b ∷ c ∷ d ∷ [])) }
 {
@@ -66,6 +74,7 @@ fn put_four(buffer: &mut [u8], at: usize, a: u64, b: u64, c: u64, d: u64) -> usi
 }
 
 // The first `count` fields.
+#[tactic(auto, using(crate::proofs::Numbers::take_four), unfolding(crate::specs::Listing::numbers, lines::specs::Text::write, request::specs::Fields::list_of))]
 fn put_fields(buffer: &mut [u8], at: usize, fields: Fields, count: usize) -> usize
     ensures { text buffer.new result ≡ write (text buffer.old at) (numbers (take count (list_of fields))) }
 {
@@ -86,6 +95,7 @@ fn put_fields(buffer: &mut [u8], at: usize, fields: Fields, count: usize) -> usi
 }
 
 // The line of one command.
+#[tactic(auto, using(lines::proofs::Writing::then), unfolding(crate::specs::Listing::listed, crate::specs::Listing::shown_fields, rules::specs::Lines::line_feed))]
 pub fn list_command(buffer: &mut [u8], at: usize, byte: u8, fields: Fields, wide: bool) -> usize
     ensures { text buffer.new result ≡ write (text buffer.old at) (listed wide byte (list_of fields)) }
 {

@@ -1,4 +1,6 @@
 // The names of the commands and of their fields, written into a lent buffer.
+#![tactic(auto)]
+
 ghost use Rattle.std.specs.Prelude.{◌≡◌};
 ghost use Rattle.lines.specs.Text.{text, write};
 ghost use Rattle.names.specs.Names.{name_of, field_name};
@@ -6,6 +8,7 @@ ghost use Rattle.names.specs.Names.{name_of, field_name};
 use lines::put_bytes;
 
 // The name of a command; nothing for a byte that is not in the table.
+#[tactic(auto, using(crate::proofs::Table::no_name), unfolding(crate::specs::Names::name_of, crate::specs::Names::naming_among, crate::specs::Names::namings, crate::specs::Names::naming, crate::specs::Names::ascii, crate::proofs::Table::Untold, crate::proofs::Table::WithTold, lines::specs::Text::write))]
 pub fn put_name(buffer: &mut [u8], at: usize, byte: u8) -> usize
     ensures { text buffer.new result ≡ write (text buffer.old at) (name_of byte) }
 {
@@ -30,6 +33,7 @@ pub fn put_name(buffer: &mut [u8], at: usize, byte: u8) -> usize
     }
 }
 
+#[tactic(auto, using(crate::proofs::Table::no_field), unfolding(crate::specs::Names::field_name, crate::specs::Names::naming_among, crate::specs::Names::namings, crate::specs::Names::naming, crate::specs::Names::nth_text, crate::specs::Names::ascii, crate::proofs::Table::Untold, crate::proofs::Table::WithTold, lines::specs::Text::write))]
 fn put_first(buffer: &mut [u8], at: usize, byte: u8) -> usize
     ensures { text buffer.new result ≡ write (text buffer.old at) (field_name byte 0) }
 {
@@ -53,6 +57,7 @@ fn put_first(buffer: &mut [u8], at: usize, byte: u8) -> usize
     }
 }
 
+#[tactic(auto, using(crate::proofs::Table::no_field), unfolding(crate::specs::Names::field_name, crate::specs::Names::naming_among, crate::specs::Names::namings, crate::specs::Names::naming, crate::specs::Names::nth_text, crate::specs::Names::ascii, crate::proofs::Table::Untold, crate::proofs::Table::WithTold, lines::specs::Text::write))]
 fn put_second(buffer: &mut [u8], at: usize, byte: u8) -> usize
     ensures { text buffer.new result ≡ write (text buffer.old at) (field_name byte 1) }
 {
@@ -69,6 +74,7 @@ fn put_second(buffer: &mut [u8], at: usize, byte: u8) -> usize
     }
 }
 
+#[tactic(auto, using(crate::proofs::Table::no_field), unfolding(crate::specs::Names::field_name, crate::specs::Names::naming_among, crate::specs::Names::namings, crate::specs::Names::naming, crate::specs::Names::nth_text, crate::specs::Names::ascii, crate::proofs::Table::Untold, crate::proofs::Table::WithTold, lines::specs::Text::write))]
 fn put_third(buffer: &mut [u8], at: usize, byte: u8) -> usize
     ensures { text buffer.new result ≡ write (text buffer.old at) (field_name byte 2) }
 {
@@ -79,6 +85,7 @@ fn put_third(buffer: &mut [u8], at: usize, byte: u8) -> usize
     }
 }
 
+#[tactic(auto, using(crate::proofs::Table::no_field), unfolding(crate::specs::Names::field_name, crate::specs::Names::naming_among, crate::specs::Names::namings, crate::specs::Names::naming, crate::specs::Names::nth_text, crate::specs::Names::ascii, crate::proofs::Table::Untold, crate::proofs::Table::WithTold, lines::specs::Text::write))]
 fn put_fourth(buffer: &mut [u8], at: usize, byte: u8) -> usize
     ensures { text buffer.new result ≡ write (text buffer.old at) (field_name byte 3) }
 {
@@ -90,6 +97,7 @@ fn put_fourth(buffer: &mut [u8], at: usize, byte: u8) -> usize
 }
 
 // The name of a command's field number i, from 0; nothing where it has no such field.
+#[tactic(auto, using(crate::proofs::Table::past_four), unfolding(lines::specs::Text::write))]
 pub fn put_field_name(buffer: &mut [u8], at: usize, byte: u8, i: usize) -> usize
     ensures { text buffer.new result ≡ write (text buffer.old at) (field_name byte i) }
 {

@@ -8,7 +8,7 @@ use questions::state::State;
 use thread::NONE;
 
 // The answer that a line shows, the bytes that the command took, and the state for the next call.
-#[derive(Drop)]
+#[derive(Clone, Copy)]
 pub struct Answered {
     pub answer: Answer,
     pub used: usize,
@@ -16,6 +16,7 @@ pub struct Answered {
 }
 
 // One command more is accepted.
+#[tactic(auto, unfolding(crate::specs::Answer::accepted))]
 pub fn accepted(mut state: State) -> State
     ensures { result ≡ accepted state }
 {
@@ -23,6 +24,7 @@ pub fn accepted(mut state: State) -> State
     state
 }
 
+#[tactic(auto, unfolding(crate::specs::Answer::nothing_shown))]
 pub fn nothing_shown(refusal: Refusal) -> Answer
     ensures { result ≡ nothing_shown refusal }
 {
@@ -36,6 +38,7 @@ pub fn nothing_shown(refusal: Refusal) -> Answer
 }
 
 // A refused command leaves the state as it was.
+#[tactic(auto, unfolding(crate::specs::Answer::refuses))]
 pub fn refuses(state: State, refusal: Refusal, used: usize) -> Answered
     ensures { result ≡ refuses state refusal used }
 {
@@ -47,6 +50,7 @@ pub fn refuses(state: State, refusal: Refusal, used: usize) -> Answered
 }
 
 // A command whose line shows nothing, with the state that it left.
+#[tactic(auto, unfolding(crate::specs::Answer::changed))]
 pub fn changed(state: State, used: usize) -> Answered
     ensures { result ≡ changed state used }
 {
@@ -58,6 +62,7 @@ pub fn changed(state: State, used: usize) -> Answered
 }
 
 // What a CPU runs, of the number of the thread in its words.
+#[tactic(auto, unfolding(crate::specs::Answer::running_in))]
 pub fn running_in(x: u64) -> Running
     ensures { result ≡ running_in x }
 {
@@ -68,6 +73,7 @@ pub fn running_in(x: u64) -> Running
 }
 
 // What is shown of CPU c.
+#[tactic(auto, unfolding(crate::specs::Answer::shown))]
 pub fn shown(cpus: &[CpuWords], c: u64, wakeups: u64) -> Answer
     ensures { result ≡ shown cpus.now c wakeups }
 {
@@ -83,6 +89,7 @@ pub fn shown(cpus: &[CpuWords], c: u64, wakeups: u64) -> Answer
 }
 
 // A command that a CPU ran.
+#[tactic(auto, unfolding(crate::specs::Answer::ran))]
 pub fn ran(cpus: &[CpuWords], state: State, c: u64, wakeups: u64, used: usize) -> Answered
     ensures { result ≡ ran cpus.now state c wakeups used }
 {

@@ -20,7 +20,7 @@ use topology::words::NodeWords;
 
 // The command byte; the CPU, thread and node that are named; a number: type, shortest timeslice, tick, flags, nanoseconds or mark; class, value and pin; and the
 // bytes that the command takes. What a command does not name is 0, a thread NONE.
-#[derive(Drop)]
+#[derive(Clone, Copy)]
 pub struct Call {
     pub kind: u64,
     pub cpu: u64,
@@ -34,6 +34,7 @@ pub struct Call {
 }
 
 // What the bytes from `at` to below n ask.
+#[tactic(auto, using(crate::specs::Call::reading_again))]
 pub fn asked(bytes: &[u8], n: usize, at: usize, wide: bool) -> Reading
     ensures { result ≡ asked_def bytes.now n at wide }
 {
@@ -44,6 +45,7 @@ pub fn asked(bytes: &[u8], n: usize, at: usize, wide: bool) -> Reading
 }
 
 // The refusal of what was read; t is the record of the thread that it names.
+#[tactic(auto, using(crate::specs::Call::refusal_again))]
 pub fn judged(
     cpus: &[CpuWords],
     nodes: &[NodeWords],
@@ -62,6 +64,7 @@ pub fn is_refused(refusal: Refusal) -> bool
     refusal_number(refusal) != 0
 }
 
+#[tactic(auto, unfolding(crate::specs::Call::pin_number, request::specs::Request::pin_option))]
 fn pin_number(pin: Pin) -> u64
     ensures { result ≡ pin_number (pin_option pin) }
 {
@@ -111,6 +114,7 @@ fn with_priority(
     }
 }
 
+#[tactic(auto, unfolding(crate::specs::Call::call_of, request::specs::Request::request_of))]
 fn numbers(request: Request, used: usize) -> Call
     ensures { result ≡ call_of (request_of request) used }
 {
@@ -145,6 +149,7 @@ fn numbers(request: Request, used: usize) -> Call
 }
 
 // What was read, as numbers; kind 0 where it is no command.
+#[tactic(auto, unfolding(crate::specs::Call::call_read, request::specs::Request::reading_of))]
 pub fn call_of(reading: Reading) -> Call
     ensures { result ≡ call_read (reading_of reading) }
 {
@@ -155,6 +160,7 @@ pub fn call_of(reading: Reading) -> Call
     }
 }
 
+#[tactic(auto, unfolding(crate::specs::Call::priority_in))]
 pub fn priority_in(call: Call) -> Priority
     ensures { result ≡ priority_in call }
 {
@@ -166,6 +172,7 @@ pub fn priority_in(call: Call) -> Priority
 
 // The CPU that runs the command, the tick, the shortest timeslice, and the limit of CPU numbers, which no set of CPUs exceeds: so a search ends soon
 // whatever the state says.
+#[tactic(auto, unfolding(crate::specs::Call::context_of, topology::specs::CpuSet::max_cpu_id))]
 pub fn context_of(state: State, call: Call) -> Context
     ensures { result ≡ context_of state call }
 {
@@ -177,6 +184,7 @@ pub fn context_of(state: State, call: Call) -> Context
     }
 }
 
+#[tactic(auto, unfolding(crate::specs::Call::flags_in))]
 pub fn flags_in(call: Call) -> SchedFlags
     ensures { result ≡ flags_in call }
 {
@@ -189,6 +197,7 @@ pub fn flags_in(call: Call) -> SchedFlags
 }
 
 // The states that a command leaves, before it is counted.
+#[tactic(auto, unfolding(crate::specs::Call::ticked))]
 pub fn ticked(mut state: State, tick: u64) -> State
     ensures { result ≡ ticked state tick }
 {
@@ -196,6 +205,7 @@ pub fn ticked(mut state: State, tick: u64) -> State
     state
 }
 
+#[tactic(auto, unfolding(crate::specs::Call::sealed_now))]
 pub fn sealed(mut state: State) -> State
     ensures { result ≡ sealed_now state }
 {
@@ -203,6 +213,7 @@ pub fn sealed(mut state: State) -> State
     state
 }
 
+#[tactic(auto, unfolding(crate::specs::Call::with_shortest))]
 pub fn with_shortest(mut state: State, ticks: u64) -> State
     ensures { result ≡ with_shortest state ticks }
 {
@@ -210,6 +221,7 @@ pub fn with_shortest(mut state: State, ticks: u64) -> State
     state
 }
 
+#[tactic(auto, unfolding(crate::specs::Call::one_node_more))]
 pub fn one_node_more(mut state: State) -> State
     ensures { result ≡ one_node_more state }
 {

@@ -49,6 +49,7 @@ fn set_shortest(state: State, call: Call) -> Answered
     changed(with_shortest(state, call.number), call.used)
 }
 
+#[tactic(auto, unfolding(crate::specs::Prepare::prepares))]
 pub fn prepare(cpus: &mut [CpuWords], nodes: &mut [NodeWords], state: State, call: Call) -> Answered
     ensures { (result ≡ (prepares cpus.old nodes.old state call).outcome)
         × ((cpus.new ≡ (prepares cpus.old nodes.old state call).cpus) × (nodes.new ≡ (prepares cpus.old nodes.old state call).nodes)) }

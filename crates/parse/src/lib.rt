@@ -1,4 +1,6 @@
 // What one line of text means: a command with its fields, or why not.
+#![tactic(auto)]
+
 pub mod name;
 pub mod number;
 pub mod words;
@@ -15,7 +17,7 @@ use request::fields::{Fields, field_count};
 use words::{blanks_end, comment, same, word_end};
 
 // `Unfit(i)`: word number i, the name being word 0, is missing, is no number, or is one too many.
-#[derive(Drop)]
+#[derive(Clone, Copy)]
 pub enum Parsed {
     Nothing,
     Unknown,
@@ -23,6 +25,7 @@ pub enum Parsed {
     Command { byte: u64, fields: Fields },
 }
 
+#[tactic(auto, unfolding(crate::specs::Meaning::is_pin))]
 fn is_pin(byte: u8, i: usize) -> bool
     ensures { result ≡ is_pin byte i }
 {
@@ -32,6 +35,7 @@ fn is_pin(byte: u8, i: usize) -> bool
     false
 }
 
+#[tactic(auto, unfolding(crate::specs::Meaning::no_pin, names::specs::Names::ascii))]
 fn is_no_pin(word: &[u8]) -> bool
     ensures { result ≡ no_pin word.now }
 {
@@ -41,6 +45,7 @@ fn is_no_pin(word: &[u8]) -> bool
     same(word, b"-")
 }
 
+#[tactic(auto, unfolding(crate::specs::Meaning::pin, crate::specs::Numbers::option_of))]
 fn pin(word: &[u8], wide: bool) -> Number
     ensures { option_of result ≡ pin wide word.now }
 {
@@ -51,6 +56,7 @@ fn pin(word: &[u8], wide: bool) -> Number
 }
 
 // Field number i of a command, from 0.
+#[tactic(auto, unfolding(crate::specs::Meaning::field))]
 fn field(word: &[u8], byte: u8, i: usize, wide: bool) -> Number
     ensures { option_of result ≡ field wide byte i word.now }
 {
@@ -60,6 +66,7 @@ fn field(word: &[u8], byte: u8, i: usize, wide: bool) -> Number
     number_of(word)
 }
 
+#[tactic(auto, unfolding(request::specs::Fields::list_of, request::specs::Fields::four, rules::specs::Requests::nth))]
 fn no_fields() -> Fields
     ensures { list_of result ≡ four [] }
 {
@@ -71,6 +78,7 @@ fn no_fields() -> Fields
     }
 }
 
+#[tactic(auto, unfolding(request::specs::Fields::list_of))]
 fn with_field(fields: Fields, i: usize, value: u64) -> Fields
     ensures { list_of result ≡ set (list_of fields) i value }
 {
@@ -104,6 +112,7 @@ fn with_field(fields: Fields, i: usize, value: u64) -> Fields
 }
 
 // All fields are read: the text has to end.
+#[tactic(auto, using(crate::proofs::Reading::left_none, crate::proofs::Reading::left_some), unfolding(crate::specs::Meaning::ended, crate::specs::Meaning::meaning_of))]
 fn ended(text: &[u8], at: usize, byte: u8, word: usize, fields: Fields) -> Parsed
     ensures { meaning_of result ≡ ended byte word (list_of fields) (drop at text.now) }
 {
@@ -117,6 +126,7 @@ fn ended(text: &[u8], at: usize, byte: u8, word: usize, fields: Fields) -> Parse
 }
 
 // The fields of a command out of the text behind its name.
+#[tactic(auto, using(crate::proofs::Reading::at_most_four, crate::proofs::Reading::blanks_bound, crate::proofs::Reading::fields_done, crate::proofs::Reading::fields_next, crate::proofs::Reading::fields_stop, crate::proofs::Reading::letters_bound, request::proofs::ByWidths::rows_alike), unfolding(crate::specs::Meaning::meaning_of))]
 fn fields(text: &[u8], byte: u8, wide: bool) -> Parsed
     ensures { meaning_of result ≡ fields_from wide byte 0 (length (row wide byte)) (four []) text.now }
 {
@@ -138,6 +148,7 @@ fn fields(text: &[u8], byte: u8, wide: bool) -> Parsed
 }
 
 // What a line without its comment means.
+#[tactic(auto, using(crate::proofs::Reading::letters_bound, crate::proofs::Reading::text_named, crate::proofs::Reading::text_nothing, crate::proofs::Reading::text_unknown), unfolding(crate::specs::Meaning::meaning_of))]
 fn parse_text(text: &[u8], wide: bool) -> Parsed
     ensures { meaning_of result ≡ text_meaning wide text.now }
 {
@@ -153,6 +164,7 @@ fn parse_text(text: &[u8], wide: bool) -> Parsed
 }
 
 // What a line means.
+#[tactic(auto, using(crate::proofs::Walking::comment_front, crate::proofs::Walking::comment_within), unfolding(crate::specs::Meaning::meaning))]
 pub fn parse(line: &[u8], wide: bool) -> Parsed
     ensures { meaning_of result ≡ meaning wide line.now }
 {

@@ -5,13 +5,14 @@ ghost use Rattle.parse.specs.Meaning.{byte_among, byte_named, byte_of};
 
 use crate::words::same;
 
-#[derive(Drop)]
+#[derive(Clone, Copy)]
 pub enum Named {
     Nobody,
     Byte(u8),
 }
 
 // The last five names of the table.
+#[tactic(auto, unfolding(crate::specs::Meaning::byte_of, crate::specs::Meaning::byte_among, names::specs::Names::namings, names::specs::Names::naming, names::specs::Names::ascii))]
 fn last_names(word: &[u8]) -> Named
     ensures { byte_of result ≡ byte_among word.now (drop 11 namings) }
 {
@@ -34,6 +35,7 @@ fn last_names(word: &[u8]) -> Named
 }
 
 // The last ten.
+#[tactic(auto, unfolding(crate::specs::Meaning::byte_of, crate::specs::Meaning::byte_among, names::specs::Names::namings, names::specs::Names::naming, names::specs::Names::ascii))]
 fn later_names(word: &[u8]) -> Named
     ensures { byte_of result ≡ byte_among word.now (drop 6 namings) }
 {
@@ -55,6 +57,7 @@ fn later_names(word: &[u8]) -> Named
     last_names(word)
 }
 
+#[tactic(auto, unfolding(crate::specs::Meaning::byte_of, crate::specs::Meaning::byte_named, crate::specs::Meaning::byte_among, names::specs::Names::namings, names::specs::Names::naming, names::specs::Names::ascii))]
 pub fn byte_named(word: &[u8]) -> Named
     ensures { byte_of result ≡ byte_named word.now }
 {

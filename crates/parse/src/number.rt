@@ -2,7 +2,7 @@
 ghost use Rattle.std.specs.Prelude.{◌≡◌, true, false, drop};
 ghost use Rattle.parse.specs.Numbers.{digit, next, digits, is_hexadecimal, number_of, option_of};
 
-#[derive(Drop)]
+#[derive(Clone, Copy)]
 pub enum Number {
     None,
     Is(u64),
@@ -15,6 +15,7 @@ fn wide(byte: u8) -> u64
 }
 
 // 16 for a byte that is no digit.
+#[tactic(auto, unfolding(crate::specs::Numbers::digit))]
 fn digit(byte: u8) -> u64
     ensures { result ≡ digit byte }
 {
@@ -40,6 +41,7 @@ fn digit(byte: u8) -> u64
 }
 
 // The number n with one more digit. 2^64 - 1 is 10 * 1844674407370955161 + 5, and 16 * 1152921504606846975 + 15.
+#[tactic(auto, unfolding(crate::specs::Numbers::next, crate::specs::Numbers::base, crate::specs::Numbers::option_of))]
 fn next_decimal(n: u64, d: u64) -> Number
     ensures { option_of result ≡ next false n d }
 {
@@ -58,6 +60,7 @@ fn next_decimal(n: u64, d: u64) -> Number
     Number::Is(n * 10 + d)
 }
 
+#[tactic(auto, unfolding(crate::specs::Numbers::next, crate::specs::Numbers::base, crate::specs::Numbers::option_of))]
 fn next_hexadecimal(n: u64, d: u64) -> Number
     ensures { option_of result ≡ next true n d }
 {
@@ -80,6 +83,7 @@ fn next(hexadecimal: bool, n: u64, d: u64) -> Number
 }
 
 // The digits from `from` on.
+#[tactic(auto, using(crate::proofs::Numbers::digit_more, crate::proofs::Numbers::digit_none, crate::proofs::Numbers::digits_begin, crate::proofs::Numbers::digits_end, crate::proofs::Numbers::no_digits), unfolding(crate::specs::Numbers::option_of))]
 fn digits(word: &[u8], from: usize, hexadecimal: bool) -> Number
     ensures { option_of result ≡ digits hexadecimal (drop from word.now) }
 {
@@ -98,6 +102,7 @@ fn digits(word: &[u8], from: usize, hexadecimal: bool) -> Number
     Number::Is(n)
 }
 
+#[tactic(auto, unfolding(crate::specs::Numbers::is_hexadecimal))]
 fn is_hexadecimal(word: &[u8]) -> bool
     ensures { result ≡ is_hexadecimal word.now }
 {
@@ -110,6 +115,7 @@ fn is_hexadecimal(word: &[u8]) -> bool
     false
 }
 
+#[tactic(auto, unfolding(crate::specs::Numbers::number_of))]
 pub fn number_of(word: &[u8]) -> Number
     ensures { option_of result ≡ number_of word.now }
 {

@@ -3,6 +3,7 @@ ghost use Rattle.std.specs.Prelude.{◌≡◌, ◌+◌, length, drop};
 ghost use Rattle.parse.specs.Words.{before_comment, blank, blanks, letters, word, from_word, same, Part};
 
 // Where the comment begins; the line's end if it has none.
+#[tactic(auto, using(crate::proofs::Walking::comment_here, crate::proofs::Walking::comment_later, crate::proofs::Walking::comment_none))]
 pub fn comment(line: &[u8]) -> usize
     ensures { result ≡ length (before_comment line.now) }
 {
@@ -16,6 +17,7 @@ pub fn comment(line: &[u8]) -> usize
     i
 }
 
+#[tactic(auto, unfolding(crate::specs::Words::blank))]
 fn is_blank(byte: u8) -> bool
     ensures { result ≡ blank byte }
 {
@@ -29,6 +31,7 @@ fn is_blank(byte: u8) -> bool
 }
 
 // Where the blanks end that begin at `at`.
+#[tactic(auto, using(crate::proofs::Walking::blanks_here, crate::proofs::Walking::blanks_more, crate::proofs::Walking::blanks_past))]
 pub fn blanks_end(text: &[u8], at: usize) -> usize
     ensures { result ≡ at + blanks (drop at text.now) }
 {
@@ -44,6 +47,7 @@ pub fn blanks_end(text: &[u8], at: usize) -> usize
 }
 
 // Where the word ends that begins at `at`.
+#[tactic(auto, using(crate::proofs::Walking::letters_here, crate::proofs::Walking::letters_more, crate::proofs::Walking::letters_past))]
 pub fn word_end(text: &[u8], at: usize) -> usize
     ensures { result ≡ at + letters (drop at text.now) }
 {
@@ -57,6 +61,7 @@ pub fn word_end(text: &[u8], at: usize) -> usize
     to
 }
 
+#[tactic(auto, using(crate::proofs::Laws::same_is))]
 pub fn same(a: &[u8], b: &[u8]) -> bool
     ensures { result ≡ same a.now b.now }
 {
@@ -64,12 +69,13 @@ pub fn same(a: &[u8], b: &[u8]) -> bool
 }
 
 // Where a word begins and ends in its text.
-#[derive(Drop)]
+#[derive(Clone, Copy)]
 pub struct Word {
     pub from: usize,
     pub to: usize,
 }
 
+#[tactic(auto, using(crate::proofs::Reading::blanks_bound, crate::proofs::Reading::letters_bound, crate::proofs::Reading::part_here, crate::proofs::Reading::part_none, crate::proofs::Reading::word_passed))]
 fn word_in(text: &[u8], i: usize) -> Word
     ensures { Part text.now result.from result.to (word (from_word i text.now)) }
 {
@@ -91,6 +97,7 @@ fn word_in(text: &[u8], i: usize) -> Word
 }
 
 // Word number i of a line, from 0; nothing at the end of the text if it has fewer.
+#[tactic(auto, using(crate::proofs::Reading::part_of_line, crate::proofs::Walking::comment_front, crate::proofs::Walking::comment_within))]
 pub fn word_at(line: &[u8], i: usize) -> Word
     ensures { Part line.now result.from result.to (word (from_word i (before_comment line.now))) }
 {

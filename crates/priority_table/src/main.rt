@@ -1,4 +1,6 @@
 // Prints the source file of the queue's constant table, crates/queue/src/table.rt: for each value its realtime bucket and its timeshare offset.
+#![tactic(auto)]
+
 mod rule;
 
 use rule::{offset, realtime_bucket};

@@ -2,6 +2,7 @@
 ghost use Rattle.std.specs.Prelude.{◌≡◌};
 ghost use Rattle.rules.specs.Queue.{realtime_bucket, offset};
 
+#[tactic(auto, unfolding(rules::specs::Queue::realtime_bucket, rules::specs::Priority::cut, rules::specs::Priority::nr_values, rules::specs::Queue::width))]
 pub fn realtime_bucket(value: u64) -> u64
     ensures { result ≡ realtime_bucket value }
 {
@@ -11,6 +12,7 @@ pub fn realtime_bucket(value: u64) -> u64
     7
 }
 
+#[tactic(auto, using(rules::specs::Laws::Effect::offset_past), unfolding(rules::specs::Queue::offset, rules::specs::Queue::nr_buckets, rules::specs::Priority::nr_values, rules::specs::Queue::width))]
 pub fn offset(value: u64) -> u64
     ensures { result ≡ offset value }
 {

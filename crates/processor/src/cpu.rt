@@ -7,6 +7,7 @@ use rules::Priority;
 use thread::priority::{from_raw, max};
 
 // The queue load plus 1 unless idle.
+#[tactic(auto, unfolding(crate::specs::Cpu::current_load))]
 pub fn current_load(cpus: &[CpuWords], c: u64) -> u64
     ensures { result ≡ current_load cpus.now c }
 {
@@ -18,6 +19,7 @@ pub fn current_load(cpus: &[CpuWords], c: u64) -> u64
 }
 
 // The greater of what its queue advertises and what it runs at.
+#[tactic(auto, unfolding(crate::specs::Cpu::current_priority))]
 pub fn current_priority(cpus: &[CpuWords], c: u64) -> Priority
     ensures { result ≡ current_priority cpus.now c }
 {

@@ -6,6 +6,7 @@ ghost use Rattle.processor.specs.Words.{word, put_word};
 use crate::words::{CpuWords, RAND_STATE, put_word, word};
 
 // The low 32 bits of the product.
+#[tactic(auto, using(queue::specs::Num::half_product))]
 pub fn wrapping_mul_u32(a: u32, b: u32) -> u32
     ensures { result ≡ a * b % 2 ^ 32 }
 {
@@ -14,6 +15,7 @@ pub fn wrapping_mul_u32(a: u32, b: u32) -> u32
 }
 
 // A state of 0 is replaced by the CPU number.
+#[tactic(auto, unfolding(rules::specs::Draw::seed))]
 fn seed(cpu: u64, state: u64) -> u64
     ensures { result ≡ seed cpu state }
 {
@@ -24,6 +26,7 @@ fn seed(cpu: u64, state: u64) -> u64
 }
 
 // The state after one draw of this CPU.
+#[tactic(auto, using(crate::specs::Random::low_product), unfolding(rules::specs::Draw::next_state))]
 pub fn next_state(cpu: u64, state: u64) -> u64
     ensures { result ≡ next_state cpu state }
 {
@@ -34,6 +37,7 @@ pub fn next_state(cpu: u64, state: u64) -> u64
 }
 
 // What a state draws.
+#[tactic(auto, unfolding(rules::specs::Draw::draw))]
 pub fn draw(state: u64) -> u64
     ensures { result ≡ draw state }
 {

@@ -17,6 +17,7 @@ use rules::Part;
 use runqueue::rq::{Arrival, Front, RunQueue};
 use thread::NONE;
 
+#[tactic(auto, unfolding(crate::specs::Window::load_n))]
 fn load(row: &CpuWords, at: usize) -> [u64; 8]
     requires { at + 8 ≤ 96 }
     ensures { result ≡ load_n row.now at 8 8 }
@@ -31,6 +32,7 @@ fn load(row: &CpuWords, at: usize) -> [u64; 8]
     out
 }
 
+#[tactic(auto, unfolding(crate::specs::Window::place_n))]
 fn store(row: &mut CpuWords, at: usize, v: [u64; 8])
     requires { at + 8 ≤ 96 }
     ensures { row.new ≡ place_n row.old at v 8 }
@@ -44,6 +46,7 @@ fn store(row: &mut CpuWords, at: usize, v: [u64; 8])
 }
 
 // First and last threads, sixteen words.
+#[tactic(auto, unfolding(crate::specs::Queue::lists_at))]
 fn load_lists(row: &CpuWords, at: usize) -> Lists
     requires { at + 16 ≤ 96 }
     ensures { result ≡ lists_at row.now at }
@@ -53,6 +56,7 @@ fn load_lists(row: &CpuWords, at: usize) -> Lists
     Lists { heads, tails }
 }
 
+#[tactic(auto, unfolding(crate::specs::Queue::lists_stored_def))]
 fn store_lists(row: &mut CpuWords, at: usize, l: Lists)
     requires { at + 16 ≤ 96 }
     ensures { row.new ≡ lists_stored_def row.old at l }
@@ -64,6 +68,7 @@ fn store_lists(row: &mut CpuWords, at: usize, l: Lists)
 }
 
 // The ten numbers of a queue, in two arrays, and back.
+#[tactic(auto, unfolding(crate::specs::Queue::first_eight))]
 fn first_eight(q: RunQueue) -> [u64; 8]
     ensures { result ≡ first_eight q }
 {
@@ -82,12 +87,14 @@ fn first_eight(q: RunQueue) -> [u64; 8]
     ]
 }
 
+#[tactic(auto, unfolding(crate::specs::Queue::last_two))]
 fn last_two(q: RunQueue) -> [u64; 8]
     ensures { result ≡ last_two q }
 {
     [q.movable, q.last_tick, 0, 0, 0, 0, 0, 0]
 }
 
+#[tactic(auto, unfolding(crate::specs::Queue::built_of))]
 fn built(a: Lists, c: [u64; 8], d: Lists, f: Lists, s: [u64; 8], t: [u64; 8]) -> RunQueue
     ensures { result ≡ built_of a c d f s t }
 {
@@ -118,6 +125,7 @@ fn built(a: Lists, c: [u64; 8], d: Lists, f: Lists, s: [u64; 8], t: [u64; 8]) ->
     }
 }
 
+#[tactic(auto, unfolding(crate::specs::Queue::queue_in_def, crate::specs::Queue::queue_from))]
 fn queue_in(row: &CpuWords) -> RunQueue
     ensures { result ≡ queue_in_def row.now }
 {
@@ -130,6 +138,7 @@ fn queue_in(row: &CpuWords) -> RunQueue
     built(a, c, d, f, s, t)
 }
 
+#[tactic(auto, unfolding(crate::specs::Parts::numbers_into))]
 fn numbers_into(row: &mut CpuWords, q: RunQueue)
     ensures { row.new ≡ numbers_into row.old q }
 {
@@ -137,6 +146,7 @@ fn numbers_into(row: &mut CpuWords, q: RunQueue)
     store(row, 64, last_two(q));
 }
 
+#[tactic(auto, unfolding(crate::specs::Queue::queue_into, crate::specs::Queue::stored_from, crate::specs::Parts::numbers_into))]
 fn queue_into(row: &mut CpuWords, q: RunQueue)
     ensures { row.new ≡ queue_into row.old q }
 {
@@ -155,6 +165,7 @@ fn queue_into(row: &mut CpuWords, q: RunQueue)
 }
 
 // One part, and the numbers.
+#[tactic(auto, unfolding(crate::specs::Parts::part_into))]
 fn realtime_into(row: &mut CpuWords, q: RunQueue)
     ensures { row.new ≡ part_into part.Realtime row.old q }
 {
@@ -164,6 +175,7 @@ fn realtime_into(row: &mut CpuWords, q: RunQueue)
     numbers_into(row, q);
 }
 
+#[tactic(auto, unfolding(crate::specs::Parts::part_into))]
 fn timeshare_into(row: &mut CpuWords, q: RunQueue)
     ensures { row.new ≡ part_into part.Timeshare row.old q }
 {
@@ -175,6 +187,7 @@ fn timeshare_into(row: &mut CpuWords, q: RunQueue)
     numbers_into(row, q);
 }
 
+#[tactic(auto, unfolding(crate::specs::Parts::part_into))]
 fn idle_into(row: &mut CpuWords, q: RunQueue)
     ensures { row.new ≡ part_into part.Idle row.old q }
 {
@@ -185,6 +198,7 @@ fn idle_into(row: &mut CpuWords, q: RunQueue)
 }
 
 // The run queue of CPU c.
+#[tactic(auto, using(crate::specs::Laws::Queue::no_row, crate::specs::Laws::Queue::queue_out), unfolding(crate::specs::Queue::queue_at))]
 pub fn load_queue(cpus: &[CpuWords], c: u64) -> RunQueue
     ensures { result ≡ queue_at cpus.now c }
 {
@@ -196,6 +210,7 @@ pub fn load_queue(cpus: &[CpuWords], c: u64) -> RunQueue
     queue_in(&none)
 }
 
+#[tactic(auto, using(crate::specs::Laws::Queue::stored_out), unfolding(crate::specs::Queue::queue_stored))]
 pub fn store_queue(cpus: &mut [CpuWords], c: u64, q: RunQueue)
     ensures { cpus.new ≡ queue_stored cpus.old c q }
 {
@@ -206,6 +221,7 @@ pub fn store_queue(cpus: &mut [CpuWords], c: u64, q: RunQueue)
 }
 
 // The numbers of a queue whose lists stand there already.
+#[tactic(auto, unfolding(crate::specs::Parts::numbers_stored))]
 pub fn store_numbers(cpus: &mut [CpuWords], c: u64, q: RunQueue)
     ensures { cpus.new ≡ numbers_stored cpus.old c q }
 {
@@ -215,6 +231,7 @@ pub fn store_numbers(cpus: &mut [CpuWords], c: u64, q: RunQueue)
     }
 }
 
+#[tactic(auto, unfolding(crate::specs::Parts::part_stored))]
 fn store_realtime(cpus: &mut [CpuWords], c: u64, q: RunQueue)
     ensures { cpus.new ≡ part_stored part.Realtime cpus.old c q }
 {
@@ -224,6 +241,7 @@ fn store_realtime(cpus: &mut [CpuWords], c: u64, q: RunQueue)
     }
 }
 
+#[tactic(auto, unfolding(crate::specs::Parts::part_stored))]
 fn store_timeshare(cpus: &mut [CpuWords], c: u64, q: RunQueue)
     ensures { cpus.new ≡ part_stored part.Timeshare cpus.old c q }
 {
@@ -233,6 +251,7 @@ fn store_timeshare(cpus: &mut [CpuWords], c: u64, q: RunQueue)
     }
 }
 
+#[tactic(auto, unfolding(crate::specs::Parts::part_stored))]
 fn store_idle(cpus: &mut [CpuWords], c: u64, q: RunQueue)
     ensures { cpus.new ≡ part_stored part.Idle cpus.old c q }
 {
@@ -242,6 +261,7 @@ fn store_idle(cpus: &mut [CpuWords], c: u64, q: RunQueue)
     }
 }
 
+#[tactic(auto, using(crate::specs::Parts::put_stored), unfolding(runqueue::specs::RunQueue::rq_insert_into))]
 fn insert_realtime(cpus: &mut [CpuWords], c: u64, a: Arrival) -> u64
     ensures { (result ≡ (rq_insert_realtime (queue_at cpus.old c) a).behind)
         × (cpus.new ≡ queue_stored cpus.old c (rq_insert_realtime (queue_at cpus.old c) a).queue) }
@@ -252,6 +272,7 @@ fn insert_realtime(cpus: &mut [CpuWords], c: u64, a: Arrival) -> u64
     put.behind
 }
 
+#[tactic(auto, using(crate::specs::Parts::put_stored), unfolding(runqueue::specs::RunQueue::rq_insert_into))]
 fn insert_timeshare(cpus: &mut [CpuWords], c: u64, a: Arrival) -> u64
     ensures { (result ≡ (rq_insert_timeshare (queue_at cpus.old c) a).behind)
         × (cpus.new ≡ queue_stored cpus.old c (rq_insert_timeshare (queue_at cpus.old c) a).queue) }
@@ -262,6 +283,7 @@ fn insert_timeshare(cpus: &mut [CpuWords], c: u64, a: Arrival) -> u64
     put.behind
 }
 
+#[tactic(auto, using(crate::specs::Parts::put_stored), unfolding(runqueue::specs::RunQueue::rq_insert_into))]
 fn insert_idle(cpus: &mut [CpuWords], c: u64, a: Arrival) -> u64
     ensures { (result ≡ (rq_insert_idle (queue_at cpus.old c) a).behind)
         × (cpus.new ≡ queue_stored cpus.old c (rq_insert_idle (queue_at cpus.old c) a).queue) }
@@ -273,6 +295,7 @@ fn insert_idle(cpus: &mut [CpuWords], c: u64, a: Arrival) -> u64
 }
 
 // A thread goes into this part of the queue of CPU c: whose link the caller must set to it, NONE for nobody.
+#[tactic(auto, unfolding(runqueue::specs::RunQueue::rq_insert_into))]
 pub fn insert_into(cpus: &mut [CpuWords], c: u64, a: Arrival, part: Part) -> u64
     ensures { (result ≡ (rq_insert_into part (queue_at cpus.old c) a).behind)
         × (cpus.new ≡ queue_stored cpus.old c (rq_insert_into part (queue_at cpus.old c) a).queue) }
@@ -292,6 +315,7 @@ fn front_idle(cpus: &[CpuWords], c: u64) -> Front
     q.front_idle()
 }
 
+#[tactic(auto, unfolding(runqueue::specs::RunQueue::rq_front_timeshare, runqueue::specs::RunQueue::first_in_def))]
 fn front_timeshare(cpus: &[CpuWords], c: u64) -> Front
     ensures { result ≡ rq_front_timeshare (queue_at cpus.now c) }
 {
@@ -308,6 +332,7 @@ fn front_timeshare(cpus: &[CpuWords], c: u64) -> Front
     }
 }
 
+#[tactic(auto, unfolding(runqueue::specs::RunQueue::rq_front_realtime, runqueue::specs::RunQueue::first_in_def))]
 fn front_realtime(cpus: &[CpuWords], c: u64) -> Front
     ensures { result ≡ rq_front_realtime (queue_at cpus.now c) }
 {
@@ -336,6 +361,7 @@ fn keeps(cpus: &[CpuWords], c: u64, stealing: bool) -> bool
 }
 
 // Who leaves if a thread is asked of the queue of CPU c.
+#[tactic(auto, using(crate::specs::Parts::front_kept, crate::specs::Parts::front_open))]
 pub fn front(cpus: &[CpuWords], c: u64, stealing: bool) -> Front
     ensures { result ≡ rq_front (queue_at cpus.now c) stealing }
 {
@@ -345,6 +371,7 @@ pub fn front(cpus: &[CpuWords], c: u64, stealing: bool) -> Front
     front_realtime(cpus, c)
 }
 
+#[tactic(auto, using(crate::specs::Parts::left_stored), unfolding(runqueue::specs::RunQueue::rq_taken_from))]
 fn taken_realtime(cpus: &mut [CpuWords], c: u64, bucket: u64, next: u64, pinned: bool)
     ensures { cpus.new ≡ queue_stored cpus.old c (rq_taken_realtime (queue_at cpus.old c) bucket NONE next pinned) }
 {
@@ -353,6 +380,7 @@ fn taken_realtime(cpus: &mut [CpuWords], c: u64, bucket: u64, next: u64, pinned:
     store_realtime(cpus, c, left);
 }
 
+#[tactic(auto, using(crate::specs::Parts::left_stored), unfolding(runqueue::specs::RunQueue::rq_taken_from))]
 fn taken_timeshare(cpus: &mut [CpuWords], c: u64, bucket: u64, next: u64, value: u64, pinned: bool)
     ensures { cpus.new ≡ queue_stored cpus.old c (rq_taken_timeshare (queue_at cpus.old c) bucket NONE next value pinned) }
 {
@@ -361,6 +389,7 @@ fn taken_timeshare(cpus: &mut [CpuWords], c: u64, bucket: u64, next: u64, value:
     store_timeshare(cpus, c, left);
 }
 
+#[tactic(auto, using(crate::specs::Parts::left_stored), unfolding(runqueue::specs::RunQueue::rq_taken_from))]
 fn taken_idle(cpus: &mut [CpuWords], c: u64, bucket: u64, next: u64, pinned: bool)
     ensures { cpus.new ≡ queue_stored cpus.old c (rq_taken_idle (queue_at cpus.old c) bucket NONE next pinned) }
 {
@@ -370,6 +399,7 @@ fn taken_idle(cpus: &mut [CpuWords], c: u64, bucket: u64, next: u64, pinned: boo
 }
 
 // Nobody has left.
+#[tactic(auto, using(crate::specs::Parts::again_stored))]
 fn taken_none(cpus: &mut [CpuWords], c: u64)
     ensures { cpus.new ≡ queue_stored cpus.old c (queue_at cpus.old c) }
 {
@@ -378,6 +408,7 @@ fn taken_none(cpus: &mut [CpuWords], c: u64)
 }
 
 // The thread that `front` answered, the first of its list, has left: its link was `next`, its value when it was put in `value`.
+#[tactic(auto, using(crate::specs::Parts::took_stored), unfolding(runqueue::specs::RunQueue::rq_taken_from, runqueue::specs::RunQueue::rq_taken))]
 pub fn taken_front(cpus: &mut [CpuWords], c: u64, front: Front, next: u64, value: u64, pinned: bool)
     ensures { cpus.new ≡ queue_stored cpus.old c (rq_taken (queue_at cpus.old c) front NONE next value pinned) }
 {

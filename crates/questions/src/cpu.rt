@@ -8,6 +8,7 @@ use processor::words::{CpuWords, DECLARED, PLACED, word};
 use request::Pin;
 use thread::NONE;
 
+#[tactic(auto, unfolding(crate::specs::Questions::declared))]
 pub fn declared(cpus: &[CpuWords], state: State, c: u64) -> bool
     ensures { result ≡ declared cpus.now state c }
 {
@@ -17,6 +18,7 @@ pub fn declared(cpus: &[CpuWords], state: State, c: u64) -> bool
     false
 }
 
+#[tactic(auto, unfolding(crate::specs::Questions::cpu_new, rules::specs::Questions::question))]
 pub fn new(cpus: &[CpuWords], state: State, c: u64) -> bool
     ensures { result ≡ (cpu_new cpus.now state c).answer }
 {
@@ -26,6 +28,7 @@ pub fn new(cpus: &[CpuWords], state: State, c: u64) -> bool
     false
 }
 
+#[tactic(auto, unfolding(crate::specs::Questions::cpu_unplaced, rules::specs::Questions::question))]
 pub fn unplaced(cpus: &[CpuWords], state: State, c: u64) -> bool
     ensures { result ≡ (cpu_unplaced cpus.now state c).answer }
 {
@@ -35,6 +38,7 @@ pub fn unplaced(cpus: &[CpuWords], state: State, c: u64) -> bool
     false
 }
 
+#[tactic(auto, unfolding(crate::specs::Questions::pin_declared, request::specs::Request::pin_option, rules::specs::Questions::question, crate::specs::Questions::cpu_declared))]
 pub fn pin_declared(cpus: &[CpuWords], state: State, pin: Pin) -> bool
     ensures { result ≡ (pin_declared cpus.now state (pin_option pin)).answer }
 {
@@ -55,6 +59,7 @@ fn so_far(answer: bool, n: u64, declared: bool) -> bool
 }
 
 // Question 9 for CPUs 0 to n, from the answer for those before n and the words of CPU n.
+#[tactic(auto, unfolding(rules::specs::Questions::placed_with))]
 pub fn placed_with(cpus: &[CpuWords], answer: bool, n: u64) -> bool
     ensures { result ≡ placed_with cpus.now answer n }
 {
@@ -69,6 +74,7 @@ pub fn placed_with(cpus: &[CpuWords], answer: bool, n: u64) -> bool
 }
 
 // Question 9 for the CPUs below end alone, in one pass over their numbers.
+#[tactic(auto, unfolding(rules::specs::Questions::all_placed_below))]
 pub fn all_placed_below(cpus: &[CpuWords], end: u64) -> bool
     ensures { result ≡ all_placed_below cpus.now end }
 {
@@ -90,6 +96,7 @@ fn lesser(a: u64, b: usize) -> u64
 }
 
 // Question 9. Past the rows lent no CPU is declared.
+#[tactic(auto, using(crate::proofs::Asking::in_rows), unfolding(crate::specs::Questions::all_placed, rules::specs::Questions::question))]
 pub fn all_placed(cpus: &[CpuWords], state: State) -> bool
     ensures { result ≡ (all_placed cpus.now state).answer }
 {

@@ -17,6 +17,7 @@ use topology::words::NodeWords;
 // There may be 1,024 threads.
 pub const MAX_THREADS: u64 = 1024;
 
+#[tactic(auto, using(crate::proofs::Asking::all_yes, crate::proofs::Asking::no, crate::proofs::Asking::yes), unfolding(lines::specs::Lines::refusal_number, rules::specs::Questions::question, crate::specs::Questions::room))]
 fn last(state: State) -> Refusal
     ensures { refusal_number result ≡ first_no (room state ∷ []) }
 {
@@ -26,6 +27,7 @@ fn last(state: State) -> Refusal
     Refusal::TooMany
 }
 
+#[tactic(auto, using(crate::proofs::Asking::no, crate::proofs::Asking::yes), unfolding(lines::specs::Lines::refusal_number, rules::specs::Questions::question, crate::specs::Questions::open_yet, crate::specs::Questions::cpu_new))]
 fn declare_cpu(cpus: &[CpuWords], state: State, c: u64) -> Refusal
     ensures { refusal_number result ≡ first_no (open_yet state ∷ cpu_new cpus.now state c ∷ room state ∷ []) }
 {
@@ -39,6 +41,7 @@ fn declare_cpu(cpus: &[CpuWords], state: State, c: u64) -> Refusal
 }
 
 // Of a new child node, whose type is in range or not.
+#[tactic(auto, using(crate::proofs::Asking::no, crate::proofs::Asking::yes), unfolding(lines::specs::Lines::refusal_number, rules::specs::Questions::question, crate::specs::Questions::open_yet, crate::specs::Questions::node_exists, crate::specs::Questions::parent_without_cpus, crate::specs::Questions::node_fits))]
 fn add_node(nodes: &[NodeWords], state: State, p: u64, ranges: bool) -> Refusal
     ensures { refusal_number result ≡ first_no (open_yet state ∷ question 6 ranges ∷ node_exists state p ∷ parent_without_cpus nodes.now p ∷ node_fits state ∷ room state ∷ []) }
 {
@@ -58,6 +61,7 @@ fn add_node(nodes: &[NodeWords], state: State, p: u64, ranges: bool) -> Refusal
     Refusal::OutOfRange
 }
 
+#[tactic(auto, using(crate::proofs::Asking::no, crate::proofs::Asking::yes), unfolding(lines::specs::Lines::refusal_number, rules::specs::Questions::question, crate::specs::Questions::open_yet, crate::specs::Questions::cpu_unplaced, crate::specs::Questions::node_exists, crate::specs::Questions::node_childless))]
 fn place_cpu(cpus: &[CpuWords], nodes: &[NodeWords], state: State, n: u64, c: u64) -> Refusal
     ensures { refusal_number result ≡ first_no (open_yet state ∷ cpu_unplaced cpus.now state c ∷ node_exists state n ∷ node_childless nodes.now n ∷ room state ∷ []) }
 {
@@ -76,6 +80,7 @@ fn place_cpu(cpus: &[CpuWords], nodes: &[NodeWords], state: State, n: u64, c: u6
     Refusal::Cpu
 }
 
+#[tactic(auto, using(crate::proofs::Asking::no, crate::proofs::Asking::yes), unfolding(lines::specs::Lines::refusal_number, rules::specs::Questions::first_no, crate::specs::Questions::open_yet, rules::specs::Questions::question, crate::specs::Questions::all_placed))]
 fn seal(cpus: &[CpuWords], state: State) -> Refusal
     ensures { refusal_number result ≡ first_no (open_yet state ∷ all_placed cpus.now state ∷ room state ∷ []) }
 {
@@ -89,6 +94,7 @@ fn seal(cpus: &[CpuWords], state: State) -> Refusal
 }
 
 // Of a setting, which is in range or not.
+#[tactic(auto, using(crate::proofs::Asking::no, crate::proofs::Asking::yes), unfolding(lines::specs::Lines::refusal_number, rules::specs::Questions::first_no, crate::specs::Questions::open_yet, rules::specs::Questions::question))]
 fn setting(state: State, ranges: bool) -> Refusal
     ensures { refusal_number result ≡ first_no (open_yet state ∷ question 6 ranges ∷ room state ∷ []) }
 {
@@ -102,6 +108,7 @@ fn setting(state: State, ranges: bool) -> Refusal
 }
 
 // Is thread x new, whose record is t?
+#[tactic(auto, unfolding(crate::specs::Questions::thread_new, rules::specs::Questions::question))]
 fn thread_new(x: u64, t: Thread) -> bool
     ensures { result ≡ (thread_new x t).answer }
 {
@@ -114,6 +121,7 @@ fn thread_new(x: u64, t: Thread) -> bool
     false
 }
 
+#[tactic(auto, using(crate::proofs::Asking::no, crate::proofs::Asking::pin_number, crate::proofs::Asking::yes), unfolding(lines::specs::Lines::refusal_number, rules::specs::Questions::question, crate::specs::Questions::sealed_now, crate::specs::Questions::thread_new))]
 fn declare_thread(
     cpus: &[CpuWords],
     state: State,
@@ -139,6 +147,7 @@ fn declare_thread(
     Refusal::WrongSideOfSeal
 }
 
+#[tactic(auto, using(crate::proofs::Asking::no, crate::proofs::Asking::yes), unfolding(lines::specs::Lines::refusal_number, rules::specs::Questions::question, crate::specs::Questions::sealed_now, crate::specs::Questions::tick_fits))]
 fn set_tick(state: State, tick: u64) -> Refusal
     ensures { refusal_number result ≡ first_no (sealed_now state ∷ tick_fits state tick ∷ room state ∷ []) }
 {
@@ -151,6 +160,7 @@ fn set_tick(state: State, tick: u64) -> Refusal
     Refusal::WrongSideOfSeal
 }
 
+#[tactic(auto, using(crate::proofs::Asking::no, crate::proofs::Asking::yes), unfolding(lines::specs::Lines::refusal_number, rules::specs::Questions::question, crate::specs::Questions::sealed_now, crate::specs::Questions::cpu_declared, crate::specs::Questions::thread_declared, crate::specs::Questions::thread_blocked))]
 fn schedule_thread(cpus: &[CpuWords], state: State, t: Thread, c: u64) -> Refusal
     ensures { refusal_number result ≡ first_no (sealed_now state ∷ cpu_declared cpus.now state c ∷ thread_declared t ∷ thread_blocked t ∷ room state ∷ []) }
 {
@@ -170,6 +180,7 @@ fn schedule_thread(cpus: &[CpuWords], state: State, t: Thread, c: u64) -> Refusa
 }
 
 // Of a command that CPU c runs, whose other operands are in range or not.
+#[tactic(auto, using(crate::proofs::Asking::no, crate::proofs::Asking::yes), unfolding(lines::specs::Lines::refusal_number, rules::specs::Questions::question, crate::specs::Questions::sealed_now, crate::specs::Questions::cpu_declared))]
 fn on_cpu(cpus: &[CpuWords], state: State, c: u64, ranges: bool) -> Refusal
     ensures { refusal_number result ≡ first_no (sealed_now state ∷ cpu_declared cpus.now state c ∷ question 6 ranges ∷ room state ∷ []) }
 {
@@ -185,6 +196,7 @@ fn on_cpu(cpus: &[CpuWords], state: State, c: u64, ranges: bool) -> Refusal
     Refusal::WrongSideOfSeal
 }
 
+#[tactic(auto, using(crate::proofs::Asking::no, crate::proofs::Asking::yes), unfolding(lines::specs::Lines::refusal_number, rules::specs::Questions::question, crate::specs::Questions::sealed_now, crate::specs::Questions::cpu_declared, crate::specs::Questions::thread_declared))]
 fn donate(cpus: &[CpuWords], state: State, t: Thread, c: u64, ranges: bool) -> Refusal
     ensures { refusal_number result ≡ first_no (sealed_now state ∷ cpu_declared cpus.now state c ∷ thread_declared t ∷ question 6 ranges ∷ room state ∷ []) }
 {
@@ -204,6 +216,7 @@ fn donate(cpus: &[CpuWords], state: State, t: Thread, c: u64, ranges: bool) -> R
 }
 
 // Of a command on a thread after the seal.
+#[tactic(auto, using(crate::proofs::Asking::no, crate::proofs::Asking::yes), unfolding(lines::specs::Lines::refusal_number, rules::specs::Questions::question, crate::specs::Questions::sealed_now, crate::specs::Questions::thread_declared))]
 fn of_thread(state: State, t: Thread, ranges: bool) -> Refusal
     ensures { refusal_number result ≡ first_no (sealed_now state ∷ thread_declared t ∷ question 6 ranges ∷ room state ∷ []) }
 {
@@ -220,6 +233,7 @@ fn of_thread(state: State, t: Thread, ranges: bool) -> Refusal
 }
 
 // Of a request; t is the record of the thread that it names.
+#[tactic(auto, unfolding(crate::specs::Questions::asked_of, crate::specs::Questions::concerning, rules::specs::Questions::first_no, rules::specs::Questions::question, rules::specs::Questions::at_most, rules::specs::Questions::shortest_in_range, rules::specs::Questions::priority_in_range, request::specs::Request::request_of))]
 fn asked(
     cpus: &[CpuWords],
     nodes: &[NodeWords],
@@ -264,6 +278,7 @@ fn asked(
 }
 
 // The refusal of what was read; t is the record of the thread that it names.
+#[tactic(auto, unfolding(crate::specs::Questions::refusal_in, request::specs::Request::reading_of, lines::specs::Lines::refusal_number))]
 pub fn refusal_of(
     cpus: &[CpuWords],
     nodes: &[NodeWords],

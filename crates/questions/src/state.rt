@@ -5,7 +5,7 @@ ghost use Rattle.questions.specs.Questions.{node_exists, node_fits, tick_fits, r
 // The limits: how many CPUs and nodes there may be, the shortest User timeslice, and whether an operand that names a CPU or a node has two bytes. Then
 // the tick, whether the topology is sealed, the commands accepted, and the nodes that exist.
 #[repr(C)]
-#[derive(Drop)]
+#[derive(Clone, Copy)]
 pub struct State {
     pub cpus: u64,
     pub nodes: u64,
@@ -24,18 +24,21 @@ pub const MOST_TICK: u64 = 4611686018427387904;
 pub const MOST_ACCEPTED: u64 = 4294967295;
 
 impl State {
+    #[tactic(auto, unfolding(crate::specs::Questions::node_exists, rules::specs::Questions::question))]
     pub fn node_exists(self, n: u64) -> bool
         ensures { result ≡ (node_exists self n).answer }
     {
         n < self.node_count
     }
 
+    #[tactic(auto, unfolding(crate::specs::Questions::node_fits, rules::specs::Questions::question))]
     pub fn node_fits(self) -> bool
         ensures { result ≡ (node_fits self).answer }
     {
         self.node_count < self.nodes
     }
 
+    #[tactic(auto, unfolding(crate::specs::Questions::tick_fits, rules::specs::Questions::question))]
     pub fn tick_fits(self, tick: u64) -> bool
         ensures { result ≡ (tick_fits self tick).answer }
     {
@@ -45,6 +48,7 @@ impl State {
         false
     }
 
+    #[tactic(auto, unfolding(crate::specs::Questions::room, rules::specs::Questions::question, rules::specs::Questions::most_accepted))]
     pub fn room(self) -> bool
         ensures { result ≡ (room self).answer }
     {

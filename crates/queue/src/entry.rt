@@ -9,6 +9,7 @@ use crate::table::TABLE;
 const HIGHEST: u64 = 1152921504606846976;
 
 // The constant, with what is proved of it.
+#[tactic(auto, unfolding(crate::specs::Table::table, crate::specs::Table::two_each, rules::specs::Priority::nr_values, rules::specs::Queue::realtime_bucket, rules::specs::Priority::cut, rules::specs::Queue::width, rules::specs::Queue::offset, rules::specs::Queue::nr_buckets))]
 pub fn table() -> [u64; 256]
     ensures { result ≡ table }
 {
@@ -16,6 +17,7 @@ pub fn table() -> [u64; 256]
 }
 
 // Row r modulo 16 of a table, its first number in the lowest four bits.
+#[tactic(auto, using(crate::specs::Table::packed_below), unfolding(crate::specs::Table::packed))]
 fn packed(table: &[u64; 256], r: u64) -> u64
     ensures { result ≡ row_word table.now r }
 {
@@ -54,6 +56,7 @@ fn row(r: u64) -> u64
 }
 
 // Number i modulo 256 of the table.
+#[tactic(auto, using(crate::specs::Table::entry_unpacked))]
 pub fn entry(i: u64) -> u64
     ensures { result ≡ entry i }
 {

@@ -4,26 +4,27 @@ ghost use Rattle.queue.specs.Lists.{no_lists_def, push_back, unlinked, first_fro
 
 use thread::NONE;
 
-#[derive(Drop)]
+#[derive(Clone, Copy)]
 pub struct Lists {
     pub heads: [u64; 8],
     pub tails: [u64; 8],
 }
 
 // behind: whose record's link has to be set to the thread that came in; NONE: nobody's.
-#[derive(Drop)]
+#[derive(Clone, Copy)]
 pub struct Pushed {
     pub lists: Lists,
     pub behind: u64,
 }
 
-#[derive(Drop)]
+#[derive(Clone, Copy)]
 pub enum Found {
     At { bucket: u64, thread: u64 },
     Nothing,
 }
 
 impl Lists {
+    #[tactic(auto, unfolding(crate::specs::Lists::no_lists_def, rules::specs::Queue::nr_buckets))]
     pub fn new() -> Self
         ensures { result ≡ no_lists_def }
     {
@@ -34,6 +35,7 @@ impl Lists {
         }
     }
 
+    #[tactic(auto, unfolding(crate::specs::Lists::push_back, rules::specs::Queue::nr_buckets))]
     pub fn push_back(mut self, bucket: u64, thread: u64) -> Pushed
         ensures { result ≡ push_back self bucket thread }
     {
@@ -55,6 +57,7 @@ impl Lists {
     }
 
     // Removes the thread between previous (NONE: it is the first) and next; the caller relinks previous.
+    #[tactic(auto, unfolding(crate::specs::Lists::unlinked, rules::specs::Queue::nr_buckets))]
     pub fn unlink(mut self, bucket: u64, previous: u64, next: u64) -> Self
         ensures { result ≡ unlinked self bucket previous next }
     {
@@ -71,6 +74,7 @@ impl Lists {
     }
 
     // The first of the eight lists, from one onward round, that holds a thread.
+    #[tactic(auto, using(crate::specs::Lists::scan_end, crate::specs::Lists::scan_start, crate::specs::Lists::scan_step), unfolding(crate::specs::Lists::first_from, rules::specs::Queue::nr_buckets))]
     pub fn first_from(self, from: u64) -> Found
         ensures { result ≡ first_from self from }
     {
@@ -93,6 +97,7 @@ impl Lists {
     }
 
     // The least value of the highest list that holds a thread, 0 if none does.
+    #[tactic(auto, using(crate::specs::Lists::top_step), unfolding(crate::specs::Lists::highest_held, rules::specs::Queue::nr_buckets, crate::specs::Lists::top_heads, rules::specs::Queue::width))]
     pub fn highest(self) -> u64
         ensures { result ≡ highest_held self }
     {

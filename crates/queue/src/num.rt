@@ -2,12 +2,14 @@
 ghost use Rattle.std.specs.Prelude.{◌≡◌};
 ghost use Rattle.queue.specs.Num.{difference, product};
 
+#[tactic(auto, unfolding(crate::specs::Num::difference))]
 pub fn difference(a: u64, b: u64) -> u64
     ensures { result ≡ difference a b }
 {
     std::num::wrapping_sub_u64(a, b)
 }
 
+#[tactic(auto, using(crate::specs::Num::half_product, crate::specs::Num::product_is))]
 pub fn product(a: u64, b: u64) -> u64
     ensures { result ≡ product a b }
 {

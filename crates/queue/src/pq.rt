@@ -9,19 +9,20 @@ use crate::num::difference;
 use rules::PriorityClass;
 use thread::priority::cut;
 
-#[derive(Drop)]
+#[derive(Clone, Copy)]
 pub struct PriorityQueue {
     pub count: u64,
     pub queues: Lists,
 }
 
 // behind: as in Pushed.
-#[derive(Drop)]
+#[derive(Clone, Copy)]
 pub struct PriorityPut {
     pub queue: PriorityQueue,
     pub behind: u64,
 }
 
+#[tactic(auto, using(crate::specs::Table::bucket_entry, rules::specs::Laws::Effect::cut_below), unfolding(rules::specs::Priority::nr_values))]
 pub fn realtime_bucket(value: u64) -> u64
     ensures { result ≡ realtime_bucket value }
 {
@@ -29,6 +30,7 @@ pub fn realtime_bucket(value: u64) -> u64
 }
 
 // A User thread here got a deadline boost.
+#[tactic(auto, unfolding(rules::specs::Queue::class_bucket, rules::specs::Queue::nr_buckets))]
 pub fn class_bucket(class: PriorityClass, value: u64) -> u64
     ensures { result ≡ class_bucket class value }
 {
@@ -42,6 +44,7 @@ pub fn class_bucket(class: PriorityClass, value: u64) -> u64
 }
 
 impl PriorityQueue {
+    #[tactic(auto, unfolding(crate::specs::PriorityQueue::no_priority))]
     pub fn new() -> Self
         ensures { result ≡ no_priority }
     {
@@ -49,12 +52,14 @@ impl PriorityQueue {
         PriorityQueue { count: 0, queues }
     }
 
+    #[tactic(auto, unfolding(crate::specs::PriorityQueue::pq_empty))]
     pub fn is_empty(self) -> bool
         ensures { result ≡ pq_empty self }
     {
         self.count == 0
     }
 
+    #[tactic(auto, unfolding(crate::specs::PriorityQueue::pq_highest))]
     pub fn highest_priority(self) -> u64
         ensures { result ≡ pq_highest self }
     {
@@ -65,6 +70,7 @@ impl PriorityQueue {
         queues.highest()
     }
 
+    #[tactic(auto, unfolding(crate::specs::PriorityQueue::pq_insert, crate::specs::Num::sum))]
     pub fn insert(mut self, thread: u64, class: PriorityClass, value: u64) -> PriorityPut
         ensures { result ≡ pq_insert self thread class value }
     {
@@ -82,6 +88,7 @@ impl PriorityQueue {
     }
 
     // Where the next thread to leave stands.
+    #[tactic(auto, unfolding(crate::specs::PriorityQueue::pq_front))]
     pub fn front(self) -> Found
         ensures { result ≡ pq_front self }
     {
@@ -93,6 +100,7 @@ impl PriorityQueue {
     }
 
     // A thread has left bucket q, from behind `previous`; its link was `next`.
+    #[tactic(auto, unfolding(crate::specs::PriorityQueue::pq_taken))]
     pub fn taken(mut self, q: u64, previous: u64, next: u64) -> Self
         ensures { result ≡ pq_taken self q previous next }
     {

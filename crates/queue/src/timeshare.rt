@@ -10,7 +10,7 @@ use crate::num::difference;
 use thread::NONE;
 use thread::priority::cut;
 
-#[derive(Drop)]
+#[derive(Clone, Copy)]
 pub struct TimeshareQueue {
     pub count: u64,
     pub priorities: [u64; 8],
@@ -20,12 +20,13 @@ pub struct TimeshareQueue {
 }
 
 // behind: as in Pushed.
-#[derive(Drop)]
+#[derive(Clone, Copy)]
 pub struct TimesharePut {
     pub queue: TimeshareQueue,
     pub behind: u64,
 }
 
+#[tactic(auto, using(crate::specs::Table::offset_entry, rules::specs::Laws::Effect::cut_below), unfolding(rules::specs::Priority::nr_values))]
 pub fn offset(value: u64) -> u64
     ensures { result ≡ offset value }
 {
@@ -33,6 +34,7 @@ pub fn offset(value: u64) -> u64
 }
 
 // The Rust's saturating_sub(1).
+#[tactic(auto, unfolding(crate::specs::Timeshare::less_one_def))]
 pub fn less_one(x: u64) -> u64
     ensures { result ≡ less_one_def x }
 {
@@ -43,6 +45,7 @@ pub fn less_one(x: u64) -> u64
 }
 
 impl TimeshareQueue {
+    #[tactic(auto, unfolding(crate::specs::Timeshare::no_timeshare, rules::specs::Queue::nr_buckets))]
     pub fn new() -> Self
         ensures { result ≡ no_timeshare }
     {
@@ -57,6 +60,7 @@ impl TimeshareQueue {
         }
     }
 
+    #[tactic(auto, unfolding(crate::specs::Timeshare::ts_empty))]
     pub fn is_empty(self) -> bool
         ensures { result ≡ ts_empty self }
     {
@@ -64,6 +68,7 @@ impl TimeshareQueue {
     }
 
     // The least value of the highest sixteen of which one waits, 0 if none does.
+    #[tactic(auto, using(crate::specs::Timeshare::tops_step), unfolding(crate::specs::Timeshare::ts_highest, rules::specs::Queue::nr_buckets, crate::specs::Timeshare::top_counts_def, rules::specs::Queue::width))]
     pub fn highest_priority(self) -> u64
         ensures { result ≡ ts_highest self }
     {
@@ -85,6 +90,7 @@ impl TimeshareQueue {
     }
 
     // The bucket that a thread joins.
+    #[tactic(auto, using(crate::specs::Timeshare::back_one, crate::specs::Timeshare::back_zero, crate::specs::Timeshare::round_left, rules::specs::Laws::Effect::offset_in), unfolding(crate::specs::Timeshare::ts_bucket, rules::specs::Queue::nr_buckets, crate::specs::Timeshare::ts_index))]
     pub fn bucket(self, value: u64, current: bool) -> u64
         ensures { result ≡ ts_bucket self value current }
     {
@@ -106,6 +112,7 @@ impl TimeshareQueue {
         q - 1
     }
 
+    #[tactic(auto, unfolding(crate::specs::Timeshare::ts_insert, crate::specs::Timeshare::slot, rules::specs::Queue::width, rules::specs::Queue::nr_buckets, crate::specs::Num::sum))]
     pub fn insert(mut self, thread: u64, value: u64, current: bool) -> TimesharePut
         ensures { result ≡ ts_insert self thread value current }
     {
@@ -126,6 +133,7 @@ impl TimeshareQueue {
     }
 
     // Where the next thread to leave stands.
+    #[tactic(auto, unfolding(crate::specs::Timeshare::ts_front))]
     pub fn front(self) -> Found
         ensures { result ≡ ts_front self }
     {
@@ -137,6 +145,7 @@ impl TimeshareQueue {
     }
 
     // The take index once a thread has left bucket q, from behind `previous`; its link was `next`.
+    #[tactic(auto, using(crate::specs::Timeshare::round_left), unfolding(crate::specs::Timeshare::ts_next, rules::specs::Queue::nr_buckets))]
     pub fn next_take_idx(self, q: u64, previous: u64, next: u64) -> u64
         ensures { result ≡ ts_next self q previous next }
     {
@@ -153,6 +162,7 @@ impl TimeshareQueue {
     }
 
     // A thread has left bucket q, from behind `previous`; its link was `next`, its value when it was put in `value`.
+    #[tactic(auto, unfolding(crate::specs::Timeshare::ts_taken, crate::specs::Timeshare::slot, rules::specs::Queue::width, rules::specs::Queue::nr_buckets))]
     pub fn taken(mut self, q: u64, previous: u64, next: u64, value: u64) -> Self
         ensures { result ≡ ts_taken self q previous next value }
     {
@@ -168,6 +178,7 @@ impl TimeshareQueue {
         self
     }
 
+    #[tactic(auto, using(crate::specs::Timeshare::round_sum), unfolding(crate::specs::Timeshare::ts_step))]
     pub fn stepped(mut self, steps: u64) -> Self
         ensures { result ≡ ts_step self steps }
     {
@@ -175,6 +186,7 @@ impl TimeshareQueue {
         self
     }
 
+    #[tactic(auto, unfolding(crate::specs::Timeshare::ts_advance))]
     pub fn advance_insert_index(self, steps: u64, force: bool) -> Self
         ensures { result ≡ ts_advance self steps force }
     {

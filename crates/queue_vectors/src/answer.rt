@@ -7,7 +7,7 @@ use runqueue::rq::RunQueue;
 use thread::NONE;
 
 // Where a thread was put: 0 realtime, 1 timeshare, 2 idle, and the bucket; 255 where none was.
-#[derive(Drop)]
+#[derive(Clone, Copy)]
 pub struct Where {
     pub part: u64,
     pub bucket: u64,

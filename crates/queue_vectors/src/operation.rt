@@ -7,7 +7,7 @@ use thread::priority::{class_at, raw};
 use thread::{NO_DONATION, Thread};
 
 // number: the thread's deadline, the new tick, or the shortest timeslice.
-#[derive(Drop)]
+#[derive(Clone, Copy)]
 pub struct Operation {
     pub kind: u64,
     pub queue: u64,

@@ -19,12 +19,13 @@ use thread::time::OptionCpu;
 use thread::{NONE, Thread};
 
 // Whom a take hands out.
-#[derive(Drop)]
+#[derive(Clone, Copy)]
 pub enum Taken {
     Thread(u64),
     Nobody,
 }
 
+#[tactic(auto, unfolding(rules::specs::Times::pinned, rules::specs::Times::is_some, thread::specs::Reads::reads, thread::specs::Reads::named, thread::specs::Reads::cpu_in))]
 fn is_pinned(t: Thread) -> bool
     ensures { result ≡ pinned (reads t) }
 {
@@ -36,6 +37,7 @@ fn is_pinned(t: Thread) -> bool
 }
 
 // What a put is told of thread x, whose record is t.
+#[tactic(auto, unfolding(crate::specs::Rq::arrival_of))]
 fn arrival(t: Thread, x: u64, tick: u64, current: bool) -> Arrival
     ensures { result ≡ arrival_of t x tick current }
 {
@@ -51,6 +53,7 @@ fn arrival(t: Thread, x: u64, tick: u64, current: bool) -> Arrival
 }
 
 // The record of a thread that came into this part: it waits, the last of its list. Timeshare keeps the priority that it came in with.
+#[tactic(auto, unfolding(crate::specs::Rq::put_in_def, crate::specs::Rq::steady_in))]
 fn put_in(t: Thread, part: Part) -> Thread
     ensures { result ≡ put_in_def t part }
 {
@@ -107,6 +110,7 @@ pub fn insert(
     link_behind(threads, behind, x);
 }
 
+#[tactic(auto, unfolding(crate::specs::Rq::is_nothing))]
 fn is_nothing(front: Front) -> bool
     ensures { result ≡ is_nothing front }
 {
@@ -121,6 +125,7 @@ fn is_nothing(front: Front) -> bool
 }
 
 // The thread that the queue of CPU c found, whose record is t, leaves the head of its list: nobody stands before it.
+#[tactic(auto, unfolding(crate::specs::Rq::left_by_def))]
 fn leave(cpus: &mut [CpuWords], c: u64, front: Front, t: Thread)
     ensures { cpus.new ≡ queue_stored cpus.old c (left_by_def (queue_at cpus.old c) front t) }
 {
@@ -158,6 +163,7 @@ pub fn take(threads: &mut [Thread], cpus: &mut [CpuWords], c: u64, stealing: boo
 }
 
 // The insert index of CPU c's queue moves on.
+#[tactic(auto, using(processor::specs::Parts::clock_stored), unfolding(crate::specs::Rq::clock_def))]
 pub fn clock(cpus: &mut [CpuWords], c: u64)
     ensures { BecomesOne (clock_def c) cpus }
 {
@@ -167,6 +173,7 @@ pub fn clock(cpus: &mut [CpuWords], c: u64)
 }
 
 // CPU c has its hard tick: how many ticks passed since the last.
+#[tactic(auto, using(processor::specs::Parts::hardtick_stored), unfolding(crate::specs::Rq::hardtick_def))]
 pub fn hardtick(cpus: &mut [CpuWords], c: u64, tick: u64) -> u64
     ensures { LeavesOne (hardtick_def c tick) result cpus }
 {

@@ -1,4 +1,6 @@
 // Commands from standard input, document 01's output to standard output.
+#![tactic(auto)]
+
 use blocks::keep;
 use lines::has_room;
 use processor::words::CpuWords;
@@ -11,14 +13,14 @@ use thread::{Thread, blank};
 use topology::words::NodeWords;
 
 // What was fed, and the bytes at the front of the next block.
-#[derive(Drop)]
+#[derive(Clone, Copy)]
 pub struct Serving {
     pub fed: Progress,
     pub left: usize,
 }
 
 // The bytes at the front of the input, whether they are the last, and whether reading failed.
-#[derive(Drop)]
+#[derive(Clone, Copy)]
 pub struct Filled {
     pub bytes: usize,
     pub last: bool,

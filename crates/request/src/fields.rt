@@ -12,7 +12,7 @@ use crate::{
 
 // A command that has fewer operands has 0 in the others.
 #[repr(C)]
-#[derive(Drop)]
+#[derive(Clone, Copy)]
 pub struct Fields {
     pub first: u64,
     pub second: u64,
@@ -21,7 +21,7 @@ pub struct Fields {
 }
 
 // How many bytes each operand has; 0 where there is none.
-#[derive(Drop)]
+#[derive(Clone, Copy)]
 pub struct Widths {
     pub first: usize,
     pub second: usize,
@@ -29,6 +29,7 @@ pub struct Widths {
     pub fourth: usize,
 }
 
+#[tactic(auto, unfolding(crate::specs::Fields::widths_list))]
 fn widths_in(first: usize, second: usize, third: usize, fourth: usize) -> Widths
     ensures { widths_list result ≡ first ∷ second ∷ third ∷ fourth ∷ [] }
 {
@@ -41,6 +42,7 @@ fn widths_in(first: usize, second: usize, third: usize, fourth: usize) -> Widths
 }
 
 // The row of a command; all 0 for a byte that is not in the table.
+#[tactic(auto, using(crate::proofs::Table::no_row), unfolding(crate::specs::Fields::row, rules::specs::Writer::row, rules::specs::Requests::widths, rules::specs::Requests::widths_or, crate::specs::Request::limits_of, crate::specs::Fields::four, rules::specs::Requests::nth, crate::proofs::Table::Apart))]
 pub fn widths_of(byte: u8, wide: bool) -> Widths
     ensures { widths_list result ≡ four (row wide byte) }
 {
@@ -67,6 +69,7 @@ pub fn widths_of(byte: u8, wide: bool) -> Widths
 }
 
 // How many fields a command has, in either form of the stream; none for a byte that is not in the table.
+#[tactic(auto, using(crate::proofs::Table::no_row), unfolding(crate::specs::Fields::row, rules::specs::Writer::row, rules::specs::Requests::widths_or, rules::specs::Requests::widths, crate::specs::Request::limits_of, crate::proofs::Table::Apart))]
 pub fn field_count(byte: u8) -> usize
     ensures { result ≡ length (row false byte) }
 {
@@ -92,6 +95,7 @@ pub fn field_count(byte: u8) -> usize
 }
 
 // Question 6 as far as it needs no state; a byte that is not in the table is asked as hex 1A.
+#[tactic(auto, using(crate::proofs::ByWidths::last_ranges), unfolding(rules::specs::Writer::ranges, rules::specs::Requests::request, crate::specs::Fields::list_of, rules::specs::Requests::nth, rules::specs::Questions::question, crate::proofs::Table::Apart))]
 pub fn ranges(byte: u8, fields: Fields, wide: bool) -> bool
     ensures { result ≡ ranges (limits_of wide) byte (list_of fields) }
 {
@@ -116,6 +120,7 @@ pub fn ranges(byte: u8, fields: Fields, wide: bool) -> bool
 }
 
 // An operand of 1, 2, 4 or 8 bytes; 0 for every other width.
+#[tactic(auto, unfolding(crate::specs::Fields::operand_of))]
 fn operand(bytes: &[u8], at: usize, n: usize) -> u64
     ensures { result ≡ operand_of n (drop at bytes.now) }
 {
@@ -129,6 +134,7 @@ fn operand(bytes: &[u8], at: usize, n: usize) -> u64
 }
 
 // The operands that begin at `at`; bytes that are not there count as 0.
+#[tactic(auto, using(crate::proofs::ByWidths::first_width, crate::proofs::ByWidths::four_read, crate::proofs::ByWidths::fourth_width, crate::proofs::ByWidths::row_plain, crate::proofs::ByWidths::second_width, crate::proofs::ByWidths::third_width), unfolding(crate::specs::Fields::list_of))]
 pub fn operands(bytes: &[u8], at: usize, byte: u8, wide: bool) -> Fields
     ensures { list_of result ≡ four (operands (row wide byte) (drop at bytes.now)) }
 {

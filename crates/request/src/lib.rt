@@ -1,4 +1,6 @@
 // The bytes of one command, read as a request: the command byte gives the length of its operands, then the case.
+#![tactic(auto)]
+
 pub mod fields;
 
 ghost use Rattle.std.specs.Prelude.{◌≡◌, length, drop};
@@ -18,14 +20,14 @@ pub const LEAST_SHORTEST: u64 = 2;
 
 pub const MOST_SHORTEST: u64 = 32;
 
-#[derive(Drop)]
+#[derive(Clone, Copy)]
 pub enum Pin {
     None,
     Cpu(u64),
 }
 
 // What a command asks, its operands as numbers.
-#[derive(Drop)]
+#[derive(Clone, Copy)]
 pub enum Request {
     DeclareCpu {
         cpu: u64,
@@ -88,7 +90,7 @@ pub enum Request {
 }
 
 // What the bytes of a call say. `used` counts the command byte and its operands.
-#[derive(Drop)]
+#[derive(Clone, Copy)]
 pub enum Reading {
     Unknown,
     CutShort,
@@ -96,7 +98,7 @@ pub enum Reading {
 }
 
 // How many bytes the operands of a command have.
-#[derive(Drop)]
+#[derive(Clone, Copy)]
 pub enum Operands {
     Unknown,
     Bytes(usize),
@@ -109,6 +111,7 @@ fn number(byte: u8) -> u64
 }
 
 // Where the bytes go on after n more; at the end where there are fewer.
+#[tactic(auto, using(crate::proofs::Bytes::past_end, crate::proofs::Bytes::past_further))]
 fn skip(bytes: &[u8], at: usize, n: usize) -> usize
     ensures { drop result bytes.now ≡ past n (drop at bytes.now) }
 {
@@ -132,6 +135,7 @@ fn left(bytes: &[u8], at: usize) -> usize
 }
 
 // The operands of one, two, four and eight bytes; bytes that are not there count as 0.
+#[tactic(auto, using(crate::proofs::Bytes::operand_none, crate::proofs::Bytes::operand_there))]
 fn one(bytes: &[u8], at: usize) -> u64
     ensures { result ≡ operand 1 (drop at bytes.now) }
 {
@@ -141,6 +145,7 @@ fn one(bytes: &[u8], at: usize) -> u64
     0
 }
 
+#[tactic(auto, using(crate::proofs::Bytes::operand_add, crate::proofs::Bytes::operand_drop_lt))]
 fn two(bytes: &[u8], at: usize) -> u64
     ensures { result ≡ operand 2 (drop at bytes.now) }
 {
@@ -148,6 +153,7 @@ fn two(bytes: &[u8], at: usize) -> u64
     one(bytes, at) + 256 * one(bytes, next)
 }
 
+#[tactic(auto, using(crate::proofs::Bytes::operand_add, crate::proofs::Bytes::operand_drop_lt))]
 fn four(bytes: &[u8], at: usize) -> u64
     ensures { result ≡ operand 4 (drop at bytes.now) }
 {
@@ -155,6 +161,7 @@ fn four(bytes: &[u8], at: usize) -> u64
     two(bytes, at) + 65536 * two(bytes, next)
 }
 
+#[tactic(auto, using(crate::proofs::Bytes::operand_add, crate::proofs::Bytes::operand_drop_lt))]
 fn eight(bytes: &[u8], at: usize) -> u64
     ensures { result ≡ operand 8 (drop at bytes.now) }
 {
@@ -163,6 +170,7 @@ fn eight(bytes: &[u8], at: usize) -> u64
 }
 
 // How many bytes an operand has that names a CPU or a node.
+#[tactic(auto, unfolding(crate::specs::Request::width))]
 fn width(wide: bool) -> usize
     ensures { result ≡ width wide }
 {
@@ -173,6 +181,7 @@ fn width(wide: bool) -> usize
 }
 
 // The number of a CPU or a node.
+#[tactic(auto, unfolding(crate::specs::Request::width))]
 fn name(bytes: &[u8], at: usize, wide: bool) -> u64
     ensures { result ≡ operand (width wide) (drop at bytes.now) }
 {
@@ -182,6 +191,7 @@ fn name(bytes: &[u8], at: usize, wide: bool) -> u64
     one(bytes, at)
 }
 
+#[tactic(auto, unfolding(crate::specs::Request::all_ones_of, rules::specs::Requests::all_ones, crate::specs::Request::width))]
 pub fn all_ones(wide: bool) -> u64
     ensures { result ≡ all_ones_of wide }
 {
@@ -192,6 +202,7 @@ pub fn all_ones(wide: bool) -> u64
 }
 
 // A pin of all ones is none.
+#[tactic(auto, unfolding(rules::specs::Requests::pin_of, crate::specs::Request::all_ones_of, crate::specs::Request::limits_of, crate::specs::Request::pin_option))]
 fn pinned(v: u64, wide: bool) -> Pin
     ensures { pin_option result ≡ pin_of (limits_of wide) v }
 {
@@ -202,6 +213,7 @@ fn pinned(v: u64, wide: bool) -> Pin
 }
 
 // The length of a command's operands; 0 where the byte is not in the table.
+#[tactic(auto, using(crate::proofs::Table::no_length, crate::proofs::Table::width_small), unfolding(crate::specs::Request::length_of, rules::specs::Requests::widths, rules::specs::Requests::widths_or, crate::specs::Request::limits_of, rules::specs::Requests::sum, crate::proofs::Table::Apart))]
 fn length(byte: u8, wide: bool) -> usize
     ensures { result ≡ length_of wide byte }
 {
@@ -228,6 +240,7 @@ fn length(byte: u8, wide: bool) -> usize
 }
 
 // The command bytes of the table, over their ranges.
+#[tactic(auto, using(crate::proofs::Table::above_table, crate::proofs::Table::below_table, crate::proofs::Table::between_table, crate::proofs::Table::bytes_in_table, crate::proofs::Table::high_in_table, crate::proofs::Table::low_in_table, crate::proofs::Table::unknown_else))]
 pub fn operand_bytes(byte: u8, wide: bool) -> Operands
     ensures { result ≡ operands_of wide byte }
 {
@@ -238,6 +251,7 @@ pub fn operand_bytes(byte: u8, wide: bool) -> Operands
     }
 }
 
+#[tactic(auto, unfolding(crate::specs::Request::request_of, crate::specs::Request::asked, rules::specs::Requests::request, rules::specs::Requests::nth, rules::specs::Requests::operands, rules::specs::Requests::widths_or, rules::specs::Requests::widths, rules::specs::Requests::operand, crate::specs::Request::limits_of))]
 fn declare_cpu(bytes: &[u8], at: usize, wide: bool) -> Request
     ensures { request_of result ≡ asked wide 0x01 (drop at bytes.now) }
 {
@@ -246,6 +260,7 @@ fn declare_cpu(bytes: &[u8], at: usize, wide: bool) -> Request
     }
 }
 
+#[tactic(auto, unfolding(crate::specs::Request::asked, rules::specs::Requests::request, rules::specs::Requests::widths, rules::specs::Requests::widths_or, crate::specs::Request::limits_of, rules::specs::Requests::operands, rules::specs::Requests::nth, crate::specs::Request::request_of))]
 fn add_node(bytes: &[u8], at: usize, wide: bool) -> Request
     ensures { request_of result ≡ asked wide 0x02 (drop at bytes.now) }
 {
@@ -257,6 +272,7 @@ fn add_node(bytes: &[u8], at: usize, wide: bool) -> Request
     }
 }
 
+#[tactic(auto, unfolding(crate::specs::Request::asked, rules::specs::Requests::request, rules::specs::Requests::widths, rules::specs::Requests::widths_or, crate::specs::Request::limits_of, rules::specs::Requests::operands, rules::specs::Requests::nth, crate::specs::Request::request_of))]
 fn place_cpu(bytes: &[u8], at: usize, wide: bool) -> Request
     ensures { request_of result ≡ asked wide 0x03 (drop at bytes.now) }
 {
@@ -268,6 +284,7 @@ fn place_cpu(bytes: &[u8], at: usize, wide: bool) -> Request
     }
 }
 
+#[tactic(auto, unfolding(crate::specs::Request::request_of, crate::specs::Request::asked, rules::specs::Requests::request, rules::specs::Requests::nth, rules::specs::Requests::operands, rules::specs::Requests::widths_or, rules::specs::Requests::widths, rules::specs::Requests::operand, crate::specs::Request::limits_of))]
 fn set_shortest(bytes: &[u8], at: usize, wide: bool) -> Request
     ensures { request_of result ≡ asked wide 0x05 (drop at bytes.now) }
 {
@@ -276,6 +293,7 @@ fn set_shortest(bytes: &[u8], at: usize, wide: bool) -> Request
     }
 }
 
+#[tactic(auto, unfolding(crate::specs::Request::asked, rules::specs::Requests::request, rules::specs::Requests::widths, rules::specs::Requests::widths_or, crate::specs::Request::limits_of, rules::specs::Requests::operands, rules::specs::Requests::nth, crate::specs::Request::request_of))]
 fn declare_thread(bytes: &[u8], at: usize, wide: bool) -> Request
     ensures { request_of result ≡ asked wide 0x10 (drop at bytes.now) }
 {
@@ -290,6 +308,7 @@ fn declare_thread(bytes: &[u8], at: usize, wide: bool) -> Request
     }
 }
 
+#[tactic(auto, unfolding(crate::specs::Request::request_of, crate::specs::Request::asked, rules::specs::Requests::request, rules::specs::Requests::nth, rules::specs::Requests::operands, rules::specs::Requests::widths_or, rules::specs::Requests::widths))]
 fn set_tick(bytes: &[u8], at: usize, wide: bool) -> Request
     ensures { request_of result ≡ asked wide 0x11 (drop at bytes.now) }
 {
@@ -298,6 +317,7 @@ fn set_tick(bytes: &[u8], at: usize, wide: bool) -> Request
     }
 }
 
+#[tactic(auto, unfolding(crate::specs::Request::asked, rules::specs::Requests::request, rules::specs::Requests::widths, rules::specs::Requests::widths_or, crate::specs::Request::limits_of, rules::specs::Requests::operands, rules::specs::Requests::nth, crate::specs::Request::request_of))]
 fn schedule_thread(bytes: &[u8], at: usize, wide: bool) -> Request
     ensures { request_of result ≡ asked wide 0x12 (drop at bytes.now) }
 {
@@ -309,6 +329,7 @@ fn schedule_thread(bytes: &[u8], at: usize, wide: bool) -> Request
     }
 }
 
+#[tactic(auto, unfolding(crate::specs::Request::asked, rules::specs::Requests::request, rules::specs::Requests::widths, rules::specs::Requests::widths_or, crate::specs::Request::limits_of, rules::specs::Requests::operands, rules::specs::Requests::nth, crate::specs::Request::request_of))]
 fn schedule(bytes: &[u8], at: usize, wide: bool) -> Request
     ensures { request_of result ≡ asked wide 0x13 (drop at bytes.now) }
 {
@@ -320,6 +341,7 @@ fn schedule(bytes: &[u8], at: usize, wide: bool) -> Request
     }
 }
 
+#[tactic(auto, unfolding(crate::specs::Request::request_of, crate::specs::Request::asked, rules::specs::Requests::request, rules::specs::Requests::nth, rules::specs::Requests::operands, rules::specs::Requests::widths_or, rules::specs::Requests::widths, rules::specs::Requests::operand, crate::specs::Request::limits_of))]
 fn hardtick(bytes: &[u8], at: usize, wide: bool) -> Request
     ensures { request_of result ≡ asked wide 0x14 (drop at bytes.now) }
 {
@@ -328,6 +350,7 @@ fn hardtick(bytes: &[u8], at: usize, wide: bool) -> Request
     }
 }
 
+#[tactic(auto, unfolding(crate::specs::Request::asked, rules::specs::Requests::request, rules::specs::Requests::widths, rules::specs::Requests::widths_or, crate::specs::Request::limits_of, rules::specs::Requests::operands, rules::specs::Requests::nth, crate::specs::Request::request_of))]
 fn stattick(bytes: &[u8], at: usize, wide: bool) -> Request
     ensures { request_of result ≡ asked wide 0x15 (drop at bytes.now) }
 {
@@ -339,6 +362,7 @@ fn stattick(bytes: &[u8], at: usize, wide: bool) -> Request
     }
 }
 
+#[tactic(auto, unfolding(crate::specs::Request::request_of, crate::specs::Request::asked, rules::specs::Requests::request, rules::specs::Requests::nth, rules::specs::Requests::operands, rules::specs::Requests::widths_or, rules::specs::Requests::widths, rules::specs::Requests::operand, crate::specs::Request::limits_of))]
 fn resched(bytes: &[u8], at: usize, wide: bool) -> Request
     ensures { request_of result ≡ asked wide 0x16 (drop at bytes.now) }
 {
@@ -347,6 +371,7 @@ fn resched(bytes: &[u8], at: usize, wide: bool) -> Request
     }
 }
 
+#[tactic(auto, unfolding(crate::specs::Request::request_of, crate::specs::Request::asked, rules::specs::Requests::request, rules::specs::Requests::nth, rules::specs::Requests::operands, rules::specs::Requests::widths_or, rules::specs::Requests::widths, rules::specs::Requests::operand, crate::specs::Request::limits_of))]
 fn maybe_preempt(bytes: &[u8], at: usize, wide: bool) -> Request
     ensures { request_of result ≡ asked wide 0x17 (drop at bytes.now) }
 {
@@ -355,6 +380,7 @@ fn maybe_preempt(bytes: &[u8], at: usize, wide: bool) -> Request
     }
 }
 
+#[tactic(auto, unfolding(crate::specs::Request::asked, rules::specs::Requests::request, rules::specs::Requests::widths, rules::specs::Requests::widths_or, crate::specs::Request::limits_of, rules::specs::Requests::operands, rules::specs::Requests::nth, crate::specs::Request::request_of))]
 fn donate(bytes: &[u8], at: usize, wide: bool) -> Request
     ensures { request_of result ≡ asked wide 0x18 (drop at bytes.now) }
 {
@@ -370,6 +396,7 @@ fn donate(bytes: &[u8], at: usize, wide: bool) -> Request
     }
 }
 
+#[tactic(auto, unfolding(crate::specs::Request::request_of, crate::specs::Request::asked, rules::specs::Requests::request, rules::specs::Requests::nth, rules::specs::Requests::operands, rules::specs::Requests::widths_or, rules::specs::Requests::widths))]
 fn remove_donation(bytes: &[u8], at: usize, wide: bool) -> Request
     ensures { request_of result ≡ asked wide 0x19 (drop at bytes.now) }
 {
@@ -378,6 +405,7 @@ fn remove_donation(bytes: &[u8], at: usize, wide: bool) -> Request
     }
 }
 
+#[tactic(auto, unfolding(crate::specs::Request::asked, rules::specs::Requests::request, rules::specs::Requests::widths, rules::specs::Requests::widths_or, crate::specs::Request::limits_of, rules::specs::Requests::operands, rules::specs::Requests::nth, crate::specs::Request::request_of))]
 fn set_critical(bytes: &[u8], at: usize, wide: bool) -> Request
     ensures { request_of result ≡ asked wide 0x1a (drop at bytes.now) }
 {
@@ -389,6 +417,7 @@ fn set_critical(bytes: &[u8], at: usize, wide: bool) -> Request
 }
 
 // The case of a command byte; the last one stands for every byte that is not in the table.
+#[tactic(auto, using(crate::proofs::Table::last_asked), unfolding(crate::specs::Request::asked, rules::specs::Requests::request, rules::specs::Requests::widths, rules::specs::Requests::widths_or, crate::specs::Request::limits_of, rules::specs::Requests::operands, rules::specs::Requests::nth, crate::specs::Request::request_of, crate::proofs::Table::Apart))]
 fn ask(bytes: &[u8], at: usize, byte: u8, wide: bool) -> Request
     ensures { request_of result ≡ asked wide byte (drop at bytes.now) }
 {
@@ -413,6 +442,7 @@ fn ask(bytes: &[u8], at: usize, byte: u8, wide: bool) -> Request
 }
 
 // The command whose operands begin at `at` and have n bytes.
+#[tactic(auto, using(crate::proofs::Bytes::enough, crate::proofs::Bytes::too_few), unfolding(crate::specs::Request::reading_of, crate::specs::Request::taken))]
 fn take(bytes: &[u8], at: usize, n: usize, byte: u8, wide: bool) -> Reading
     ensures { reading_of result ≡ taken wide byte n (drop at bytes.now) }
 {
@@ -426,6 +456,7 @@ fn take(bytes: &[u8], at: usize, n: usize, byte: u8, wide: bool) -> Reading
 }
 
 // What the bytes from `at` on ask. An operand that names a CPU or a node has two bytes if `wide`, else one.
+#[tactic(auto, using(crate::proofs::Table::read_bytes, crate::proofs::Table::read_unknown), unfolding(crate::specs::Request::reading_of, rules::specs::Requests::read))]
 pub fn read(bytes: &[u8], at: usize, wide: bool) -> Reading
     ensures { reading_of result ≡ read (limits_of wide) (drop at bytes.now) }
 {
@@ -439,12 +470,14 @@ pub fn read(bytes: &[u8], at: usize, wide: bool) -> Reading
     }
 }
 
+#[tactic(auto, unfolding(rules::specs::Questions::at_most, rules::specs::Questions::question))]
 fn at_most(most: u64, n: u64) -> bool
     ensures { result ≡ (at_most most n).answer }
 {
     n <= most
 }
 
+#[tactic(auto, unfolding(rules::specs::Questions::shortest_in_range, rules::specs::Questions::question, rules::specs::Questions::least_shortest, rules::specs::Questions::most_shortest))]
 fn shortest_in_range(ticks: u64) -> bool
     ensures { result ≡ (shortest_in_range ticks).answer }
 {
@@ -454,6 +487,7 @@ fn shortest_in_range(ticks: u64) -> bool
     false
 }
 
+#[tactic(auto, unfolding(rules::specs::Questions::priority_in_range, rules::specs::Questions::question))]
 fn priority_in_range(class: u64, value: u64) -> bool
     ensures { result ≡ (priority_in_range class value).answer }
 {
@@ -464,6 +498,7 @@ fn priority_in_range(class: u64, value: u64) -> bool
 }
 
 // Question 6 as far as it needs no state.
+#[tactic(auto, unfolding(crate::specs::Request::request_of, rules::specs::Questions::question))]
 pub fn in_range(request: Request) -> bool
     ensures { result ≡ (in_range (request_of request)).answer }
 {

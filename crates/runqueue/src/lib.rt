@@ -1,2 +1,4 @@
 // The run queue of one CPU, by value (rq.rs).
+#![tactic(auto)]
+
 pub mod rq;

@@ -19,7 +19,7 @@ use thread::NONE;
 use thread::priority::{class_number, from_raw, less, raw};
 
 // current_priority: what the CPU advertises, raw. load: how many wait; timeshare_load: how many of them in timeshare; movable: how many are not pinned.
-#[derive(Drop)]
+#[derive(Clone, Copy)]
 pub struct RunQueue {
     pub realtime: PriorityQueue,
     pub timeshare: TimeshareQueue,
@@ -32,7 +32,7 @@ pub struct RunQueue {
 }
 
 // What a put is told of the thread. current: it comes in as the current thread; due: its deadline is not past the tick.
-#[derive(Drop)]
+#[derive(Clone, Copy)]
 pub struct Arrival {
     pub thread: u64,
     pub priority: Priority,
@@ -42,7 +42,7 @@ pub struct Arrival {
 }
 
 // behind: whose link the caller must set to the thread that came in, NONE for nobody. part: where it came in; the Rust answers whether that is not idle.
-#[derive(Drop)]
+#[derive(Clone, Copy)]
 pub struct Put {
     pub queue: RunQueue,
     pub behind: u64,
@@ -50,7 +50,7 @@ pub struct Put {
 }
 
 // Who leaves next.
-#[derive(Drop)]
+#[derive(Clone, Copy)]
 pub enum Front {
     At {
         part: Part,
@@ -60,13 +60,14 @@ pub enum Front {
     Nothing,
 }
 
-#[derive(Drop)]
+#[derive(Clone, Copy)]
 pub struct Hardtick {
     pub queue: RunQueue,
     pub ticks: u64,
 }
 
 // What is advertised, raw, once a thread of priority p came in.
+#[tactic(auto, unfolding(crate::specs::RunQueue::raised))]
 pub fn raised(said: u64, p: Priority) -> u64
     ensures { result ≡ raised said p }
 {
@@ -94,6 +95,7 @@ pub fn says(said: u64, class: PriorityClass) -> bool
 }
 
 // What is advertised once a thread has left the realtime part, of which `left` is left.
+#[tactic(auto, unfolding(crate::specs::RunQueue::said_realtime_def))]
 pub fn said_realtime(said: u64, left: PriorityQueue) -> u64
     ensures { result ≡ said_realtime_def said left }
 {
@@ -107,6 +109,7 @@ pub fn said_realtime(said: u64, left: PriorityQueue) -> u64
 }
 
 // The same of the timeshare part.
+#[tactic(auto, unfolding(crate::specs::RunQueue::said_timeshare_def))]
 pub fn said_timeshare(said: u64, left: TimeshareQueue, idle: PriorityQueue) -> u64
     ensures { result ≡ said_timeshare_def said left idle }
 {
@@ -119,6 +122,7 @@ pub fn said_timeshare(said: u64, left: TimeshareQueue, idle: PriorityQueue) -> u
     said
 }
 
+#[tactic(auto, unfolding(queue::specs::Num::sum))]
 pub fn up_unless(x: u64, pinned: bool) -> u64
     ensures { result ≡ (if pinned then x else sum x 1) }
 {
@@ -153,6 +157,7 @@ pub fn user_timeslice(shortest: u64, timeshare_load: u64) -> u64
 
 impl Arrival {
     // The part that the thread goes into.
+    #[tactic(auto, unfolding(rules::specs::Queue::part_of))]
     pub fn part(self) -> Part
         ensures { result ≡ part_of self.priority.class self.due }
     {
@@ -175,6 +180,7 @@ impl Arrival {
 
 impl Front {
     // The thread that leaves, NONE if none does.
+    #[tactic(auto, unfolding(crate::specs::RunQueue::front_thread))]
     pub fn thread(self) -> u64
         ensures { result ≡ front_thread self }
     {
@@ -190,6 +196,7 @@ impl Front {
 }
 
 impl RunQueue {
+    #[tactic(auto, unfolding(crate::specs::RunQueue::no_run_queue))]
     pub fn new() -> Self
         ensures { result ≡ no_run_queue }
     {
@@ -208,6 +215,7 @@ impl RunQueue {
         }
     }
 
+    #[tactic(auto, unfolding(crate::specs::RunQueue::rq_empty))]
     pub fn is_empty(self) -> bool
         ensures { result ≡ rq_empty self }
     {
@@ -242,6 +250,7 @@ impl RunQueue {
     }
 
     // One more waits: what every put does first.
+    #[tactic(auto, unfolding(crate::specs::RunQueue::counted, queue::specs::Num::sum))]
     pub fn counted(mut self, p: Priority, pinned: bool) -> Self
         ensures { result ≡ counted self p pinned }
     {
@@ -251,6 +260,7 @@ impl RunQueue {
         self
     }
 
+    #[tactic(auto, unfolding(crate::specs::RunQueue::rq_insert_realtime, crate::specs::RunQueue::with_realtime, crate::specs::RunQueue::counted))]
     pub fn insert_realtime(self, a: Arrival) -> Put
         ensures { result ≡ rq_insert_realtime self a }
     {
@@ -269,6 +279,7 @@ impl RunQueue {
         }
     }
 
+    #[tactic(auto, unfolding(crate::specs::RunQueue::rq_insert_timeshare, crate::specs::RunQueue::with_timeshare, crate::specs::RunQueue::counted, queue::specs::Num::sum))]
     pub fn insert_timeshare(self, a: Arrival) -> Put
         ensures { result ≡ rq_insert_timeshare self a }
     {
@@ -287,6 +298,7 @@ impl RunQueue {
         }
     }
 
+    #[tactic(auto, unfolding(crate::specs::RunQueue::rq_insert_idle, crate::specs::RunQueue::with_idle, crate::specs::RunQueue::counted))]
     pub fn insert_idle(self, a: Arrival) -> Put
         ensures { result ≡ rq_insert_idle self a }
     {
@@ -305,6 +317,7 @@ impl RunQueue {
         }
     }
 
+    #[tactic(auto, unfolding(crate::specs::RunQueue::rq_front_idle, crate::specs::RunQueue::first_in_def))]
     pub fn front_idle(self) -> Front
         ensures { result ≡ rq_front_idle self }
     {
@@ -320,6 +333,7 @@ impl RunQueue {
         }
     }
 
+    #[tactic(auto, unfolding(crate::specs::RunQueue::rq_front_timeshare, crate::specs::RunQueue::first_in_def))]
     pub fn front_timeshare(self) -> Front
         ensures { result ≡ rq_front_timeshare self }
     {
@@ -335,6 +349,7 @@ impl RunQueue {
         }
     }
 
+    #[tactic(auto, unfolding(crate::specs::RunQueue::rq_front_realtime, crate::specs::RunQueue::first_in_def))]
     pub fn front_realtime(self) -> Front
         ensures { result ≡ rq_front_realtime self }
     {
@@ -351,6 +366,7 @@ impl RunQueue {
     }
 
     // Who leaves if a thread is asked of the queue: the first half of the Rust's `take`.
+    #[tactic(auto, unfolding(crate::specs::RunQueue::rq_front))]
     pub fn front(self, stealing: bool) -> Front
         ensures { result ≡ rq_front self stealing }
     {
@@ -364,6 +380,7 @@ impl RunQueue {
     }
 
     // One less waits: what every take does.
+    #[tactic(auto, unfolding(crate::specs::RunQueue::uncounted))]
     pub fn uncounted(mut self, pinned: bool) -> Self
         ensures { result ≡ uncounted self pinned }
     {
@@ -372,6 +389,7 @@ impl RunQueue {
         self
     }
 
+    #[tactic(auto, unfolding(crate::specs::RunQueue::rq_taken_realtime, crate::specs::RunQueue::advertising, crate::specs::RunQueue::with_realtime, crate::specs::RunQueue::uncounted))]
     pub fn taken_realtime(self, bucket: u64, previous: u64, next: u64, pinned: bool) -> Self
         ensures { result ≡ rq_taken_realtime self bucket previous next pinned }
     {
@@ -383,6 +401,7 @@ impl RunQueue {
         queue
     }
 
+    #[tactic(auto, unfolding(crate::specs::RunQueue::rq_recalc, crate::specs::RunQueue::advertising))]
     pub fn recalc_priority_timeshare(mut self) -> Self
         ensures { result ≡ rq_recalc self }
     {
@@ -392,6 +411,7 @@ impl RunQueue {
         self
     }
 
+    #[tactic(auto, unfolding(crate::specs::RunQueue::rq_taken_timeshare, crate::specs::RunQueue::with_timeshare, crate::specs::RunQueue::uncounted, crate::specs::RunQueue::rq_recalc, crate::specs::RunQueue::advertising))]
     pub fn taken_timeshare(
         self,
         bucket: u64,
@@ -410,6 +430,7 @@ impl RunQueue {
         queue.recalc_priority_timeshare()
     }
 
+    #[tactic(auto, unfolding(crate::specs::RunQueue::rq_taken_idle, crate::specs::RunQueue::advertising, crate::specs::RunQueue::with_idle, crate::specs::RunQueue::uncounted))]
     pub fn taken_idle(self, bucket: u64, previous: u64, next: u64, pinned: bool) -> Self
         ensures { result ≡ rq_taken_idle self bucket previous next pinned }
     {
@@ -432,6 +453,7 @@ impl RunQueue {
         }
     }
 
+    #[tactic(auto, using(rules::specs::Times::timeslice), unfolding(rules::specs::Times::deadline_distance, queue::specs::Num::product))]
     pub fn deadline(self, shortest: u64, class: PriorityClass) -> u64
         ensures { result ≡ deadline_distance shortest class self.timeshare_load self.load % 2 ^ 64 }
     {
@@ -439,6 +461,7 @@ impl RunQueue {
         product(slice, self.load)
     }
 
+    #[tactic(auto, unfolding(crate::specs::RunQueue::rq_clock, crate::specs::RunQueue::with_timeshare))]
     pub fn clock(mut self) -> Self
         ensures { result ≡ rq_clock self }
     {
@@ -448,6 +471,7 @@ impl RunQueue {
         self
     }
 
+    #[tactic(auto, unfolding(crate::specs::RunQueue::rq_hardtick))]
     pub fn hardtick(mut self, now: u64) -> Hardtick
         ensures { result ≡ rq_hardtick self now }
     {

@@ -54,6 +54,7 @@ pub fn run_stolen(threads: &mut [Thread], cpus: &mut [CpuWords], us: u64, cur: u
 }
 
 // The idle thread is switched to, if it does not run already.
+#[tactic(auto, unfolding(crate::specs::Schedule::idle_unless))]
 pub fn idle_unless(cpus: &mut [CpuWords], us: u64, cur: u64)
     ensures { BecomesOne (idle_unless us cur) cpus }
 {
@@ -85,6 +86,7 @@ pub fn pick_next(
 }
 
 // Does the thread running, whose record is t, go back into a queue although it does not yield?
+#[tactic(auto, unfolding(crate::specs::Schedule::must_move_def))]
 pub fn must_move(cpus: &[CpuWords], us: u64, t: Thread, flags: SchedFlags) -> bool
     ensures { result ≡ must_move_def cpus.now us t flags }
 {

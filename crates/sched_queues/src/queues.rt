@@ -16,6 +16,7 @@ use sched_words::time::{moved_to, should_signal};
 use thread::{NONE, Thread};
 use topology::words::NodeWords;
 
+#[tactic(auto, unfolding(crate::specs::Queues::is_nobody))]
 pub fn is_nobody(t: Taken) -> bool
     ensures { result ≡ is_nobody t }
 {
@@ -26,6 +27,7 @@ pub fn is_nobody(t: Taken) -> bool
 }
 
 // The thread that was handed out.
+#[tactic(auto, unfolding(crate::specs::Queues::thread_of))]
 pub fn thread_of(t: Taken) -> u64
     ensures { result ≡ thread_of t }
 {

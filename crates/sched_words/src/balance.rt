@@ -15,7 +15,7 @@ use topology::words::NodeWords;
 pub const MAX_STEPS: u64 = 20;
 
 // The CPUs still allowed, the steps made, whether it goes on, and whether a thread moves from the donor to the recipient.
-#[derive(Drop)]
+#[derive(Clone, Copy)]
 pub struct Balancing {
     pub allowed: CpuSet,
     pub steps: u64,
@@ -26,6 +26,7 @@ pub struct Balancing {
 }
 
 impl Balancing {
+    #[tactic(auto, unfolding(crate::specs::Balance::begun))]
     pub fn begun() -> Self
         ensures { result ≡ begun }
     {
@@ -41,6 +42,7 @@ impl Balancing {
     }
 
     // The move was made.
+    #[tactic(auto, unfolding(crate::specs::Balance::moved))]
     pub fn again(mut self) -> Self
         ensures { result ≡ moved self }
     {
@@ -49,6 +51,7 @@ impl Balancing {
     }
 
     // A choice that changes nothing more: one step.
+    #[tactic(auto, unfolding(crate::specs::Balance::passed, queue::specs::Num::sum))]
     pub fn passed(mut self) -> Self
         ensures { result ≡ passed self }
     {
@@ -56,6 +59,7 @@ impl Balancing {
         self
     }
 
+    #[tactic(auto, unfolding(crate::specs::Balance::stopped))]
     pub fn stopped(mut self) -> Self
         ensures { result ≡ stopped self }
     {
@@ -64,6 +68,7 @@ impl Balancing {
     }
 
     // A choice after which CPU c is no longer allowed.
+    #[tactic(auto, unfolding(crate::specs::Balance::without, queue::specs::Num::sum))]
     pub fn without(mut self, c: u64) -> Self
         ensures { result ≡ without self c }
     {
@@ -75,6 +80,7 @@ impl Balancing {
     }
 
     // A move costs its choice and ten more steps, eleven of twenty.
+    #[tactic(auto, unfolding(crate::specs::Balance::moving, queue::specs::Num::sum))]
     pub fn moving(mut self, donor: u64, recipient: u64) -> Self
         ensures { result ≡ moving self donor recipient }
     {
@@ -89,6 +95,7 @@ impl Balancing {
     }
 
     // Is there nothing more to choose before the thread has moved?
+    #[tactic(auto, unfolding(crate::specs::Balance::is_done))]
     pub fn is_done(self) -> bool
         ensures { result ≡ is_done self }
     {
@@ -102,6 +109,7 @@ impl Balancing {
     }
 
     // What a choice comes to. load includes the donor's running thread, waiting is its queue's load; hands: its queue hands out a thread.
+    #[tactic(auto, unfolding(crate::specs::Balance::outcome))]
     pub fn outcome(self, donor: u64, recipient: u64, load: u64, waiting: u64, hands: bool) -> Self
         ensures { result ≡ outcome self donor recipient load waiting hands }
     {
@@ -118,6 +126,7 @@ impl Balancing {
     }
 }
 
+#[tactic(auto, unfolding(crate::specs::Balance::is_somebody))]
 fn is_somebody(front: Front) -> bool
     ensures { result ≡ is_somebody front }
 {
@@ -132,6 +141,7 @@ fn is_somebody(front: Front) -> bool
 }
 
 // Does the queue of the donor hand out a thread to the recipient?
+#[tactic(auto, unfolding(crate::specs::Balance::hands_out))]
 pub fn hands_out(cpus: &[CpuWords], donor: u64, recipient: u64) -> bool
     ensures { result ≡ hands_out cpus.now donor recipient }
 {
@@ -141,6 +151,7 @@ pub fn hands_out(cpus: &[CpuWords], donor: u64, recipient: u64) -> bool
 }
 
 // A pair was chosen: a donor with no load ends it, before it is marked.
+#[tactic(auto, unfolding(crate::specs::Balance::pair_step))]
 pub fn balance_pair(cpus: &mut [CpuWords], b: Balancing, donor: u64, recipient: u64) -> Balancing
     ensures { (result ≡ (pair_step cpus.old b donor recipient).balancing)
         × (cpus.new ≡ (pair_step cpus.old b donor recipient).cpus) }
@@ -156,6 +167,7 @@ pub fn balance_pair(cpus: &mut [CpuWords], b: Balancing, donor: u64, recipient: 
 }
 
 // One choice, with its draws.
+#[tactic(auto, using(crate::specs::Balance::step_cpus, crate::specs::Balance::step_nothing))]
 pub fn balance_step(
     cpus: &mut [CpuWords],
     nodes: &[NodeWords],
@@ -178,6 +190,7 @@ pub fn balance_step(
 }
 
 // Choices until one moves a thread or it ends: at most twenty.
+#[tactic(auto, using(crate::specs::Balance::found_done, crate::specs::Balance::found_next, crate::specs::Balance::found_out, crate::specs::Balance::length_step))]
 pub fn find_move(
     cpus: &mut [CpuWords],
     nodes: &[NodeWords],

@@ -10,6 +10,7 @@ use thread::Thread;
 use thread::time::{OptionCpu, Preferred};
 use topology::words::NodeWords;
 
+#[tactic(auto, unfolding(crate::specs::Choose::preferred_of_def))]
 pub fn preferred_of(p: Preferred) -> OptionCpu
     ensures { result ≡ preferred_of_def p }
 {
@@ -21,6 +22,7 @@ pub fn preferred_of(p: Preferred) -> OptionCpu
 }
 
 // `select_cpu` for the thread; its draws are those of CPU us.
+#[tactic(auto, unfolding(crate::specs::Choose::select_for, crate::specs::Choose::selected_for))]
 pub fn select_for(
     cpus: &mut [CpuWords],
     nodes: &[NodeWords],
@@ -39,6 +41,7 @@ pub fn select_for(
 }
 
 // Where the thread running goes back into a queue: another CPU if this one must rebalance.
+#[tactic(auto, unfolding(crate::specs::Choose::reinsert_at_def))]
 pub fn reinsert_at(
     cpus: &mut [CpuWords],
     nodes: &[NodeWords],
@@ -56,6 +59,7 @@ pub fn reinsert_at(
 }
 
 // The CPU from which CPU us steals, looking from its own node upward.
+#[tactic(auto, unfolding(crate::specs::Choose::steal_from_def))]
 pub fn steal_from(cpus: &[CpuWords], nodes: &[NodeWords], us: u64, limit: u64) -> OptionCpu
     ensures { result ≡ steal_from_def cpus.now nodes.now us limit }
 {

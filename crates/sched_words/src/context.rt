@@ -1,7 +1,7 @@
 // What a command's functions are told.
 
 // us: the CPU that runs the command; shortest: the shortest User timeslice; limit: CPU numbers are below it.
-#[derive(Drop)]
+#[derive(Clone, Copy)]
 pub struct Context {
     pub us: u64,
     pub tick: u64,
@@ -10,7 +10,7 @@ pub struct Context {
 }
 
 // The flags of `schedule`.
-#[derive(Drop)]
+#[derive(Clone, Copy)]
 pub struct SchedFlags {
     pub yields: bool,
     pub preempt: bool,
@@ -18,7 +18,7 @@ pub struct SchedFlags {
 }
 
 // The CPU chosen for a thread, and the wake-ups.
-#[derive(Drop)]
+#[derive(Clone, Copy)]
 pub struct Scheduled {
     pub cpu: u64,
     pub wakeups: u64,

@@ -12,6 +12,7 @@ use thread::priority::{Donation, less};
 use thread::time::OptionCpu;
 
 // Is CPU c signalled for a thread with this record? If somebody waits there and it advertises more than the thread's priority.
+#[tactic(auto, unfolding(crate::specs::Donate::wakeup_due))]
 pub fn wakeup_due(cpus: &[CpuWords], c: u64, t: Thread) -> bool
     ensures { result ≡ wakeup_due cpus.now c t }
 {
@@ -24,6 +25,7 @@ pub fn wakeup_due(cpus: &[CpuWords], c: u64, t: Thread) -> bool
     less(own, said)
 }
 
+#[tactic(auto, unfolding(crate::specs::Donate::woken_in))]
 pub fn maybe_wakeup(cpus: &[CpuWords], us: u64, c: u64, t: Thread, wakeups: u64) -> u64
     ensures { result ≡ woken_in cpus.now us c t wakeups }
 {
@@ -32,6 +34,7 @@ pub fn maybe_wakeup(cpus: &[CpuWords], us: u64, c: u64, t: Thread, wakeups: u64)
 }
 
 // The CPU in whose queue the thread was put is signalled, if there is one.
+#[tactic(auto, unfolding(crate::specs::Donate::maybe_reschedule))]
 pub fn maybe_reschedule_thread(cpus: &[CpuWords], us: u64, t: Thread, wakeups: u64) -> u64
     ensures { result ≡ maybe_reschedule cpus.now us t wakeups (cpu_in t.current_processor_queue) }
 {
@@ -43,6 +46,7 @@ pub fn maybe_reschedule_thread(cpus: &[CpuWords], us: u64, t: Thread, wakeups: u
 }
 
 // What a donation to thread x signals: nobody if it does not raise the thread, or the thread runs on CPU us itself.
+#[tactic(auto, unfolding(crate::specs::Donate::donation_signals))]
 pub fn signal_donation(cpus: &[CpuWords], us: u64, x: u64, d: Donation, wakeups: u64) -> u64
     ensures { result ≡ donation_signals cpus.now us x d wakeups }
 {

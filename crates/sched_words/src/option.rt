@@ -5,6 +5,7 @@ ghost use Rattle.sched_words.specs.Option.{is_none, cpu_of_def};
 use thread::NONE;
 use thread::time::OptionCpu;
 
+#[tactic(auto, unfolding(crate::specs::Option::is_none))]
 pub fn is_none(c: OptionCpu) -> bool
     ensures { result ≡ is_none c }
 {
@@ -15,6 +16,7 @@ pub fn is_none(c: OptionCpu) -> bool
 }
 
 // The number of a CPU that there is.
+#[tactic(auto, unfolding(crate::specs::Option::cpu_of_def))]
 pub fn cpu_of(c: OptionCpu) -> u64
     ensures { result ≡ cpu_of_def c }
 {

@@ -14,6 +14,7 @@ use thread::time::Paid;
 use thread::{NONE, Thread, blank};
 
 // Is what is advertised above this priority; with eq, or equal to it?
+#[tactic(auto, unfolding(crate::specs::Preempt::higher))]
 pub fn higher(said: Priority, own: Priority, eq: bool) -> bool
     ensures { result ≡ higher said own eq }
 {
@@ -26,6 +27,7 @@ pub fn higher(said: Priority, own: Priority, eq: bool) -> bool
     false
 }
 
+#[tactic(auto, unfolding(crate::specs::Preempt::rq_has_higher))]
 pub fn rq_has_higher(cpus: &[CpuWords], us: u64, t: Thread, eq: bool) -> bool
     ensures { result ≡ rq_has_higher cpus.now us t eq }
 {
@@ -36,6 +38,7 @@ pub fn rq_has_higher(cpus: &[CpuWords], us: u64, t: Thread, eq: bool) -> bool
 }
 
 // Does the thread running, whose record is t, have to give way?
+#[tactic(auto, unfolding(crate::specs::Preempt::needs_reschedule_def))]
 pub fn needs_reschedule(cpus: &[CpuWords], us: u64, t: Thread, ticking: bool) -> bool
     ensures { result ≡ needs_reschedule_def cpus.now us t ticking }
 {
@@ -56,6 +59,7 @@ pub fn schedule_mark_preempt(cpus: &mut [CpuWords], us: u64)
 }
 
 // The mark, which is then cleared.
+#[tactic(auto, unfolding(crate::specs::Preempt::swapped))]
 pub fn swap_preempt(cpus: &mut [CpuWords], us: u64) -> bool
     ensures { (result ≡ (swapped cpus.old us).mark) × (cpus.new ≡ (swapped cpus.old us).cpus) }
 {
@@ -67,6 +71,7 @@ pub fn swap_preempt(cpus: &mut [CpuWords], us: u64) -> bool
 }
 
 // The timeslice that a thread with this record is allowed on CPU us.
+#[tactic(auto, unfolding(crate::specs::Preempt::allowed_at))]
 pub fn allowed(cpus: &[CpuWords], us: u64, shortest: u64, t: Thread) -> u64
     ensures { result ≡ allowed_at cpus.now us shortest t }
 {
@@ -85,6 +90,7 @@ pub fn pay(cpus: &[CpuWords], us: u64, shortest: u64, t: Thread, ticks: u64) -> 
 }
 
 // The record of the idle thread with what it has paid.
+#[tactic(auto, unfolding(crate::specs::Preempt::idle_payer, thread::specs::Thread::with_timeslice))]
 pub fn idle_payer(cpus: &[CpuWords], us: u64) -> Thread
     ensures { result ≡ idle_payer cpus.now us }
 {
@@ -95,6 +101,7 @@ pub fn idle_payer(cpus: &[CpuWords], us: u64) -> Thread
 }
 
 // The idle thread pays: does its timeslice expire?
+#[tactic(auto, unfolding(crate::specs::Preempt::idle_paid))]
 pub fn pay_idle(cpus: &mut [CpuWords], us: u64, shortest: u64, ticks: u64) -> bool
     ensures { (result ≡ (idle_paid cpus.old us shortest ticks).mark) × (cpus.new ≡ (idle_paid cpus.old us shortest ticks).cpus) }
 {
@@ -106,6 +113,7 @@ pub fn pay_idle(cpus: &mut [CpuWords], us: u64, shortest: u64, ticks: u64) -> bo
 }
 
 // The mark is set if the thread running has to give way or its timeslice expired.
+#[tactic(auto, unfolding(crate::specs::Preempt::expires, crate::specs::Preempt::marked))]
 pub fn expire(cpus: &mut [CpuWords], us: u64, resched: bool, expired: bool)
     ensures { cpus.new ≡ expires cpus.old us resched expired }
 {
@@ -119,6 +127,7 @@ pub fn expire(cpus: &mut [CpuWords], us: u64, resched: bool, expired: bool)
 }
 
 // The mark is set if the CPU is idle or its thread, whose record is t, has to give way.
+#[tactic(auto, unfolding(crate::specs::Preempt::rescheds, crate::specs::Preempt::marked))]
 pub fn resched(cpus: &mut [CpuWords], us: u64, t: Thread)
     ensures { cpus.new ≡ rescheds cpus.old us t }
 {

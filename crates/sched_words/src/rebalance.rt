@@ -8,6 +8,7 @@ use processor::words::{CUR_REBALANCE_TIME, CpuWords, put_word, word};
 pub const REBALANCE_TIME: u64 = 1000000000;
 
 // The time until CPU us balances passes by dt: is it over? Then it is drawn anew.
+#[tactic(auto, unfolding(crate::specs::Rebalance::time_passed))]
 pub fn pass_time(cpus: &mut [CpuWords], us: u64, dt: u64) -> bool
     ensures { (result ≡ (time_passed cpus.old us dt).mark) × (cpus.new ≡ (time_passed cpus.old us dt).cpus) }
 {
@@ -27,6 +28,7 @@ pub fn pass_time(cpus: &mut [CpuWords], us: u64, dt: u64) -> bool
 }
 
 // Only the boot CPU balances.
+#[tactic(auto, unfolding(crate::specs::Rebalance::rebalance_due))]
 pub fn rebalance_due(cpus: &mut [CpuWords], us: u64, dt: u64) -> bool
     ensures { (result ≡ (rebalance_due cpus.old us dt).mark) × (cpus.new ≡ (rebalance_due cpus.old us dt).cpus) }
 {

@@ -9,6 +9,7 @@ use thread::priority::raw;
 use thread::{NONE, Thread};
 
 // The thread that CPU c runs; NONE: its idle thread.
+#[tactic(auto, unfolding(crate::specs::Running::running_at))]
 pub fn running(cpus: &[CpuWords], c: u64) -> u64
     ensures { result ≡ running_at cpus.now c }
 {
@@ -40,6 +41,7 @@ pub fn reset_rebalance(cpus: &mut [CpuWords], c: u64)
 }
 
 // Does its mark ask for another CPU for the thread running?
+#[tactic(auto, unfolding(crate::specs::Running::must_rebalance_def))]
 pub fn must_rebalance(cpus: &[CpuWords], c: u64) -> bool
     ensures { result ≡ must_rebalance_def cpus.now c }
 {
@@ -47,6 +49,7 @@ pub fn must_rebalance(cpus: &[CpuWords], c: u64) -> bool
 }
 
 // CPU c runs thread x, whose record is t.
+#[tactic(auto, unfolding(crate::specs::Running::ran_by_def))]
 pub fn run_thread(cpus: &mut [CpuWords], c: u64, x: u64, t: Thread)
     ensures { cpus.new ≡ ran_by_def cpus.old c x t }
 {
@@ -59,6 +62,7 @@ pub fn run_thread(cpus: &mut [CpuWords], c: u64, x: u64, t: Thread)
 }
 
 // CPU c runs its idle thread.
+#[tactic(auto, unfolding(crate::specs::Running::ran_idle_def))]
 pub fn run_idle(cpus: &mut [CpuWords], c: u64)
     ensures { cpus.new ≡ ran_idle_def cpus.old c }
 {

@@ -9,6 +9,7 @@ use thread::Thread;
 use thread::priority::at_most;
 
 // The deadline of a thread of this class that goes into the queue of CPU c now.
+#[tactic(auto, unfolding(crate::specs::Time::deadline_at, queue::specs::Num::sum))]
 pub fn deadline(cpus: &[CpuWords], c: u64, tick: u64, shortest: u64, class: PriorityClass) -> u64
     ensures { result ≡ deadline_at cpus.now c tick shortest class }
 {
@@ -18,6 +19,7 @@ pub fn deadline(cpus: &[CpuWords], c: u64, tick: u64, shortest: u64, class: Prio
 }
 
 // The deadline is set anew, and nothing is paid of the timeslice.
+#[tactic(auto, unfolding(crate::specs::Time::reset_time_def))]
 pub fn reset_time(cpus: &[CpuWords], c: u64, tick: u64, shortest: u64, t: Thread) -> Thread
     ensures { result ≡ reset_time_def cpus.now c tick shortest t }
 {
@@ -29,6 +31,7 @@ pub fn reset_time(cpus: &[CpuWords], c: u64, tick: u64, shortest: u64, t: Thread
 }
 
 // The record of a thread that is about to go into the queue of CPU c.
+#[tactic(auto, unfolding(crate::specs::Time::moved_to))]
 pub fn moved_to(cpus: &[CpuWords], c: u64, tick: u64, shortest: u64, t: Thread) -> Thread
     ensures { result ≡ moved_to cpus.now c tick shortest t }
 {
@@ -37,6 +40,7 @@ pub fn moved_to(cpus: &[CpuWords], c: u64, tick: u64, shortest: u64, t: Thread) 
 }
 
 // Is CPU c signalled when CPU us puts the thread into its queue?
+#[tactic(auto, unfolding(crate::specs::Time::should_signal_def))]
 pub fn should_signal(cpus: &[CpuWords], us: u64, c: u64, t: Thread) -> bool
     ensures { result ≡ should_signal_def cpus.now us c t }
 {

@@ -1,4 +1,6 @@
 // The static library: what a C or Rust program calls. A slice passes as a pointer and a length, a struct as C lays it out.
+#![tactic(auto)]
+
 pub mod numbers;
 
 ghost use Rattle.std.specs.Prelude.{◌≡◌};

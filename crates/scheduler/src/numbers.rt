@@ -12,7 +12,7 @@ use stream::start::Started;
 
 // A number of a line, or `-` where it is not shown.
 #[repr(C)]
-#[derive(Drop)]
+#[derive(Clone, Copy)]
 pub struct Column {
     pub shown: bool,
     pub number: u64,
@@ -20,7 +20,7 @@ pub struct Column {
 
 // The thread that a CPU runs, its idle thread, or `-` where neither is shown.
 #[repr(C)]
-#[derive(Drop)]
+#[derive(Clone, Copy)]
 pub struct Runs {
     pub shown: bool,
     pub idle: bool,
@@ -29,7 +29,7 @@ pub struct Runs {
 
 // What a line shows behind its number.
 #[repr(C)]
-#[derive(Drop)]
+#[derive(Clone, Copy)]
 pub struct Row {
     pub refusal: u64,
     pub cpu: Column,
@@ -40,7 +40,7 @@ pub struct Row {
 
 // What a command answers: its row, the bytes that it took, and the state for the next call.
 #[repr(C)]
-#[derive(Drop)]
+#[derive(Clone, Copy)]
 pub struct Step {
     pub row: Row,
     pub used: usize,
@@ -49,7 +49,7 @@ pub struct Step {
 
 // What the start answers: the state, where there is room.
 #[repr(C)]
-#[derive(Drop)]
+#[derive(Clone, Copy)]
 pub struct Begun {
     pub ready: bool,
     pub state: State,
@@ -57,12 +57,13 @@ pub struct Begun {
 
 // The bytes of a line that were written, or refusal 11.
 #[repr(C)]
-#[derive(Drop)]
+#[derive(Clone, Copy)]
 pub struct Written {
     pub refusal: u64,
     pub bytes: usize,
 }
 
+#[tactic(auto, unfolding(crate::specs::Numbers::column_of))]
 fn column_of(shown: Shown) -> Column
     ensures { result ≡ column_of shown }
 {
@@ -78,6 +79,7 @@ fn column_of(shown: Shown) -> Column
     }
 }
 
+#[tactic(auto, unfolding(crate::specs::Numbers::shown_in))]
 fn shown_in(column: Column) -> Shown
     ensures { result ≡ shown_in column }
 {
@@ -87,6 +89,7 @@ fn shown_in(column: Column) -> Shown
     Shown::Dash
 }
 
+#[tactic(auto, unfolding(crate::specs::Numbers::runs_of))]
 fn runs_of(running: Running) -> Runs
     ensures { result ≡ runs_of running }
 {
@@ -109,6 +112,7 @@ fn runs_of(running: Running) -> Runs
     }
 }
 
+#[tactic(auto, unfolding(crate::specs::Numbers::running_in))]
 fn running_in(runs: Runs) -> Running
     ensures { result ≡ running_in runs }
 {
@@ -122,6 +126,7 @@ fn running_in(runs: Runs) -> Running
 }
 
 // The refusal of a number; any number past 10 but 12 counts as 11.
+#[tactic(auto, unfolding(outcome::specs::Call::refusal_back))]
 fn refusal_in(number: u64) -> Refusal
     ensures { result ≡ refusal_back number }
 {
@@ -142,6 +147,7 @@ fn refusal_in(number: u64) -> Refusal
     }
 }
 
+#[tactic(auto, unfolding(crate::specs::Numbers::row_of))]
 fn row_of(answer: Answer) -> Row
     ensures { result ≡ row_of answer }
 {
@@ -159,6 +165,7 @@ fn row_of(answer: Answer) -> Row
     }
 }
 
+#[tactic(auto, unfolding(crate::specs::Numbers::answer_in))]
 pub fn answer_in(row: Row) -> Answer
     ensures { result ≡ answer_in row }
 {
@@ -175,6 +182,7 @@ pub fn answer_in(row: Row) -> Answer
     }
 }
 
+#[tactic(auto, unfolding(crate::specs::Numbers::step_of))]
 pub fn step_of(a: Answered) -> Step
     ensures { result ≡ step_of a }
 {
@@ -187,6 +195,7 @@ pub fn step_of(a: Answered) -> Step
     }
 }
 
+#[tactic(auto, unfolding(crate::specs::Numbers::no_state))]
 fn no_state() -> State
     ensures { result ≡ no_state }
 {
@@ -202,6 +211,7 @@ fn no_state() -> State
     }
 }
 
+#[tactic(auto, unfolding(crate::specs::Numbers::begun_of))]
 pub fn begun_of(started: Started) -> Begun
     ensures { result ≡ begun_of started }
 {
@@ -214,6 +224,7 @@ pub fn begun_of(started: Started) -> Begun
     }
 }
 
+#[tactic(auto, unfolding(crate::specs::Numbers::refused_with))]
 fn refused(refusal: Refusal) -> Written
     ensures { result ≡ refused_with (refusal_number refusal) }
 {
@@ -223,6 +234,7 @@ fn refused(refusal: Refusal) -> Written
     }
 }
 
+#[tactic(auto, unfolding(crate::specs::Numbers::written_of))]
 pub fn written_of(rendered: Rendered) -> Written
     ensures { result ≡ written_of rendered }
 {
@@ -232,6 +244,7 @@ pub fn written_of(rendered: Rendered) -> Written
     }
 }
 
+#[tactic(auto, unfolding(crate::specs::Numbers::wrote_of, writer::specs::Writer::written_of))]
 pub fn wrote_of(written: writer::Written) -> Written
     ensures { result ≡ wrote_of (answer_of written) }
 {

@@ -23,7 +23,7 @@ pub const LAST_NUMBER: u64 = 4294967294;
 
 // The bytes of the block that were taken, the bytes of output, the number of the next command, the refused ones, the phase, and the state.
 #[repr(C)]
-#[derive(Drop)]
+#[derive(Clone, Copy)]
 pub struct Progress {
     pub at: usize,
     pub done: usize,
@@ -34,6 +34,7 @@ pub struct Progress {
 }
 
 // A run that begins.
+#[tactic(auto, unfolding(crate::specs::Progress::begin))]
 pub fn begin(state: State) -> Progress
     ensures { result ≡ begin state }
 {
@@ -48,6 +49,7 @@ pub fn begin(state: State) -> Progress
 }
 
 // Are there bytes of a next command, and room for its line?
+#[tactic(auto, unfolding(crate::specs::Progress::can_answer))]
 pub fn can_answer(output: &[u8], n: usize, f: Progress) -> bool
     ensures { result ≡ can_answer output.now n f }
 {
@@ -60,6 +62,7 @@ pub fn can_answer(output: &[u8], n: usize, f: Progress) -> bool
 }
 
 // A command cut short waits for the next block, unless this is the last.
+#[tactic(auto, unfolding(crate::specs::Progress::must_wait))]
 pub fn must_wait(last: bool, reading: Reading) -> bool
     ensures { result ≡ must_wait last reading }
 {
@@ -70,6 +73,7 @@ pub fn must_wait(last: bool, reading: Reading) -> bool
     }
 }
 
+#[tactic(auto, unfolding(crate::specs::Progress::written))]
 fn written(rendered: Rendered) -> usize
     ensures { result ≡ written rendered }
 {
@@ -80,6 +84,7 @@ fn written(rendered: Rendered) -> usize
 }
 
 // "Refusals 1 and 2 end the run, as does command number 4,294,967,294."
+#[tactic(auto, unfolding(crate::specs::Progress::ends_by, rules::specs::Lines::last_number))]
 fn ends(number: u64, refusal: u64) -> bool
     ensures { result ≡ ends_by number refusal }
 {
@@ -92,6 +97,7 @@ fn ends(number: u64, refusal: u64) -> bool
     number == LAST_NUMBER
 }
 
+#[tactic(auto, unfolding(crate::specs::Progress::phase_after))]
 fn phase_after(ended: bool) -> u64
     ensures { result ≡ phase_after ended }
 {
@@ -101,6 +107,7 @@ fn phase_after(ended: bool) -> u64
     COMMANDS
 }
 
+#[tactic(auto, unfolding(crate::specs::Progress::at_least_one))]
 fn at_least_one(used: usize) -> usize
     ensures { result ≡ at_least_one used }
 {
@@ -111,6 +118,7 @@ fn at_least_one(used: usize) -> usize
 }
 
 // Where the next command begins: at the end where this one ends the run.
+#[tactic(auto, unfolding(crate::specs::Progress::next_at))]
 fn next_at(n: usize, at: usize, used: usize, ended: bool) -> usize
     ensures { result ≡ next_at n at used ended }
 {
@@ -127,6 +135,7 @@ fn next_at(n: usize, at: usize, used: usize, ended: bool) -> usize
     n
 }
 
+#[tactic(auto, unfolding(crate::specs::Progress::one_if))]
 fn one_if(refusal: u64) -> u64
     ensures { result ≡ one_if refusal }
 {
@@ -137,6 +146,7 @@ fn one_if(refusal: u64) -> u64
 }
 
 // What a command with this answer leaves, once so many bytes of output are written.
+#[tactic(auto, unfolding(crate::specs::Progress::counted))]
 fn counted(n: usize, a: Answered, f: Progress, done: usize) -> Progress
     ensures { result ≡ counted n a f done }
 {
@@ -156,6 +166,7 @@ fn counted(n: usize, a: Answered, f: Progress, done: usize) -> Progress
 }
 
 // The line of a command is written, and the run goes on behind it.
+#[tactic(auto, unfolding(crate::specs::Progress::answered_fed))]
 pub fn answered(output: &mut [u8], n: usize, a: Answered, f: Progress) -> Progress
     ensures { (result ≡ answered_fed output.old n a f) × (output.new ≡ buffer_with output.old f.done (line f.number (answer_of a.answer))) }
 {
@@ -165,6 +176,7 @@ pub fn answered(output: &mut [u8], n: usize, a: Answered, f: Progress) -> Progre
     counted(n, a, f, done)
 }
 
+#[tactic(auto, unfolding(crate::specs::Progress::with_output))]
 fn with_output(mut f: Progress, done: usize, phase: u64) -> Progress
     ensures { result ≡ with_output f done phase }
 {
@@ -174,6 +186,7 @@ fn with_output(mut f: Progress, done: usize, phase: u64) -> Progress
 }
 
 // A block begins: nothing of it is taken, and the output is empty.
+#[tactic(auto, unfolding(crate::specs::Progress::at_start))]
 fn at_start(mut f: Progress) -> Progress
     ensures { result ≡ at_start f }
 {
@@ -183,6 +196,7 @@ fn at_start(mut f: Progress) -> Progress
 }
 
 // A block begins; the header is written if it is due and there is room.
+#[tactic(auto, unfolding(crate::specs::Progress::opened_fed, crate::specs::Progress::opened_out))]
 pub fn opened(output: &mut [u8], fed: Progress) -> Progress
     ensures { (result ≡ opened_fed output.old fed) × (output.new ≡ opened_out output.old fed) }
 {
@@ -197,6 +211,7 @@ pub fn opened(output: &mut [u8], fed: Progress) -> Progress
 }
 
 // Is the end line due? Where the run has ended, or the last block has no more commands.
+#[tactic(auto, unfolding(crate::specs::Progress::due))]
 fn due(n: usize, last: bool, f: Progress) -> bool
     ensures { result ≡ due n last f }
 {
@@ -212,6 +227,7 @@ fn due(n: usize, last: bool, f: Progress) -> bool
 }
 
 // The end line is written if it is due and there is room.
+#[tactic(auto, unfolding(crate::specs::Progress::closed_fed, crate::specs::Progress::closed_out))]
 pub fn closed(output: &mut [u8], n: usize, last: bool, f: Progress) -> Progress
     ensures { (result ≡ closed_fed output.old n last f) × (output.new ≡ closed_out output.old n last f) }
 {

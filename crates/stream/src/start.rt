@@ -22,13 +22,14 @@ pub const MAX_NODES: u64 = 128;
 
 pub const SHORTEST: u64 = 2;
 
-#[derive(Drop)]
+#[derive(Clone, Copy)]
 pub enum Started {
     Ready(State),
     NoRoom,
 }
 
 // Its places and marks: undeclared, on no node, its idle thread running.
+#[tactic(auto, unfolding(crate::specs::Start::new_marks))]
 fn new_marks(cpus: &mut [CpuWords], c: u64)
     ensures { cpus.new ≡ new_marks cpus.old c }
 {
@@ -39,6 +40,7 @@ fn new_marks(cpus: &mut [CpuWords], c: u64)
     put_word(cpus, c, IS_IDLE, 1);
 }
 
+#[tactic(auto, unfolding(crate::specs::Start::new_numbers))]
 fn new_numbers(cpus: &mut [CpuWords], c: u64)
     ensures { cpus.new ≡ new_numbers cpus.old c }
 {
@@ -49,6 +51,7 @@ fn new_numbers(cpus: &mut [CpuWords], c: u64)
     put_word(cpus, c, IDLE_TIMESLICE, 0);
 }
 
+#[tactic(auto, unfolding(crate::specs::Start::new_cpu_def))]
 fn new_cpu(cpus: &mut [CpuWords], c: u64)
     ensures { cpus.new ≡ new_cpu_def cpus.old c }
 {
@@ -58,6 +61,7 @@ fn new_cpu(cpus: &mut [CpuWords], c: u64)
 }
 
 // The CPUs below the limit; words past it are kept.
+#[tactic(auto, using(crate::proofs::Starting::every_cpu, crate::proofs::Starting::one_cpu_more), unfolding(crate::specs::Start::new_cpus))]
 fn new_cpus(cpus: &mut [CpuWords])
     ensures { cpus.new ≡ new_cpus 64 cpus.old }
 {
@@ -68,6 +72,7 @@ fn new_cpus(cpus: &mut [CpuWords])
     }
 }
 
+#[tactic(auto, unfolding(crate::specs::Start::no_room_def))]
 fn no_room(cpus: &[CpuWords], nodes: &[NodeWords], threads: usize) -> bool
     ensures { result ≡ no_room_def threads (length cpus.now) (length nodes.now) }
 {
@@ -86,6 +91,7 @@ fn refused() -> Started
     Started::NoRoom
 }
 
+#[tactic(auto, unfolding(crate::specs::Start::initial))]
 fn ready() -> Started
     ensures { result ≡ Started.Ready initial }
 {

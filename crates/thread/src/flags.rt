@@ -4,12 +4,14 @@ ghost use Rattle.thread.specs.Flags.{has_donated_priority, set_donated_priority,
 
 pub const THREAD_HAS_DONATED_PRIORITY: u64 = 2;
 
+#[tactic(auto, unfolding(crate::specs::Flags::has_donated_priority))]
 pub fn has_donated_priority(flags: u64) -> bool
     ensures { result ≡ has_donated_priority flags }
 {
     flags / THREAD_HAS_DONATED_PRIORITY % 2 == 1
 }
 
+#[tactic(auto, unfolding(crate::specs::Flags::set_donated_priority, crate::specs::Flags::has_donated_priority))]
 pub fn set_donated_priority(flags: u64) -> u64
     ensures { result ≡ set_donated_priority flags }
 {
@@ -19,6 +21,7 @@ pub fn set_donated_priority(flags: u64) -> u64
     flags + THREAD_HAS_DONATED_PRIORITY
 }
 
+#[tactic(auto, unfolding(crate::specs::Flags::has_donated_priority, crate::specs::Flags::reset_donated_priority))]
 pub fn reset_donated_priority(flags: u64) -> u64
     ensures { result ≡ reset_donated_priority flags }
 {

@@ -1,4 +1,6 @@
 // The record of one thread, with the numbers that the Rust keeps in its atomics.
+#![tactic(auto)]
+
 pub mod flags;
 pub mod place;
 pub mod priority;
@@ -23,7 +25,7 @@ pub const RUNNING: u64 = 2;
 pub const WAITING: u64 = 3;
 
 #[repr(C)]
-#[derive(Drop)]
+#[derive(Clone, Copy)]
 pub struct Thread {
     pub priority: u64,
     pub donated_priority: u64,

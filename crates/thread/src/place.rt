@@ -9,7 +9,7 @@ use crate::time::field_of;
 use crate::{BLOCKED, NO_DONATION, NONE, RUNNING, Thread, WAITING};
 use rules::Priority;
 
-#[derive(Drop)]
+#[derive(Clone, Copy)]
 pub enum Place {
     Undeclared,
     Blocked,
@@ -18,6 +18,7 @@ pub enum Place {
 }
 
 // The place that a number says: any number of no other place is Undeclared.
+#[tactic(auto, unfolding(crate::specs::Place::place_in))]
 pub fn place_in(number: u64) -> Place
     ensures { result ≡ place_in number }
 {
@@ -31,6 +32,7 @@ pub fn place_in(number: u64) -> Place
 
 impl Thread {
     // A declared thread, blocked, of this priority, pinned to this CPU; NONE pins it to none.
+    #[tactic(auto, using(crate::specs::Time::stored_field), unfolding(crate::specs::Place::new))]
     pub fn new(priority: Priority, pin: u64) -> Self
         ensures { result ≡ new priority pin }
     {
@@ -58,6 +60,7 @@ impl Thread {
         place_in(self.place)
     }
 
+    #[tactic(auto, unfolding(crate::specs::Place::is_declared))]
     pub fn is_declared(self) -> bool
         ensures { result ≡ is_declared (place_in self.place) }
     {
@@ -76,6 +79,7 @@ impl Thread {
         self.place == BLOCKED
     }
 
+    #[tactic(auto, unfolding(crate::specs::Thread::with_place))]
     pub fn blocked(mut self) -> Thread
         ensures { result ≡ with_place self BLOCKED }
     {
@@ -83,6 +87,7 @@ impl Thread {
         self
     }
 
+    #[tactic(auto, unfolding(crate::specs::Thread::with_place))]
     pub fn running(mut self) -> Thread
         ensures { result ≡ with_place self RUNNING }
     {
@@ -90,6 +95,7 @@ impl Thread {
         self
     }
 
+    #[tactic(auto, unfolding(crate::specs::Thread::with_place))]
     pub fn waiting(mut self) -> Thread
         ensures { result ≡ with_place self WAITING }
     {
@@ -98,6 +104,7 @@ impl Thread {
     }
 
     // The thread that comes after this one in its list.
+    #[tactic(auto, unfolding(crate::specs::Thread::with_next))]
     pub fn set_next(mut self, next: u64) -> Thread
         ensures { result ≡ with_next self next }
     {
@@ -105,6 +112,7 @@ impl Thread {
         self
     }
 
+    #[tactic(auto, unfolding(crate::specs::Thread::with_critical))]
     pub fn set_critical(mut self, mark: u64) -> Thread
         ensures { result ≡ with_critical self mark }
     {
@@ -112,6 +120,7 @@ impl Thread {
         self
     }
 
+    #[tactic(auto, unfolding(crate::specs::Reads::critical_in))]
     pub fn is_critical(self) -> bool
         ensures { result ≡ critical_in self.critical }
     {

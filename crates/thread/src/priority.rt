@@ -12,7 +12,7 @@ use rules::{Priority, PriorityClass};
 pub const MAX_PRIORITY: u64 = 128;
 
 // A priority, or none.
-#[derive(Drop)]
+#[derive(Clone, Copy)]
 pub enum OptionPriority {
     Some(Priority),
     None,
@@ -20,7 +20,7 @@ pub enum OptionPriority {
 
 // What a donation came to: the thread, whether the donation was accepted, and whether it was accepted and is above what was the thread's effective
 // priority, so that the thread's CPU may have to be signalled.
-#[derive(Drop)]
+#[derive(Clone, Copy)]
 pub struct Donation {
     pub thread: Thread,
     pub accepted: bool,
@@ -28,12 +28,13 @@ pub struct Donation {
 }
 
 // The thread with its stable priority, and that priority.
-#[derive(Drop)]
+#[derive(Clone, Copy)]
 pub struct Stable {
     pub thread: Thread,
     pub priority: Priority,
 }
 
+#[tactic(auto, unfolding(rules::specs::Priority::class_number))]
 pub fn class_number(class: PriorityClass) -> u64
     ensures { result ≡ class_number class }
 {
@@ -46,6 +47,7 @@ pub fn class_number(class: PriorityClass) -> u64
 }
 
 // The class that a number names: everything from 3 up is Realtime.
+#[tactic(auto, unfolding(rules::specs::Priority::class_at))]
 pub fn class_at(number: u64) -> PriorityClass
     ensures { result ≡ class_at number }
 {
@@ -57,6 +59,7 @@ pub fn class_at(number: u64) -> PriorityClass
     }
 }
 
+#[tactic(auto, unfolding(rules::specs::Priority::cut, rules::specs::Priority::nr_values))]
 pub fn cut(value: u64) -> u64
     ensures { result ≡ cut value }
 {
@@ -66,6 +69,7 @@ pub fn cut(value: u64) -> u64
     MAX_PRIORITY - 1
 }
 
+#[tactic(auto, unfolding(rules::specs::Priority::from_raw))]
 pub fn from_raw(d: u64) -> Priority
     ensures { result ≡ from_raw d }
 {
@@ -74,6 +78,7 @@ pub fn from_raw(d: u64) -> Priority
     Priority { class, value }
 }
 
+#[tactic(auto, using(crate::specs::Priority::class_below), unfolding(rules::specs::Priority::raw))]
 pub fn raw(priority: Priority) -> u64
     ensures { result ≡ raw priority }
 {
@@ -81,6 +86,7 @@ pub fn raw(priority: Priority) -> u64
     class_number(class) * 65536 + priority.value % 65536
 }
 
+#[tactic(auto, unfolding(rules::specs::Priority::less))]
 pub fn less(p: Priority, q: Priority) -> bool
     ensures { result ≡ less p q }
 {
@@ -97,6 +103,7 @@ pub fn less(p: Priority, q: Priority) -> bool
     false
 }
 
+#[tactic(auto, unfolding(rules::specs::Priority::greater_of))]
 pub fn max(p: Priority, q: Priority) -> Priority
     ensures { result ≡ greater_of p q }
 {
@@ -107,6 +114,7 @@ pub fn max(p: Priority, q: Priority) -> Priority
 }
 
 // The effective priority of a thread with these two.
+#[tactic(auto, using(rules::specs::Rows::given), unfolding(rules::specs::Priority::effective, crate::specs::Reads::held))]
 pub fn effective(own: Priority, donated: OptionPriority) -> Priority
     ensures { result ≡ effective own (held donated) }
 {
@@ -117,6 +125,7 @@ pub fn effective(own: Priority, donated: OptionPriority) -> Priority
 }
 
 // Is a donation accepted where another may be held? Not if that one is greater.
+#[tactic(auto, using(rules::specs::Rows::given), unfolding(rules::specs::Priority::donation_accepted, crate::specs::Reads::held, rules::specs::Priority::at_most))]
 pub fn donation_accepted(current: OptionPriority, pri: Priority) -> bool
     ensures { result ≡ donation_accepted (held current) pri }
 {
@@ -126,6 +135,7 @@ pub fn donation_accepted(current: OptionPriority, pri: Priority) -> bool
     }
 }
 
+#[tactic(auto, unfolding(rules::specs::Priority::at_most))]
 pub fn at_most(p: Priority, q: Priority) -> bool
     ensures { result ≡ at_most p q }
 {
@@ -136,6 +146,7 @@ pub fn at_most(p: Priority, q: Priority) -> bool
 }
 
 impl Thread {
+    #[tactic(auto, unfolding(crate::specs::Reads::donated_in))]
     pub fn get_donated_priority(self) -> OptionPriority
         ensures { result ≡ donated_in self }
     {
@@ -148,6 +159,7 @@ impl Thread {
         OptionPriority::None
     }
 
+    #[tactic(auto, unfolding(rules::specs::Times::effective_priority, crate::specs::Reads::reads))]
     pub fn effective_priority(self) -> Priority
         ensures { result ≡ effective_priority (reads self) }
     {
@@ -162,6 +174,7 @@ impl Thread {
         from_raw(self.stable_priority)
     }
 
+    #[tactic(auto, unfolding(crate::specs::Priority::stable_effective_priority, crate::specs::Thread::with_stable))]
     pub fn stable_effective_priority(mut self) -> Stable
         ensures { result ≡ stable_effective_priority self }
     {
@@ -173,6 +186,7 @@ impl Thread {
         }
     }
 
+    #[tactic(auto, unfolding(crate::specs::Priority::donate_priority, crate::specs::Thread::with_donated))]
     pub fn donate_priority(mut self, pri: Priority) -> Donation
         ensures { result ≡ donate_priority self pri }
     {
@@ -195,6 +209,7 @@ impl Thread {
         }
     }
 
+    #[tactic(auto, unfolding(crate::specs::Priority::remove_donated_priority, crate::specs::Thread::with_donated))]
     pub fn remove_donated_priority(mut self) -> Thread
         ensures { result ≡ remove_donated_priority self }
     {

@@ -6,14 +6,14 @@ ghost use Rattle.thread.specs.Time.{field_of, preferred_of, preferred_last, pref
 use crate::Thread;
 
 // A CPU number, or none.
-#[derive(Drop)]
+#[derive(Clone, Copy)]
 pub enum OptionCpu {
     Some(u64),
     None,
 }
 
 // The CPU that a thread prefers: the one it is pinned to, else the one last used.
-#[derive(Drop)]
+#[derive(Clone, Copy)]
 pub enum Preferred {
     Pinned(u64),
     Last(u64),
@@ -21,13 +21,14 @@ pub enum Preferred {
 }
 
 // A thread that has paid, and whether its timeslice expired.
-#[derive(Drop)]
+#[derive(Clone, Copy)]
 pub struct Paid {
     pub thread: Thread,
     pub expired: bool,
 }
 
 // The CPU that a field names.
+#[tactic(auto, using(crate::specs::Time::sign_above, crate::specs::Time::sign_below))]
 pub fn cpu_in(field: i32) -> OptionCpu
     ensures { result ≡ cpu_in field }
 {
@@ -38,6 +39,7 @@ pub fn cpu_in(field: i32) -> OptionCpu
 }
 
 // The field for a CPU number; a number past the largest of an i32 is none.
+#[tactic(auto, using(crate::specs::Time::cast_field), unfolding(crate::specs::Time::field_of))]
 pub fn field_of(cpu: u64) -> i32
     ensures { result ≡ field_of cpu }
 {
@@ -48,6 +50,7 @@ pub fn field_of(cpu: u64) -> i32
 }
 
 // Do the ticks paid reach what is allowed?
+#[tactic(auto, using(crate::specs::Time::reach))]
 pub fn reaches(paid: u64, ticks: u64, allowed: u64) -> bool
     ensures { result ≡ leb allowed (paid + ticks) }
 {
@@ -58,6 +61,7 @@ pub fn reaches(paid: u64, ticks: u64, allowed: u64) -> bool
 }
 
 // The ticks paid, in 32 bits.
+#[tactic(auto, unfolding(crate::specs::Time::narrow_sum))]
 pub fn narrow_sum(paid: u64, ticks: u64) -> u64
     ensures { result ≡ narrow_sum paid ticks }
 {
@@ -65,6 +69,7 @@ pub fn narrow_sum(paid: u64, ticks: u64) -> u64
 }
 
 // The pin, where there is one, is preferred.
+#[tactic(auto, using(rules::specs::Rows::given), unfolding(crate::specs::Time::preferred_of))]
 pub fn pin_or_last(pinned: OptionCpu, last: OptionCpu) -> Preferred
     ensures { result ≡ preferred_of pinned last }
 {
@@ -74,6 +79,7 @@ pub fn pin_or_last(pinned: OptionCpu, last: OptionCpu) -> Preferred
     }
 }
 
+#[tactic(auto, using(rules::specs::Rows::given), unfolding(crate::specs::Time::preferred_last))]
 pub fn preferred_last(last: OptionCpu) -> Preferred
     ensures { result ≡ preferred_last last }
 {
@@ -84,6 +90,7 @@ pub fn preferred_last(last: OptionCpu) -> Preferred
 }
 
 impl Thread {
+    #[tactic(auto, using(crate::specs::Time::stored_field), unfolding(crate::specs::Time::pin_cpu, crate::specs::Thread::with_pinned))]
     pub fn pin_cpu(mut self, cpu: u64) -> Thread
         ensures { result ≡ pin_cpu self cpu }
     {
@@ -99,6 +106,7 @@ impl Thread {
         cpu_in(field)
     }
 
+    #[tactic(auto, unfolding(crate::specs::Time::pay_ticks, crate::specs::Thread::with_timeslice))]
     pub fn pay_ticks(mut self, ticks: u64, allowed: u64) -> Paid
         ensures { result ≡ pay_ticks self ticks allowed }
     {
@@ -116,6 +124,7 @@ impl Thread {
         }
     }
 
+    #[tactic(auto, unfolding(crate::specs::Time::reset_timeslice, crate::specs::Thread::with_timeslice))]
     pub fn reset_timeslice(mut self) -> Thread
         ensures { result ≡ reset_timeslice self }
     {
@@ -123,6 +132,7 @@ impl Thread {
         self
     }
 
+    #[tactic(auto, using(crate::specs::Time::stored_field), unfolding(crate::specs::Time::moving_to_queue, crate::specs::Thread::with_queue))]
     pub fn moving_to_queue(mut self, cpu: u64) -> Thread
         ensures { result ≡ moving_to_queue self cpu }
     {
@@ -131,6 +141,7 @@ impl Thread {
         self
     }
 
+    #[tactic(auto, using(crate::specs::Time::stored_field), unfolding(crate::specs::Time::moving_to_active, crate::specs::Thread::with_last, crate::specs::Thread::with_queue))]
     pub fn moving_to_active(mut self, cpu: u64) -> Thread
         ensures { result ≡ moving_to_active self cpu }
     {
@@ -147,6 +158,7 @@ impl Thread {
         cpu_in(field)
     }
 
+    #[tactic(auto, unfolding(crate::specs::Time::preferred_cpu))]
     pub fn preferred_cpu(self) -> Preferred
         ensures { result ≡ preferred_cpu self }
     {
@@ -155,6 +167,7 @@ impl Thread {
         pin_or_last(cpu_in(pinned), cpu_in(last))
     }
 
+    #[tactic(auto, unfolding(crate::specs::Time::set_deadline, crate::specs::Thread::with_deadline))]
     pub fn set_deadline(mut self, tick: u64) -> Thread
         ensures { result ≡ set_deadline self tick }
     {

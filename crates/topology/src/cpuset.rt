@@ -4,12 +4,13 @@ ghost use Rattle.topology.specs.CpuSet.{power, bit, set_bit, clear_bit, all, emp
 
 pub const MAX_CPU_ID: u64 = 1024;
 
-#[derive(Drop)]
+#[derive(Clone, Copy)]
 pub struct CpuSet {
     pub set: [u64; 16],
 }
 
 // The number with bit `i % 64` alone.
+#[tactic(auto, using(crate::specs::CpuSet::power_fits))]
 pub fn power(i: u64) -> u64
     ensures { result ≡ power i }
 {
@@ -17,6 +18,7 @@ pub fn power(i: u64) -> u64
 }
 
 // Is bit `i % 64` of the word 1?
+#[tactic(auto, unfolding(crate::specs::CpuSet::bit))]
 pub fn bit(word: u64, i: u64) -> bool
     ensures { result ≡ bit word i }
 {
@@ -24,6 +26,7 @@ pub fn bit(word: u64, i: u64) -> bool
 }
 
 // The word with that bit 1.
+#[tactic(auto, using(crate::specs::CpuSet::add_fits), unfolding(crate::specs::CpuSet::set_bit))]
 pub fn set_bit(word: u64, i: u64) -> u64
     ensures { result ≡ set_bit word i }
 {
@@ -34,6 +37,7 @@ pub fn set_bit(word: u64, i: u64) -> u64
 }
 
 // The word with that bit 0.
+#[tactic(auto, using(crate::specs::CpuSet::sub_fits), unfolding(crate::specs::CpuSet::clear_bit))]
 pub fn clear_bit(word: u64, i: u64) -> u64
     ensures { result ≡ clear_bit word i }
 {
@@ -44,6 +48,7 @@ pub fn clear_bit(word: u64, i: u64) -> u64
 }
 
 impl CpuSet {
+    #[tactic(auto, unfolding(crate::specs::CpuSet::all))]
     pub fn all() -> Self
         ensures { result ≡ all }
     {
@@ -52,12 +57,14 @@ impl CpuSet {
         }
     }
 
+    #[tactic(auto, unfolding(crate::specs::CpuSet::empty))]
     pub fn empty() -> Self
         ensures { result ≡ empty }
     {
         CpuSet { set: [0u64; 16] }
     }
 
+    #[tactic(auto, unfolding(crate::specs::CpuSet::contains, crate::specs::CpuSet::max_cpu_id, crate::specs::CpuSet::word_of))]
     pub fn contains(self, id: u64) -> bool
         ensures { result ≡ contains self id }
     {
@@ -68,6 +75,7 @@ impl CpuSet {
         false
     }
 
+    #[tactic(auto, unfolding(crate::specs::CpuSet::insert, crate::specs::CpuSet::max_cpu_id, crate::specs::CpuSet::word_of))]
     pub fn insert(mut self, id: u64) -> Self
         ensures { result ≡ insert self id }
     {
@@ -80,6 +88,7 @@ impl CpuSet {
         self
     }
 
+    #[tactic(auto, unfolding(crate::specs::CpuSet::remove, crate::specs::CpuSet::max_cpu_id, crate::specs::CpuSet::word_of))]
     pub fn remove(mut self, id: u64) -> Self
         ensures { result ≡ remove self id }
     {
@@ -92,6 +101,7 @@ impl CpuSet {
         self
     }
 
+    #[tactic(auto, using(crate::specs::CpuSet::no_bits_step), unfolding(crate::specs::CpuSet::is_empty, crate::specs::CpuSet::no_bits))]
     pub fn is_empty(self) -> bool
         ensures { result ≡ is_empty self }
     {

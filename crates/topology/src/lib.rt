@@ -1,4 +1,6 @@
 // The set of CPU numbers of processor/sched.rs.
+#![tactic(auto)]
+
 pub mod cpuset;
 // The tree of nodes (CPUTopoNode, processor/sched.rs) in lent words. Node 0 is the root; a node's children come after it and are in number order.
 pub mod node;

@@ -29,6 +29,7 @@ pub const NO_CPU: u64 = 18446744073709551615;
 // The type System.
 pub const SYSTEM: u64 = 0;
 
+#[tactic(auto, unfolding(crate::specs::Node::lesser))]
 pub fn lesser(a: u64, b: u64) -> u64
     ensures { result ≡ lesser a b }
 {
@@ -38,6 +39,7 @@ pub fn lesser(a: u64, b: u64) -> u64
     b
 }
 
+#[tactic(auto, unfolding(crate::specs::Node::greater))]
 pub fn greater(a: u64, b: u64) -> u64
     ensures { result ≡ greater a b }
 {
@@ -48,6 +50,7 @@ pub fn greater(a: u64, b: u64) -> u64
 }
 
 // A node without children and CPUs, between two in the order of a search.
+#[tactic(auto, unfolding(crate::specs::Node::new_node))]
 pub fn new_node(level_type: u64, parent: u64, prev: u64, next: u64) -> NodeWords
     ensures { result ≡ new_node level_type parent prev next }
 {
@@ -61,6 +64,7 @@ pub fn new_node(level_type: u64, parent: u64, prev: u64, next: u64) -> NodeWords
 }
 
 // The words of a node stored; nothing past the end of the slice.
+#[tactic(auto, unfolding(crate::specs::Node::put_node))]
 pub fn put_node(nodes: &mut [NodeWords], n: u64, row: NodeWords)
     ensures { nodes.new ≡ put_node nodes.old n row }
 {
@@ -71,6 +75,7 @@ pub fn put_node(nodes: &mut [NodeWords], n: u64, row: NodeWords)
 }
 
 // Node 0, the root, alone.
+#[tactic(auto, unfolding(crate::specs::Node::new_root))]
 pub fn new_root(nodes: &mut [NodeWords])
     ensures { nodes.new ≡ new_root nodes.old }
 {
@@ -79,6 +84,7 @@ pub fn new_root(nodes: &mut [NodeWords])
 }
 
 // Node n becomes the new last child of the parent: a search meets it just before its parent.
+#[tactic(auto, unfolding(crate::specs::Node::add_child, crate::specs::Node::linked))]
 pub fn add_child(nodes: &mut [NodeWords], n: u64, parent: u64, level_type: u64)
     ensures { nodes.new ≡ add_child nodes.old n parent level_type }
 {
@@ -90,6 +96,7 @@ pub fn add_child(nodes: &mut [NodeWords], n: u64, parent: u64, level_type: u64)
     put_word(nodes, parent, CHILDREN, 1);
 }
 
+#[tactic(auto, unfolding(crate::specs::Node::has_children))]
 pub fn has_children(nodes: &[NodeWords], n: u64) -> bool
     ensures { result ≡ has_children nodes.now n }
 {
@@ -97,6 +104,7 @@ pub fn has_children(nodes: &[NodeWords], n: u64) -> bool
 }
 
 // Has it CPUs of its own, not below it?
+#[tactic(auto, unfolding(crate::specs::Node::has_cpus))]
 pub fn has_cpus(nodes: &[NodeWords], n: u64) -> bool
     ensures { result ≡ has_cpus nodes.now n }
 {
@@ -107,6 +115,7 @@ pub fn has_cpus(nodes: &[NodeWords], n: u64) -> bool
 }
 
 // Is the CPU on the node or below it?
+#[tactic(auto, unfolding(crate::specs::Node::contains_at, crate::specs::CpuSet::max_cpu_id))]
 pub fn contains(nodes: &[NodeWords], n: u64, cpu: u64) -> bool
     ensures { result ≡ contains_at nodes.now n cpu }
 {
@@ -118,12 +127,14 @@ pub fn contains(nodes: &[NodeWords], n: u64, cpu: u64) -> bool
 }
 
 // The CPUs of a node are from `first` to below `end`, and below the limit.
+#[tactic(auto, unfolding(crate::specs::Node::first_of, crate::specs::Words::word))]
 pub fn first(nodes: &[NodeWords], n: u64) -> u64
     ensures { result ≡ first_of nodes.now n }
 {
     word(nodes, n, FIRST)
 }
 
+#[tactic(auto, unfolding(crate::specs::Node::end_of))]
 pub fn end(nodes: &[NodeWords], n: u64, limit: u64) -> u64
     ensures { result ≡ end_of nodes.now n limit }
 {
@@ -131,6 +142,7 @@ pub fn end(nodes: &[NodeWords], n: u64, limit: u64) -> u64
 }
 
 // A CPU put on one node.
+#[tactic(auto, unfolding(crate::specs::Node::put_cpu, crate::specs::CpuSet::max_cpu_id))]
 pub fn put_cpu(nodes: &mut [NodeWords], n: u64, cpu: u64)
     ensures { nodes.new ≡ put_cpu nodes.old n cpu }
 {
@@ -146,6 +158,7 @@ pub fn put_cpu(nodes: &mut [NodeWords], n: u64, cpu: u64)
 }
 
 // A CPU put on a node and all nodes above.
+#[tactic(auto, using(crate::specs::Node::length_put_cpu, crate::specs::Node::set_cpu_turn), unfolding(crate::specs::Node::set_cpu, crate::specs::Node::set_cpu_up))]
 pub fn set_cpu(nodes: &mut [NodeWords], node: u64, cpu: u64)
     ensures { nodes.new ≡ set_cpu nodes.old node cpu }
 {

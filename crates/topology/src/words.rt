@@ -7,6 +7,7 @@ pub const WORDS: usize = 32;
 // The words of one node.
 pub type NodeWords = [u64; 32];
 
+#[tactic(auto, using(crate::specs::Words::word_out), unfolding(crate::specs::Words::word))]
 pub fn word(nodes: &[NodeWords], n: u64, w: usize) -> u64
     ensures { result ≡ word nodes.now n w }
 {
@@ -18,6 +19,7 @@ pub fn word(nodes: &[NodeWords], n: u64, w: usize) -> u64
     0
 }
 
+#[tactic(auto, using(crate::specs::Words::put_out), unfolding(crate::specs::Words::put_word))]
 pub fn put_word(nodes: &mut [NodeWords], n: u64, w: usize, v: u64)
     ensures { nodes.new ≡ put_word nodes.old n w v }
 {

@@ -1,5 +1,7 @@
 // The stored streams, each fed to the library and compared with what the Rust printed for it, byte by byte. Standard input holds them one after the other:
 // the length of the stream and of the lines, four bytes each, then the stream and the lines.
+#![tactic(auto)]
+
 use check::same;
 use processor::words::CpuWords;
 use questions::state::State;
@@ -9,14 +11,14 @@ use stream::start::{Started, start};
 use thread::{Thread, blank};
 use topology::words::NodeWords;
 
-#[derive(Drop)]
+#[derive(Clone, Copy)]
 pub struct Sizes {
     pub stream: usize,
     pub lines: usize,
     pub there: bool,
 }
 
-#[derive(Drop)]
+#[derive(Clone, Copy)]
 pub struct Tally {
     pub streams: u64,
     pub differ: u64,

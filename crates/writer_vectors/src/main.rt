@@ -1,6 +1,8 @@
 // Stored calls of the writer, each made again and compared. Standard input holds them one after the other, 56 bytes each (oracle/vectors/README.md): the
 // command byte and four fields, eight bytes each; the form of the stream; the length of the lent buffer; the refusal; the bytes written; the buffer after
 // the call.
+#![tactic(auto)]
+
 use check::same;
 use lines::refusal_number;
 use request::fields::Fields;
@@ -16,7 +18,7 @@ const COUNT: usize = 43;
 
 const CONTENT: usize = 44;
 
-#[derive(Drop)]
+#[derive(Clone, Copy)]
 pub struct Tally {
     pub cases: u64,
     pub differ: u64,

@@ -283,7 +283,8 @@ unfolding after_calls history
 reached_calls {H} {s} [] r = subst (λ (L : ℕ → List PutOrTake). Reached L s) (λ i c. sym (append-nil (H c)) i) r
 reached_calls {H} {s} (bytes ∷ calls) r =
     subst (λ (L : ℕ → List PutOrTake). Reached L (after_calls (step s bytes).state calls))
-    (λ i c. append_assoc (H c) ((step s bytes).log c) (history (step s bytes).state calls c) i) (reached_calls calls (reached_step bytes r))
+    (λ i c. append_assoc (H c) ((step s bytes).log c) (history (step s bytes).state calls c) i)
+    (reached_calls {H = λ c. H c ++ (step s bytes).log c} {s = (step s bytes).state} calls (reached_step bytes r))
 
 -- no call changes a limit but the shortest timeslice
 limits_on : (s : State) (us x : ℕ) (w : World) (o : Option ℕ) → (scheduled_on s us x w o).state.limits ≡ s.limits
