@@ -1,6 +1,3 @@
 pub mod Balance
-pub mod Move
 pub mod Pairs
-pub mod Rebalance
-pub mod Stattick
 pub mod Turns

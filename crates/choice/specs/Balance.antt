@@ -1,7 +1,7 @@
 -- What `choose_cpu_balance` finds, as the rules have it, and one step of it.
 use Rattle.std.specs.Prelude.{ℕ, ◌+◌, ◌-◌, ◌≤◌, ◌<◌, ◌≡◌, Bool, true, false, cond, ◌&&◌}
 use Rattle.std.proofs.Common.{◌∙◌, ap, sym}
-use Rattle.rules.specs.Laws.Line.{both}
+use Rattle.rules.proofs.Laws.Line.{both}
 use Rattle.rules.specs.Draw.{next_state, draw}
 use Rattle.rules.specs.Choice as rule
 use Rattle.rules.specs.Choice.{score, weigh, extremes}

@@ -3,7 +3,7 @@ use Rattle.std.specs.Prelude.{ℕ, ◌+◌, ◌-◌, ◌≤◌, ◌<◌, ◌≡�
 use Rattle.std.proofs.Math.Path.{refl}
 use mathlib.Core.List.{List, [], ◌∷◌, ◌++◌}
 use Rattle.rules.specs.State.{join_all}
-use Rattle.rules.specs.Laws.Line.{both}
+use Rattle.rules.proofs.Laws.Line.{both}
 use Rattle.rules.specs.Draw.{next_state, draw}
 use Rattle.rules.specs.Choice as rule
 use Rattle.rules.specs.Choice.{score, lower, find_cpu}

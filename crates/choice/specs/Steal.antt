@@ -6,7 +6,7 @@ use Rattle.std.proofs.Math.Bool.{true, false}
 use Rattle.std.proofs.Math.Option.{Option, none, some}
 use mathlib.Core.List.{List, [], ◌∷◌, ◌++◌}
 use Rattle.rules.specs.State.{join_all}
-use Rattle.rules.specs.Laws.Line.{both}
+use Rattle.rules.proofs.Laws.Line.{both}
 use Rattle.rules.specs.Times.{is_some}
 use Rattle.rules.specs.Choice.{first_that}
 use Rattle.thread.specs.declared.time.OptionCpu.{OptionCpu}

@@ -1,14 +1,14 @@
 -- WHAT IS PROVED OF ONE CALL. A reader reads all of this file, after represents' State.
-use Rattle.std.specs.Prelude.{ℕ, ◌≡◌, List, ◌++◌}
-use Rattle.rules.specs.Puts.{PutOrTake}
-use Rattle.rules.specs.State.{Limits, State, start}
-use Rattle.rules.specs.Commands.{no_log, Step, step}
-use Rattle.rules.specs.Laws.Reached.{Reached, reached_start, reached_step}
-use Rattle.lines.specs.Lines.{answer_of}
-use Rattle.sched_laws.specs.Sealed.{Sealed, sealed_start, sealed_step}
-use Rattle.sched_laws.specs.TickBound.{TickBound, late_start, late_step}
-use Rattle.represents.specs.State.{StateRep}
 -- What the rules keep in every state that calls reach from the start; H: the puts and takes of each CPU's queue so far.
+use Rattle.std.specs.Prelude.{ℕ, ◌≡◌, List}
+use Rattle.rules.specs.Puts.{PutOrTake}
+use Rattle.rules.specs.State.{State}
+use Rattle.rules.specs.Commands.{Step, step}
+use Rattle.rules.proofs.Laws.Reached.{Reached}
+use Rattle.lines.specs.Lines.{answer_of}
+use Rattle.sched_laws.specs.Sealed.{Sealed}
+use Rattle.sched_laws.specs.TickBound.{TickBound}
+use Rattle.represents.specs.State.{StateRep}
 use Rattle.command.specs.Lent.{Lent}
 use Rattle.records.specs.Left.{Left}
 use Rattle.outcome.specs.declared.answer.Answered.{Answered}
@@ -26,11 +26,3 @@ lent ts cs ns = record { threads = ts; cpus = cs; nodes = ns }
 pub record AsRuled (d : Left Answered Lent) (t : Step) : Type 0 where
   pub stands : StateRep d.memory.threads d.memory.cpus d.memory.nodes d.answer.state t.state
   pub answer : answer_of d.answer.answer ≡ t.answer
-
--- ---- for proofs: the start, and each step
-
-pub reachable_start : (limits : Limits) → Reachable no_log (start limits)
-reachable_start limits = record { reached = reached_start limits; sealed = sealed_start limits; late = late_start limits }
-
-pub reachable_step : {H : ℕ → List PutOrTake} {s : State} (bytes : List ℕ) → Reachable H s → Reachable (λ c. H c ++ (step s bytes).log c) (step s bytes).state
-reachable_step {H} {s} bytes r = record { reached = reached_step bytes r.reached; sealed = sealed_step s r.sealed bytes; late = late_step s r.late bytes }

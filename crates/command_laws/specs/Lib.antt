@@ -1,6 +1,4 @@
 pub mod Asked
-pub mod Call
-pub mod Command
 pub mod CpusFound
 pub mod InRange
 pub mod Law
@@ -8,7 +6,5 @@ pub mod Links
 pub mod Nodes
 pub mod Numbers
 pub mod Obeyed
-pub mod Plain
-pub mod Ran
 pub mod Writes
 pub mod Written

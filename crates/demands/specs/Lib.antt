@@ -1,12 +1,6 @@
 pub mod Calls
-pub mod Demand1
-pub mod Demand2
-pub mod Demand3
 pub mod Frame
-pub mod Laws
 pub mod Provisos
 pub mod ProvisosMet
-pub mod Selects
 pub mod Shortest
-pub mod Start
 pub mod Witness

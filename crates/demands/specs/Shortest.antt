@@ -1,16 +1,9 @@
 -- 2026-07, of the library's calls: "sets the shortest User timeslice to 2 to 32; unset it is 2, the last one given holds", "before the seal". What the calls give is
 -- defined in the rules' Shortest (`given`: the operands of the obeyed calls of hex 05, in their order).
-use Rattle.std.specs.Prelude.{ℕ, ◌≤◌, ◌≡◌, true, false, List}
-use Rattle.std.proofs.Common.{sym, ap, ◌∙◌, arith}
-use Rattle.rules.specs.State.{Limits, base_limits, State, start}
-use Rattle.rules.specs.Questions.{least_shortest, most_shortest}
-use Rattle.rules.specs.Commands.{Answer, nothing_shown, after_calls}
-use Rattle.rules.specs.Shortest.{given, last_or, Figure, figure_held, before_the_seal}
-use Rattle.represents.specs.State.{limits_in}
-use Rattle.lines.specs.Lines.{refusal_number, answer_of}
-use Rattle.demands.specs.Calls.{LentState, Ready, call, after}
-use Rattle.demands.specs.Demand2.{demand_2_step}
-use Rattle.demands.specs.Laws.Kept.{Represents, follows_start, follows_after}
+use Rattle.std.specs.Prelude.{ℕ, ◌≤◌, ◌≡◌, true, List}
+use Rattle.rules.specs.State.{base_limits, start}
+use Rattle.rules.specs.Shortest.{given, last_or}
+use Rattle.demands.specs.Calls.{LentState, after}
 
 -- The figure in the state that the calls left, and that more calls leave.
 pub record FigureLeft (h : LentState) (calls : List (List ℕ)) : Type 0 where
@@ -18,34 +11,3 @@ pub record FigureLeft (h : LentState) (calls : List (List ℕ)) : Type 0 where
   pub least : 2 ≤ (after h calls).state.shortest
   pub most : (after h calls).state.shortest ≤ 32
   pub settled : (after h calls).state.sealed ≡ true → (more : List (List ℕ)) → (after (after h calls) more).state.shortest ≡ (after h calls).state.shortest
-
-figure_is : (h : LentState) (s : State) → Represents h s → h.state.shortest ≡ s.limits.shortest
-unfolding limits_in
-figure_is h s m = sym (ap (λ (l : Limits). l.shortest) m.limits)
-
--- THE THEOREM: h is what `start` left when it answered Ready; for every list of calls, of any length, each on any bytes.
-pub figure_left : (h : LentState) → Ready h → (calls : List (List ℕ)) → FigureLeft h calls
-unfolding base_limits least_shortest most_shortest
-figure_left h ready calls =
-    let s : State = after_calls (start base_limits) calls in
-    let f = follows_after h (start base_limits) calls (follows_start h ready) in
-    let g : Figure base_limits calls = figure_held base_limits (omega arith) (omega arith) calls in
-    let is : (after h calls).state.shortest ≡ s.limits.shortest = figure_is (after h calls) s f.stood in
-    record {
-      last_given = is ∙ g.last_given;
-      least = rw is g.least;
-      most = rw is g.most;
-      settled = λ t more.
-          figure_is (after (after h calls) more) (after_calls s more) (follows_after (after h calls) s more f).stood
-          ∙ g.settled (sym f.stood.sealed ∙ t) more ∙ sym is;
-    }
-
--- "Its line shows `-` four times, as do those of commands later added before the seal": whatever the bytes of the call.
-pub nothing_before_the_seal : (h : LentState) → Ready h → (calls : List (List ℕ)) (bytes : List ℕ) → (after h calls).state.sealed ≡ false
-    → answer_of (call (after h calls) bytes).answer.answer ≡ nothing_shown (refusal_number (call (after h calls) bytes).answer.answer.refusal)
-unfolding answer_of
-nothing_before_the_seal h ready calls bytes e =
-    let s : State = after_calls (start base_limits) calls in
-    let f = follows_after h (start base_limits) calls (follows_start h ready) in
-    let a = (demand_2_step h ready calls bytes).answer in
-    a ∙ before_the_seal s bytes (sym f.stood.sealed ∙ e) ∙ ap nothing_shown (sym (ap (λ (x : Answer). x.refused) a))

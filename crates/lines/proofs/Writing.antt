@@ -10,7 +10,7 @@ use native.Mathlib.Omega.{arith}
 use native.Mathlib.Nat.{zero-min, min-zero, suc-min-suc}
 use native.Mathlib.Numerals.{add-one}
 use borrow.Author.Tests.{lt-ltb, le-ltb, le-leb, lt-leb, leb-true, leb-false, ltb-true, ltb-false}
-use Rattle.rules.specs.Laws.Line.{both}
+use Rattle.rules.proofs.Laws.Line.{both}
 use Rattle.rules.specs.Commands.{Answer}
 use Rattle.rules.specs.Lines.{decimal, space, line_feed, number_or_dash, running_or_dash, line, end_word, end_line}
 use Rattle.lines.specs.declared.Rendered.TheVariants as render

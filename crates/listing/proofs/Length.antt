@@ -7,8 +7,8 @@ use lib.Dec.{eqb, ltb, leb}
 use lib.ListN.{length, take, length-append}
 use native.Mathlib.Omega.{arith}
 use borrow.Author.Tests.{leb-true}
-use Rattle.rules.specs.Laws.Line.{both}
-use Rattle.rules.specs.Laws.Writer.{and_left, and_right}
+use Rattle.rules.proofs.Laws.Line.{both}
+use Rattle.rules.proofs.Laws.Writer.{and_left, and_right}
 use Rattle.rules.specs.Lines.{digits, decimal, space, line_feed}
 use Rattle.names.specs.Names.{Naming, naming, namings, naming_among, name_of, ascii}
 use Rattle.request.specs.declared.fields.Fields.{Fields}

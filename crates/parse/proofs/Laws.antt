@@ -9,7 +9,7 @@ use lib.ListN.{length, get_or}
 use native.Mathlib.Omega.{arith}
 use native.Mathlib.Nat.{pow-succ'}
 use borrow.Author.Tests.{eqb-true, eq-eqb, ne_eqb, lt-ltb, le-ltb, ltb-true}
-use Rattle.rules.specs.Laws.Line.{both}
+use Rattle.rules.proofs.Laws.Line.{both}
 use Rattle.rules.specs.Lines.{decimal}
 use Rattle.rules.specs.Lines as rules
 use Rattle.names.specs.Names.{Naming, namings, naming, ascii}

@@ -12,7 +12,7 @@ pub fn realtime_bucket(value: u64) -> u64
     7
 }
 
-#[tactic(auto, using(rules::specs::Laws::Effect::offset_past), unfolding(rules::specs::Queue::offset, rules::specs::Queue::nr_buckets, rules::specs::Priority::nr_values, rules::specs::Queue::width))]
+#[tactic(auto, using(rules::proofs::Laws::Effect::offset_past), unfolding(rules::specs::Queue::offset, rules::specs::Queue::nr_buckets, rules::specs::Priority::nr_values, rules::specs::Queue::width))]
 pub fn offset(value: u64) -> u64
     ensures { result ≡ offset value }
 {

@@ -1,5 +1,4 @@
 pub mod Cpu
-pub mod Laws
 pub mod Parts
 pub mod Queue
 pub mod Random

@@ -1,7 +1,7 @@
 -- One part of a run queue and its numbers, stored into the words of its CPU: where an operation changes no other part, this stores the queue.
 use Rattle.std.specs.Prelude.{◌≡◌, ℕ, ◌+◌, ◌≤◌, Bool, true, false, ◌&&◌, List, [], set, ◌==◌, slice_index_or, slice_set, refl}
 use Rattle.std.proofs.Common.{sym, ap, ◌∙◌, arith}
-use Rattle.rules.specs.Laws.Line.{both}
+use Rattle.rules.proofs.Laws.Line.{both}
 use Rattle.rules.specs.declared.Part.{Part}
 use Rattle.rules.specs.declared.Part.TheVariants as part
 use Rattle.queue.specs.declared.lists.Lists.{Lists}

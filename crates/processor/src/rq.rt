@@ -198,7 +198,7 @@ fn idle_into(row: &mut CpuWords, q: RunQueue)
 }
 
 // The run queue of CPU c.
-#[tactic(auto, using(crate::specs::Laws::Queue::no_row, crate::specs::Laws::Queue::queue_out), unfolding(crate::specs::Queue::queue_at))]
+#[tactic(auto, using(crate::proofs::Laws::Queue::no_row, crate::proofs::Laws::Queue::queue_out), unfolding(crate::specs::Queue::queue_at))]
 pub fn load_queue(cpus: &[CpuWords], c: u64) -> RunQueue
     ensures { result ≡ queue_at cpus.now c }
 {
@@ -210,7 +210,7 @@ pub fn load_queue(cpus: &[CpuWords], c: u64) -> RunQueue
     queue_in(&none)
 }
 
-#[tactic(auto, using(crate::specs::Laws::Queue::stored_out), unfolding(crate::specs::Queue::queue_stored))]
+#[tactic(auto, using(crate::proofs::Laws::Queue::stored_out), unfolding(crate::specs::Queue::queue_stored))]
 pub fn store_queue(cpus: &mut [CpuWords], c: u64, q: RunQueue)
     ensures { cpus.new ≡ queue_stored cpus.old c q }
 {

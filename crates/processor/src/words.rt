@@ -43,7 +43,7 @@ pub const CUR_REBALANCE_TIME: usize = 80;
 // What its idle thread has paid of its timeslice.
 pub const IDLE_TIMESLICE: usize = 81;
 
-#[tactic(auto, using(crate::specs::Laws::Words::word_out), unfolding(crate::specs::Words::word))]
+#[tactic(auto, using(crate::proofs::Laws::Words::word_out), unfolding(crate::specs::Words::word))]
 pub fn word(cpus: &[CpuWords], c: u64, w: usize) -> u64
     ensures { result ≡ word cpus.now c w }
 {
@@ -55,7 +55,7 @@ pub fn word(cpus: &[CpuWords], c: u64, w: usize) -> u64
     0
 }
 
-#[tactic(auto, using(crate::specs::Laws::Words::put_out), unfolding(crate::specs::Words::put_word))]
+#[tactic(auto, using(crate::proofs::Laws::Words::put_out), unfolding(crate::specs::Words::put_word))]
 pub fn put_word(cpus: &mut [CpuWords], c: u64, w: usize, v: u64)
     ensures { cpus.new ≡ put_word cpus.old c w v }
 {

@@ -1,4 +1,2 @@
 pub mod Answers
-pub mod Changes
 pub mod Start
-pub mod Started

@@ -7,7 +7,7 @@ use mathlib.Core.List.{List, [], ◌∷◌}
 use lib.ListN.{length, get_or-eq_default}
 use native.Mathlib.Omega.{arith}
 use Rattle.rules.specs.Questions.{Question, question, first_no}
-use Rattle.rules.specs.Seal.{undeclared_passed}
+use Rattle.rules.proofs.Seal.{undeclared_passed}
 use Rattle.processor.specs.Words.{word}
 use Rattle.questions.specs.declared.state.State.{State}
 use Rattle.questions.specs.Questions.{cpu_declared, pin_declared, declared_in, placed_in, all_placed_below}

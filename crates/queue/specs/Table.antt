@@ -1,9 +1,9 @@
 -- The constant table (src/table.rt) by its rule, and how the code reads it.
 use Rattle.std.specs.Prelude.{◌≡◌, ℕ, zero, suc, ◌+◌, ◌*◌, ◌/◌, ◌%◌, ◌^◌, ◌<◌, true, List, [], ◌∷◌, length, nat_eq, nat_lt, slice_index, slice_index_or, refl}
 use Rattle.std.proofs.Common.{sym, ◌∙◌, add-zero, zero-add, arith, eqb-true, lt-ltb, ltb-false}
-use Rattle.rules.specs.Laws.Below.{all_below, at_below}
-use Rattle.rules.specs.Laws.Line.{both}
-use Rattle.rules.specs.Laws.Effect.{cut_below, offset_past}
+use Rattle.rules.proofs.Laws.Below.{all_below, at_below}
+use Rattle.rules.proofs.Laws.Line.{both}
+use Rattle.rules.proofs.Laws.Effect.{cut_below, offset_past}
 use Rattle.rules.specs.Priority.{nr_values, cut}
 use Rattle.rules.specs.Queue.{nr_buckets, width, realtime_bucket, offset}
 

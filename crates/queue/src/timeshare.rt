@@ -26,7 +26,7 @@ pub struct TimesharePut {
     pub behind: u64,
 }
 
-#[tactic(auto, using(crate::specs::Table::offset_entry, rules::specs::Laws::Effect::cut_below), unfolding(rules::specs::Priority::nr_values))]
+#[tactic(auto, using(crate::specs::Table::offset_entry, rules::proofs::Laws::Effect::cut_below), unfolding(rules::specs::Priority::nr_values))]
 pub fn offset(value: u64) -> u64
     ensures { result ≡ offset value }
 {
@@ -90,7 +90,7 @@ impl TimeshareQueue {
     }
 
     // The bucket that a thread joins.
-    #[tactic(auto, using(crate::specs::Timeshare::back_one, crate::specs::Timeshare::back_zero, crate::specs::Timeshare::round_left, rules::specs::Laws::Effect::offset_in), unfolding(crate::specs::Timeshare::ts_bucket, rules::specs::Queue::nr_buckets, crate::specs::Timeshare::ts_index))]
+    #[tactic(auto, using(crate::specs::Timeshare::back_one, crate::specs::Timeshare::back_zero, crate::specs::Timeshare::round_left, rules::proofs::Laws::Effect::offset_in), unfolding(crate::specs::Timeshare::ts_bucket, rules::specs::Queue::nr_buckets, crate::specs::Timeshare::ts_index))]
     pub fn bucket(self, value: u64, current: bool) -> u64
         ensures { result ≡ ts_bucket self value current }
     {

@@ -1,4 +1,3 @@
-pub mod Laws
 pub mod Linked
 pub mod Queue
 pub mod QueueRead

@@ -5,8 +5,8 @@ use mathlib.Core.Bool.{Bool, true, false, ◌&&◌, ◌||◌}
 use mathlib.Core.List.{List, [], ◌∷◌}
 use lib.Dec.{eqb}
 use lib.ListN.{length}
-use Rattle.rules.specs.Laws.Below.{all_below, at_below}
-use Rattle.rules.specs.Laws.Line.{both}
+use Rattle.rules.proofs.Laws.Below.{all_below, at_below}
+use Rattle.rules.proofs.Laws.Line.{both}
 use Rattle.rules.specs.State.{Limits}
 use Rattle.rules.specs.Requests.{Request, operand, past, operands, nth, widths, widths_or}
 use Rattle.rules.specs.Questions.{at_most, in_range}

@@ -9,7 +9,7 @@ use native.Mathlib.Omega.{arith}
 use native.Mathlib.Nat.{suc-add, mul_assoc, pow-succ', one-le-pow, zero-add, one-mul, add-zero, mul-zero}
 use Rattle.rules.specs.Requests.{operand, past, at_least}
 use Rattle.rules.specs.Writer.{Bytes}
-use Rattle.rules.specs.Laws.Writer.{operand_lt, past_drop}
+use Rattle.rules.proofs.Laws.Writer.{operand_lt, past_drop}
 
 pub enough : (n : ℕ) (l : List ℕ) → n ≤ length l → at_least n l ≡ true
 unfolding at_least

@@ -8,7 +8,7 @@ use lib.ListN.{drop}
 use Rattle.rules.specs.State.{Limits}
 use Rattle.rules.specs.Requests.{operand, past, operands, widths, pin_of, request, sum, at_least, Reading, asks, cut_short, read_operands, read}
 use Rattle.rules.specs.Writer.{Bytes}
-use Rattle.rules.specs.Laws.Writer.{operand_lt, past_drop}
+use Rattle.rules.proofs.Laws.Writer.{operand_lt, past_drop}
 use Rattle.request.proofs.Bytes.{bytes_drop}
 
 -- Each operand is below the number of so many bytes.

@@ -11,8 +11,8 @@ use lib.Seq.{drop-cons}
 use native.Mathlib.Numerals.{add-one}
 use native.Mathlib.Omega.{arith}
 use borrow.Author.Tests.{eqb-true, eqb-false, ne_eqb, le-leb, lt-leb}
-use Rattle.rules.specs.Laws.Below.{all_below, at_below}
-use Rattle.rules.specs.Laws.Line.{both}
+use Rattle.rules.proofs.Laws.Below.{all_below, at_below}
+use Rattle.rules.proofs.Laws.Line.{both}
 use Rattle.rules.specs.Requests as rules
 use Rattle.rules.specs.State.{Limits}
 use Rattle.rules.specs.Requests.{set_critical, nth, request, widths, sum, widths_or}

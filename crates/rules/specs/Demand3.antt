@@ -7,20 +7,13 @@
 -- A timeshare thread is gone within 8,192 of those takes, if nobody arrives while it waits in the realtime part, as the current thread, or in timeshare while
 -- the filling and emptying buckets are the same.
 -- Waiting, being ahead, a, b, and what is asked of the arrivals are defined in Ahead.antt, over the puts and takes alone.
-use Rattle.std.specs.Prelude.{ℕ, ◌+◌, ◌≤◌, ◌<◌, ◌*◌, ◌≡◌, refl, ◌↔◌, Bool, true, false, List, [], ◌∷◌, ◌++◌}
-use Rattle.std.proofs.Common.{◌∙◌, append_assoc, arith}
+use Rattle.std.specs.Prelude.{ℕ, ◌+◌, ◌≤◌, ◌<◌, ◌≡◌, ◌↔◌, Bool, true, false, List, [], ◌∷◌, ◌++◌}
 use Rattle.std.proofs.Math.Option.{Option, none, some}
 use Rattle.rules.specs.declared.Part.TheVariants as part
 use Rattle.rules.specs.Line.{has, ahead, Distinct}
-use Rattle.rules.specs.Laws.Line.{both}
-use Rattle.rules.specs.Queue.{Queue, nr_buckets, order}
+use Rattle.rules.specs.Queue.{Queue, order}
 use Rattle.rules.specs.Puts.{Put, PutOrTake, a_put, a_take}
 use Rattle.rules.specs.Ahead.{Wait, who_waits, threads, In, how_many, unpinned, ahead_of, gone, a_of, b_of, served, calm_while}
-use Rattle.rules.specs.State.{Limits, base_limits, start}
-use Rattle.rules.specs.Commands.{after_calls, history}
-use Rattle.rules.specs.Laws.Kept.{Kept}
-use Rattle.rules.specs.Laws.Reached.{kept_calls}
-use Rattle.rules.specs.Laws.InOrder.{by_ahead}
 
 -- What is demanded of a queue and of all its puts and takes, oldest first. The put looked at is p: pre came before it, mid after it, post later still; so
 -- every moment is looked at, also within a call.
@@ -42,31 +35,3 @@ pub record AsDemanded (bound : ℕ) (q : Queue) (log : List PutOrTake) : Type 0 
   -- is at most the bound.
   pub within : (pre mid post : List PutOrTake) (p : Put) → log ≡ pre ++ (a_put p ∷ mid) ++ post → p.part ≡ part.Timeshare → calm_while p.thread mid ≡ true
       → (a_of pre p + b_of pre p mid + 1 ≤ bound) × (bound ≤ served mid → gone p.thread mid ≡ true)
-
--- ---- the proof
-
-pub as_demanded : {limit : ℕ} {q : Queue} {log : List PutOrTake} → Kept limit q log → AsDemanded (limit * nr_buckets) q log
-as_demanded {limit} {q} {log} k = record {
-  holds = k.fits.holds;
-  once = k.fits.once;
-  in_order = by_ahead k.fits;
-  turn = λ pre mid post p s x e.
-      (k.past (pre ++ (a_put p ∷ mid) ++ (a_take s (some x) ∷ [])) post (e ∙ rw (append_assoc (pre ++ (a_put p ∷ mid)) (a_take s (some x) ∷ []) post))).turn pre mid p s x refl;
-  waits = λ pre mid post p e. (k.past (pre ++ (a_put p ∷ mid)) post e).still pre mid p refl;
-  own = λ pre post o e. (k.past (pre ++ (a_take false o ∷ [])) post (e ∙ rw (append_assoc pre (a_take false o ∷ []) post))).own pre o refl;
-  stealing = λ pre post o e. (k.past (pre ++ (a_take true o ∷ [])) post (e ∙ rw (append_assoc pre (a_take true o ∷ []) post))).stealing pre o refl;
-  within = λ pre mid post p e t m.
-      let n : a_of pre p + b_of pre p mid + 1 ≤ limit * nr_buckets = (k.past (pre ++ (a_put p ∷ mid)) post e).within pre mid p refl t m in
-      (n, λ h. both (gone p.thread mid) (λ g. g) (λ g. absurd (omega (arith, ((k.past (pre ++ (a_put p ∷ mid)) post e).still pre mid p refl).0 g))));
-}
-
--- with any limits: the bound is the number of threads times that of buckets
-pub demand_3_of : (limits : Limits) (calls : List (List ℕ)) (c : ℕ)
-    → AsDemanded (limits.threads * nr_buckets) ((after_calls (start limits) calls).cpus c).queue (history (start limits) calls c)
-demand_3_of limits calls c = as_demanded (kept_calls limits calls c)
-
--- ---- THE THEOREM: for every list of calls from the library's start, of any length, each on any bytes, and every CPU
-
-pub demand_3 : (calls : List (List ℕ)) (c : ℕ) → AsDemanded 8192 ((after_calls (start base_limits) calls).cpus c).queue (history (start base_limits) calls c)
-unfolding base_limits nr_buckets
-demand_3 calls c = demand_3_of base_limits calls c

@@ -4,7 +4,6 @@ pub mod Choice
 pub mod Commands
 pub mod Demand3
 pub mod Draw
-pub mod Example
 pub mod Laws
 pub mod Line
 pub mod Lines
@@ -12,10 +11,8 @@ pub mod Priority
 pub mod Puts
 pub mod Questions
 pub mod Queue
-pub mod Requests
 pub mod ReadBack
-pub mod Rows
-pub mod Run
+pub mod Requests
 pub mod Schedule
 pub mod Seal
 pub mod Shortest

@@ -1,7 +1,7 @@
 -- The choices of `balance`: until one moves a thread, twenty steps are made, or a donor has no load.
 use Rattle.std.specs.Prelude.{◌≡◌, ℕ, zero, suc, ◌-◌, ◌<◌, Bool, true, false, cond, not, ◌||◌, List, length, ◌==◌, nat_le, nat_lt, refl}
 use Rattle.std.proofs.Common.{ap, ◌∙◌, arith}
-use Rattle.rules.specs.Laws.Line.{both}
+use Rattle.rules.proofs.Laws.Line.{both}
 use Rattle.rules.specs.Choice as rule
 use Rattle.rules.specs.Choice.{choose_cpu_balance}
 use Rattle.queue.specs.Num.{sum}
@@ -9,7 +9,7 @@ use Rattle.runqueue.specs.declared.rq.Front.{Front}
 use Rattle.runqueue.specs.declared.rq.Front.TheVariants as front
 use Rattle.runqueue.specs.RunQueue.{rq_front}
 use Rattle.processor.specs.Words.{word, put_word}
-use Rattle.processor.specs.Laws.Words.{length_put}
+use Rattle.processor.proofs.Laws.Words.{length_put}
 use Rattle.processor.specs.Queue.{queue_at}
 use Rattle.processor.specs.Cpu.{current_load}
 use Rattle.topology.specs.CpuSet as set

@@ -1,7 +1,7 @@
 -- The loop of `run`: what is left to feed gives what feeding all gives.
 use Rattle.std.proofs.Common.{◌≡◌, ℕ, zero, suc, ◌+◌, ◌-◌, ◌<◌, ◌≤◌, Bool, true, false, cond, not, T as Holds, eqb, ltb, List, sym, refl, ap, ◌∙◌, sub-le, arith, ltb-false, ltb-true, lt-ltb, eqb-true}
 use borrow.Author.Tests.{eqb-false}
-use Rattle.rules.specs.Laws.Line.{both}
+use Rattle.rules.proofs.Laws.Line.{both}
 use Rattle.lines.specs.Lines.{room, refusal_number, buffer_with}
 use Rattle.outcome.specs.declared.answer.Answered.{Answered}
 use Rattle.outcome.specs.Call.{asked_def}

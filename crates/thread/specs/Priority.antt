@@ -2,8 +2,8 @@
 use Rattle.std.specs.Prelude.{ℕ, ◌+◌, ◌*◌, ◌/◌, ◌%◌, ◌<◌, ◌≡◌, refl, true, false, cond, eqb}
 use Rattle.std.proofs.Math.Option.{none, some}
 use Rattle.std.proofs.Common.{arith, lt-ltb, ne_eqb}
-use Rattle.rules.specs.Laws.Line.{both}
-use Rattle.rules.specs.Laws.Effect.{cut_below}
+use Rattle.rules.proofs.Laws.Line.{both}
+use Rattle.rules.proofs.Laws.Effect.{cut_below}
 use Rattle.rules.specs.declared.PriorityClass.{PriorityClass}
 use Rattle.rules.specs.declared.PriorityClass.TheVariants as class
 use Rattle.rules.specs.declared.Priority.{Priority}

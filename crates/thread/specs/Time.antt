@@ -15,7 +15,7 @@ use Rattle.thread.specs.declared.time.Preferred.TheVariants as preferred
 use Rattle.thread.specs.declared.time.OptionCpu.{OptionCpu}
 use Rattle.thread.specs.declared.time.OptionCpu.TheVariants as cpu
 use Rattle.thread.specs.Thread.{with_last, with_pinned, with_queue, with_deadline, with_timeslice}
-use Rattle.rules.specs.Laws.Line.{both}
+use Rattle.rules.proofs.Laws.Line.{both}
 use Rattle.thread.specs.Reads.{named, cpu_in, donated_in, reads}
 
 -- the field for a CPU number; a number past the largest of an i32 is none

@@ -114,7 +114,7 @@ pub fn max(p: Priority, q: Priority) -> Priority
 }
 
 // The effective priority of a thread with these two.
-#[tactic(auto, using(rules::specs::Rows::given), unfolding(rules::specs::Priority::effective, crate::specs::Reads::held))]
+#[tactic(auto, using(rules::proofs::Rows::given), unfolding(rules::specs::Priority::effective, crate::specs::Reads::held))]
 pub fn effective(own: Priority, donated: OptionPriority) -> Priority
     ensures { result ≡ effective own (held donated) }
 {
@@ -125,7 +125,7 @@ pub fn effective(own: Priority, donated: OptionPriority) -> Priority
 }
 
 // Is a donation accepted where another may be held? Not if that one is greater.
-#[tactic(auto, using(rules::specs::Rows::given), unfolding(rules::specs::Priority::donation_accepted, crate::specs::Reads::held, rules::specs::Priority::at_most))]
+#[tactic(auto, using(rules::proofs::Rows::given), unfolding(rules::specs::Priority::donation_accepted, crate::specs::Reads::held, rules::specs::Priority::at_most))]
 pub fn donation_accepted(current: OptionPriority, pri: Priority) -> bool
     ensures { result ≡ donation_accepted (held current) pri }
 {

@@ -69,7 +69,7 @@ pub fn narrow_sum(paid: u64, ticks: u64) -> u64
 }
 
 // The pin, where there is one, is preferred.
-#[tactic(auto, using(rules::specs::Rows::given), unfolding(crate::specs::Time::preferred_of))]
+#[tactic(auto, using(rules::proofs::Rows::given), unfolding(crate::specs::Time::preferred_of))]
 pub fn pin_or_last(pinned: OptionCpu, last: OptionCpu) -> Preferred
     ensures { result ≡ preferred_of pinned last }
 {
@@ -79,7 +79,7 @@ pub fn pin_or_last(pinned: OptionCpu, last: OptionCpu) -> Preferred
     }
 }
 
-#[tactic(auto, using(rules::specs::Rows::given), unfolding(crate::specs::Time::preferred_last))]
+#[tactic(auto, using(rules::proofs::Rows::given), unfolding(crate::specs::Time::preferred_last))]
 pub fn preferred_last(last: OptionCpu) -> Preferred
     ensures { result ≡ preferred_last last }
 {

@@ -11,14 +11,14 @@ use lib.Dec.{eqb, ltb, leb}
 use native.Mathlib.Omega.{arith}
 use native.Mathlib.Nat.{pow-le-pow_right}
 use borrow.Author.Tests.{lt-ltb, le-ltb, ltb-true, eqb-true, eqb-false}
-use Rattle.rules.specs.Laws.Line.{both}
+use Rattle.rules.proofs.Laws.Line.{both}
 use Rattle.rules.specs.Writer.{little_endian, field_bytes, fits}
 use Rattle.rules.specs.Writer.{bytes_of, ranges}
 use Rattle.rules.specs.Writer as rules
 use Rattle.rules.specs.State.{Limits}
 use Rattle.rules.specs.Requests.{nth, widths, widths_or, sum}
 use Rattle.rules.specs.Questions.{question}
-use Rattle.rules.specs.Laws.Writer.{of_three, refusal_is, fails_first, fields_length}
+use Rattle.rules.proofs.Laws.Writer.{of_three, refusal_is, fails_first, fields_length}
 use Rattle.lines.specs.Text.{Text, text, write}
 use Rattle.lines.proofs.Writing.{then, write_sets}
 use Rattle.request.specs.Request.{limits_of, operands_in, operands_of}

@@ -1,0 +1,138 @@
+-- THE CPUS THAT ARE FOUND over words: each search finds one below its limit, or none.
+use Rattle.std.specs.Prelude.{ℕ, zero, suc, ◌+◌, ◌-◌, ◌≤◌, ◌<◌, Bool, List, [], ◌∷◌, length, eqb, ltb}
+use Rattle.std.proofs.Common.{sym, subst, arith}
+use Rattle.std.proofs.Math.Option.{Option, none, some}
+use Rattle.rules.specs.declared.Priority.{Priority}
+use Rattle.rules.proofs.Laws.Line.{both}
+use Rattle.rules.specs.Line.{Below}
+use Rattle.rules.specs.Choice.{Best, none_yet, best, lower, Searched, find_cpu, first_that, may_steal_from, Extremes, weigh, extremes, pair_of, choose_cpu_balance}
+use Rattle.rules.specs.Waits.{Under}
+use Rattle.rules.proofs.Laws.Steps.{join_in_all}
+use Rattle.thread.specs.declared.Thread.{Thread}
+use Rattle.thread.specs.declared.time.OptionCpu.{OptionCpu}
+use Rattle.thread.specs.declared.time.OptionCpu.TheVariants as cpu
+use Rattle.thread.specs.Reads.{named, cpu_in}
+use Rattle.thread.specs.Time.{preferred_last, preferred_of, preferred_cpu}
+use Rattle.processor.specs.Words.{word}
+use Rattle.processor.specs.Word.{PLACED}
+use Rattle.topology.specs.Words as node
+use Rattle.topology.specs.Node.{parent, next, lesser, has_children, contains_at, first_of, end_of}
+use Rattle.topology.specs.Walk.{those_from, cpus_at, leaf_cpus, to_root, visited_at, nearest_at}
+use Rattle.represents.proofs.Laws.Topology.{lesser_most}
+use Rattle.choice.specs.Reads.{load_at, movable_at, named_as, draw_word}
+use Rattle.choice.specs.Found.{begun}
+use Rattle.choice.specs.Select.{at_once, cpu_found, accepted, search_from, search_again, search_twice, select_cpu}
+use Rattle.sched_words.specs.Choose.{preferred_of_def, select_for, steal_from_def}
+use Rattle.command_laws.specs.CpusFound.{ExtremesNear, PairNear}
+
+-- ---- the CPUs of the nodes
+
+those_near : (n : ℕ) (test : ℕ → Bool) (c k : ℕ) → (0 < k → c + k ≤ n) → Below n (those_from test c k)
+unfolding those_from Below
+those_near n test c zero h = tt
+those_near n test c (suc k) h =
+    let l : c + suc k ≤ n = h (omega arith) in
+    let r : Below n (those_from test (suc c) k) = those_near n test (suc c) k (λ g. omega arith) in
+    both (test c) (λ e. rw e (omega arith, r)) (λ e. rw e r)
+
+cpus_near : (rows : List (List ℕ)) (limit n : ℕ) → Below limit (cpus_at rows limit n)
+unfolding cpus_at end_of
+cpus_near rows limit n =
+    those_near limit (contains_at rows n) (first_of rows n) (lesser (node.word rows n 4) limit - first_of rows n)
+    (λ g. omega (arith, lesser_most (node.word rows n 4) limit))
+
+leaf_near : (rows : List (List ℕ)) (limit n : ℕ) → Below limit (leaf_cpus rows limit n)
+unfolding leaf_cpus Below
+leaf_near rows limit n = both (has_children rows n) (λ e. rw e tt) (λ e. rw e (cpus_near rows limit n))
+
+visited_near : (rows : List (List ℕ)) (limit : ℕ) → Below limit (visited_at rows limit)
+unfolding visited_at
+visited_near rows limit = join_in_all limit (leaf_cpus rows limit) (to_root rows next (length rows) (node.word rows 0 next)) (leaf_near rows limit)
+
+nearest_near : (rows : List (List ℕ)) (limit m : ℕ) → Below limit (nearest_at rows limit m)
+unfolding nearest_at
+nearest_near rows limit m = join_in_all limit (cpus_at rows limit) (to_root rows parent (length rows) m) (cpus_near rows limit)
+
+-- ---- select
+
+lower_near : (n : ℕ) (b : Best) (s c : ℕ) → Under n (cpu_found b) → c < n → Under n (cpu_found (lower b s c))
+unfolding lower cpu_found Under
+lower_near n none_yet s c u h = h
+lower_near n (best t d) s c u h = both (ltb s t) (λ e. rw e h) (λ e. rw e u)
+
+find_near : (n us : ℕ) (skip : ℕ → Bool) (load : ℕ → ℕ) (l : List ℕ) (f : Searched) → Below n l → Under n (cpu_found f.found) → Under n (cpu_found (find_cpu us skip load l f).found)
+unfolding find_cpu Below
+find_near n us skip load [] f b u = u
+find_near n us skip load (c ∷ l) f b u =
+    both (skip c)
+    (λ e. rw e (find_near n us skip load l f b.1 u))
+    (λ e. rw e (find_near n us skip load l _ b.1 (lower_near n f.found _ c u b.0)))
+
+search_near : (cs ns : List (List ℕ)) (us limit : ℕ) (p : Option Priority) (draws : ℕ) → Under limit (cpu_found (search_from cs ns us limit p draws).found)
+unfolding search_from begun cpu_found Under
+search_near cs ns us limit p draws = find_near limit us _ _ (visited_at ns limit) _ (visited_near ns limit) tt
+
+twice_near : (cs ns : List (List ℕ)) (us limit : ℕ) (p : Priority) (avoid : Option ℕ) (draws : ℕ) → Under limit (cpu_found (search_twice cs ns us limit p avoid draws).found)
+unfolding search_twice search_again
+twice_near cs ns us limit p avoid draws =
+    both (accepted avoid (search_from cs ns us limit (some p) draws).found)
+    (λ e. rw e (search_near cs ns us limit (some p) draws))
+    (λ e. rw e (search_near cs ns us limit none (search_from cs ns us limit (some p) draws).draws))
+
+select_near : (cs ns : List (List ℕ)) (us limit : ℕ) (preferred : Option ℕ) (p : Priority) (avoid : Option ℕ) → Under limit preferred → Under limit (select_cpu cs ns us limit preferred p avoid)
+unfolding select_cpu
+select_near cs ns us limit preferred p avoid u =
+    both (at_once cs p avoid preferred) (λ e. rw e u) (λ e. rw e (twice_near cs ns us limit p avoid (word cs us draw_word)))
+
+preferred_near : (n : ℕ) (p l : OptionCpu) → Under n (named p) → Under n (named l) → Under n (named (preferred_of_def (preferred_of p l)))
+unfolding preferred_of preferred_last preferred_of_def named Under
+preferred_near n (cpu.Some c) l u v = u
+preferred_near n cpu.None (cpu.Some d) u v = v
+preferred_near n cpu.None cpu.None u v = tt
+
+-- the CPU selected for a thread whose pin and last CPU are below the limit
+pub selected_near : (cs ns : List (List ℕ)) (us limit : ℕ) (t : Thread) (avoid : OptionCpu) → Under limit (named (cpu_in t.pinned_cpu)) → Under limit (named (cpu_in t.last_cpu))
+    → Under limit (named (select_for cs ns us limit t avoid))
+unfolding select_for preferred_cpu
+selected_near cs ns us limit t avoid p l =
+    subst (Under limit) (sym (named_as _)) (select_near cs ns us limit _ _ (named avoid) (preferred_near limit (cpu_in t.pinned_cpu) (cpu_in t.last_cpu) p l))
+
+-- ---- steal
+
+first_near : (n : ℕ) (test : ℕ → Bool) (l : List ℕ) → Below n l → Under n (first_that test l)
+unfolding first_that Below Under
+first_near n test [] b = tt
+first_near n test (c ∷ l) b = both (test c) (λ e. rw e b.0) (λ e. rw e (first_near n test l b.1))
+
+pub steal_near : (cs ns : List (List ℕ)) (us limit : ℕ) → Under limit (named (steal_from_def cs ns us limit))
+unfolding steal_from_def
+steal_near cs ns us limit =
+    subst (Under limit) (sym (named_as _))
+    (first_near limit (may_steal_from us (load_at cs) (movable_at cs)) (nearest_at ns limit (word cs us PLACED)) (nearest_near ns limit (word cs us PLACED)))
+
+weigh_near : (n : ℕ) (e : Extremes) (s c d : ℕ) → c < n → ExtremesNear n e → ExtremesNear n (weigh e s c d)
+unfolding weigh
+weigh_near n e s c d h k =
+    both (ltb e.highest_score s)
+    (λ t. rw t (record { highest = h; lowest = k.lowest }))
+    (λ t. rw t (record { highest = k.highest; lowest = lower_near n e.lowest s c k.lowest h }))
+
+extremes_near : (n us : ℕ) (allowed : ℕ → Bool) (load : ℕ → ℕ) (l : List ℕ) (e : Extremes) → Below n l → ExtremesNear n e → ExtremesNear n (extremes us allowed load l e)
+unfolding extremes Below
+extremes_near n us allowed load [] e b k = k
+extremes_near n us allowed load (c ∷ l) e b k =
+    both (allowed c)
+    (λ t. rw t (extremes_near n us allowed load l _ b.1 (weigh_near n e _ c _ b.0 k)))
+    (λ t. rw t (extremes_near n us allowed load l e b.1 k))
+
+pair_near : (n h : ℕ) (b : Best) → h < n → Under n (cpu_found b) → PairNear n (pair_of h b)
+unfolding pair_of cpu_found Under PairNear
+pair_near n h none_yet l u = tt
+pair_near n h (best s c) l u = both (eqb c h) (λ e. rw e tt) (λ e. rw e (l, u))
+
+pub choice_near : (us : ℕ) (allowed : ℕ → Bool) (load : ℕ → ℕ) (ns : List (List ℕ)) (limit m draws : ℕ) → 0 < limit
+    → PairNear limit (choose_cpu_balance us allowed load (cpus_at ns limit m) draws).found
+unfolding choose_cpu_balance cpu_found Under
+choice_near us allowed load ns limit m draws h =
+    let k = extremes_near limit us allowed load (cpus_at ns limit m) _ (cpus_near ns limit m) (record { highest = h; lowest = tt }) in
+    pair_near limit _ _ k.highest k.lowest

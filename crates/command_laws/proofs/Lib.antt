@@ -1,0 +1,14 @@
+pub mod Asked
+pub mod Call
+pub mod Command
+pub mod CpusFound
+pub mod InRange
+pub mod Law
+pub mod Links
+pub mod Nodes
+pub mod Numbers
+pub mod Obeyed
+pub mod Plain
+pub mod Ran
+pub mod Writes
+pub mod Written

@@ -1,0 +1,10 @@
+pub mod Demand3
+pub mod Example
+pub mod Laws
+pub mod ReadBack
+pub mod Rows
+pub mod Run
+pub mod Seal
+pub mod Shortest
+pub mod Wakeups
+pub mod Witnesses

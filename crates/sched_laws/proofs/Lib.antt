@@ -1,0 +1,13 @@
+pub mod Commands
+pub mod DoSchedule
+pub mod Donate
+pub mod Frames
+pub mod Hardtick
+pub mod Queues
+pub mod Schedule
+pub mod Sealed
+pub mod Switch
+pub mod TickBound
+pub mod Ticks
+pub mod Visited
+pub mod Words
