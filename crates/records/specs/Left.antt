@@ -25,7 +25,7 @@ pub record Left (A M : Type 0) : Type 0 where
 abbrev pub Slice : Type 0 → Type 0
 Slice X = Both (MutBor (List X)) (MutBor (List X))
 
--- the function answers r and leaves the slices as f says. `leaves`: of threads and CPUs; `LeavesOver`: f is told the nodes too, which stay; `LeavesOne`: of one slice
+-- the function answers r and leaves the slices as f says. `Leaves`: of threads and CPUs; `LeavesOver`: f is told the nodes too, which stay; `LeavesOne`: of one slice
 abbrev pub Leaves : {A : Type 0} → (Memory → Left A Memory) → A → Slice Thread → Slice (List ℕ) → Type 0
 Leaves {A} f r threads cpus =
     ◌≡◌ {A = Left A Memory} (record { answer = r; memory = mem threads.exit.now cpus.exit.now })

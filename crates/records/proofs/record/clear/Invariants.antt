@@ -1,5 +1,4 @@
 use Rattle.std.proofs.Common.{◌≡◌, ◌-◌, ◌≤◌, length}
-use Rattle.thread.specs.Thread.{blank}
 use Rattle.records.proofs.Cleared.{cleared}
 use Rattle.records.proofs.record.clear.Given as goal
 
