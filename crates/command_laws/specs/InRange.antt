@@ -23,6 +23,7 @@ pub record Rows (cs cs' : List (List ℕ)) : Type 0 where
 
 -- The words 66 to 71 of CPU c are 0.
 abbrev pub Zeros : List (List ℕ) → ℕ → Type 0
+Zeros cs c = (w : ℕ) → 66 ≤ w → w < 72 → get_or (get_or cs c []) w 0 ≡ 0
 
 -- ---- all of it
 

@@ -39,5 +39,5 @@ pub record Frame (found : Lent) (h : LentState) : Type 0 where
 -- ---- for the proof
 
 pub record KeptFree (found : List (List ℕ)) (b h : LentState) : Type 0 where
-  memory : StaysInRange (mem b.threads b.cpus) (mem h.threads h.cpus)
-  nodes : Nodes found h.state.node_count h.nodes
+  pub memory : StaysInRange (mem b.threads b.cpus) (mem h.threads h.cpus)
+  pub nodes : Nodes found h.state.node_count h.nodes

@@ -9,7 +9,7 @@ use Rattle.rules.specs.Commands.{nothing_shown, refuses, answered, step}
 use Rattle.rules.specs.Lines.{ends, no_bytes, output}
 use Rattle.demands.specs.Calls.{LentState, Ready}
 use Rattle.stream_laws.specs.Calls.{outputs, stream, Proper, Roomy, says_last, begun}
-use Rattle.stream_laws.proofs.Laws.Reading.{is_whole}
+use Rattle.stream_laws.specs.Laws.Reading.{is_whole}
 use Rattle.stream_laws.specs.Taken.{says, does, after_commands, EndedWithin}
 use Rattle.stream_laws.proofs.Output.{feed_output}
 use Rattle.stream_laws.specs.Witness.{Short, fed_with, joined}

@@ -25,8 +25,8 @@ use Rattle.question_laws.proofs.Start.{new_all}
 use Rattle.command_laws.specs.Law.{lent}
 use Rattle.command_laws.specs.Links.{Link, QueueInRange}
 use Rattle.command_laws.proofs.Links.{orderly_none}
-use Rattle.command_laws.specs.InRange.{Rows, ThreadInRange, InRange}
-use Rattle.command_laws.proofs.InRange.{rows_none, rows_then, rows_put, rows_store, Zeros, zeros_put, zeros_here, zeros_there}
+use Rattle.command_laws.specs.InRange.{Rows, ThreadInRange, InRange, Zeros}
+use Rattle.command_laws.proofs.InRange.{rows_none, rows_then, rows_put, rows_store, zeros_put, zeros_here, zeros_there}
 use Rattle.command_laws.specs.Nodes.{Nodes}
 use Rattle.command_laws.proofs.Nodes.{nodes_root}
 use Rattle.demands.specs.Calls.{LentState, Ready}
