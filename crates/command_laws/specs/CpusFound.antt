@@ -1,5 +1,5 @@
 -- THE CPUS THAT ARE FOUND over words: each search finds one below its limit, or none.
-use Rattle.std.specs.Prelude.{ℕ, ◌-◌, ◌<◌}
+use Rattle.std.specs.Prelude.{ℕ, ◌<◌}
 use Rattle.rules.specs.Choice.{Extremes, Pair, no_pair, pair}
 use Rattle.rules.specs.Waits.{Under}
 use Rattle.choice.specs.Select.{cpu_found}

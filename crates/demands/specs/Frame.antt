@@ -2,11 +2,9 @@
 -- of each after every list of calls from the library's start, obeyed and refused: that it is as found, or what it is written. A reader reads the record and
 -- the theorem.
 use Rattle.std.specs.Prelude.{ℕ, ◌≤◌, ◌<◌, ◌≡◌, ◌≢◌, ◌⊎◌, List, [], length, get_or}
-use Rattle.rules.specs.State.{start}
 use Rattle.thread.specs.Thread.{NONE, blank}
 use Rattle.records.specs.Left.{mem}
 use Rattle.command.specs.Lent.{Lent}
-use Rattle.command_laws.specs.Law.{lent}
 use Rattle.command_laws.specs.InRange.{StaysInRange}
 use Rattle.command_laws.specs.Nodes.{Nodes}
 use Rattle.demands.specs.Calls.{LentState}

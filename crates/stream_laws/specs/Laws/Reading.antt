@@ -1,5 +1,5 @@
 -- A command that stands whole at the front of some bytes.
-use Rattle.std.specs.Prelude.{ℕ, Bool, true, false}
+use Rattle.std.specs.Prelude.{Bool, true, false}
 use Rattle.rules.specs.Requests.{Reading, unknown, cut_short, asks}
 
 -- not cut short
