@@ -1,6 +1,8 @@
 // Standard input block by block, and bytes to a file.
 #![tactic(auto)]
 
+ghost use Rattle.std.specs.Prelude.{◌≤◌, length};
+
 use std::io;
 use std::io::Read;
 
@@ -49,4 +51,19 @@ pub fn show(file: &impl Print, bytes: &[u8], n: usize) -> bool {
         return file.write_all(&bytes[..n]).is_ok();
     }
     false
+}
+
+// Reads until the buffer is full, the input ends or a read fails; answers how many bytes came, which are at the front of the buffer.
+pub fn read_full(file: &mut impl Read, buffer: &mut [u8]) -> usize
+    ensures { result ≤ length buffer.new }
+{
+    let mut done: usize = 0;
+    while done < buffer.len() {
+        match file.read(&mut buffer[done..]) {
+            Ok(0) => return done,
+            Ok(n) => done += n,
+            Err(_) => return done,
+        }
+    }
+    done
 }
