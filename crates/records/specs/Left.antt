@@ -1,6 +1,6 @@
 -- What a function leaves of the slices that it is lent, and what it answers: one equation for both.
 use Rattle.std.specs.Prelude.{ℕ, ◌≡◌, List}
-use Rattle.std.specs.Borrow.{Bor}
+use Rattle.std.specs.Borrow.{MutBor}
 use denote.Triple.Both.{Both}
 use Rattle.thread.specs.declared.Thread.{Thread}
 
@@ -23,9 +23,9 @@ pub record Left (A M : Type 0) : Type 0 where
 
 -- a lent slice in a contract: as it was, and as it is left
 abbrev pub Slice : Type 0 → Type 0
-Slice X = Both (Bor (List X)) (Bor (List X))
+Slice X = Both (MutBor (List X)) (MutBor (List X))
 
--- the function answers r and leaves the slices as f says. `leaves`: of threads and CPUs; `LeavesOver`: f is told the nodes too, which stay; `LeavesOne`: of one slice
+-- the function answers r and leaves the slices as f says. `Leaves`: of threads and CPUs; `LeavesOver`: f is told the nodes too, which stay; `LeavesOne`: of one slice
 abbrev pub Leaves : {A : Type 0} → (Memory → Left A Memory) → A → Slice Thread → Slice (List ℕ) → Type 0
 Leaves {A} f r threads cpus =
     ◌≡◌ {A = Left A Memory} (record { answer = r; memory = mem threads.exit.now cpus.exit.now })
