@@ -43,7 +43,6 @@ going_on B e = (and_left B.goes_on _ e, ltb-true B.steps 20 (and_right B.goes_on
 
 done_moves : (b : step.Balancing) → b.moves ≡ true → is_done b ≡ true
 unfolding is_done
-
 done_moves b e = ap (λ (t : Bool). t || (not b.goes_on || leb 20 b.steps)) e
 
 found_stops : (n : ℕ) (cs ns : List (List ℕ)) (us limit : ℕ) (b : step.Balancing) → is_done b ≡ true → find_move n cs ns us limit b ≡ record { balancing = b; cpus = cs }

@@ -1,6 +1,6 @@
 -- On words that are a tree of nodes and show the CPUs of a world, each choice is the choice of the rules.
 use Prim.Native.Nat.{ℕ, zero, suc, ◌<◌}
-use Rattle.std.specs.Prelude.{◌≡◌, Bool, true, false, cond, eqb}
+use Rattle.std.specs.Prelude.{◌≡◌, Bool, true, cond, eqb}
 use Rattle.std.proofs.Math.Path.{refl, ap}
 use Rattle.std.proofs.Common.{sym, ◌∙◌, mod-eq_of_lt, eq-eqb}
 use Rattle.std.proofs.lemmas.Bool.{false≢true}
@@ -173,7 +173,6 @@ threads_kept us w d = refl
 
 movable_kept : (us : ℕ) (w : World) (d c : ℕ) → movable_on (drawn us w d) c ≡ movable_on w c
 unfolding movable_on
-
 movable_kept us w d c = rw (threads_kept us w d, kept (λ (p : Cpu). p.queue) queue_kept us w d c)
 
 reads_drawn : (limits : Limits) (cpus : List (List ℕ)) (us : ℕ) (w : World) (d : ℕ) → ChoiceReads limits cpus w → ChoiceReads limits cpus (drawn us w d)
