@@ -1,6 +1,6 @@
 -- THE COMMANDS THAT A CPU RUNS (hex 12 to 18): over memory that stands for a state that the rules reach, each leaves and answers what the rules say.
 use Prim.Native.Nat.{ℕ, ◌+◌, ◌%◌, ◌^◌, ◌≤◌, ◌<◌}
-use Rattle.std.specs.Prelude.{◌≡◌, Bool, true, false, List, ltb}
+use Rattle.std.specs.Prelude.{◌≡◌, Bool, true, List, ltb}
 use Rattle.std.proofs.Math.Path.{refl, sym, ap, subst}
 use Rattle.std.proofs.Common.{◌∙◌, ne_eqb, ltb-false}
 use Rattle.std.proofs.lemmas.Bool.{false≢true}

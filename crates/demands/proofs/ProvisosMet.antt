@@ -18,7 +18,7 @@ use Rattle.demands.specs.Provisos.{Arrivals, Provided}
 use Rattle.demands.proofs.Demand3.{demand_3_bound}
 use Rattle.demands.specs.Witness.{begun}
 use Rattle.demands.proofs.Witness.{ready}
-use Rattle.demands.specs.ProvisosMet.{alone, before, blocks, calls, cpu_then, first, into, put_0, put_1, returns, rounds, since, soon, thread_then, ticks, turning, {}
+use Rattle.demands.specs.ProvisosMet.{alone, before, blocks, calls, cpu_then, first, into, put_0, put_1, returns, rounds, since, soon, thread_then, ticks, turning}
 
 -- ---- that they are so, for every n
 
@@ -46,16 +46,13 @@ turn n = (refl, refl)
 -- ---- THE PROVISOS ARE MET
 
 timeshare≢realtime : part.Timeshare ≢ part.Realtime
-
 timeshare≢realtime e = let z : ◌≡◌ {A = ℕ} 0 1 = cc in absurd (omega arith)
 
 idle≢realtime : part.Idle ≢ part.Realtime
-
 idle≢realtime e = let z : ◌≡◌ {A = ℕ} 0 1 = cc in absurd (omega arith)
 
 only_one : (p : Put) → p.part ≢ part.Realtime → (w : Wait) → In w (waiting 0 (a_put p ∷ [])) → w.put.part ≢ part.Realtime
 unfolding gone waiting In
-
 only_one p a w (inl e) r = a (ap (λ (v : Wait). v.put.part) e ∙ r)
 only_one p a w (inr e) r = absurd e
 

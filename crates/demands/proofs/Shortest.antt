@@ -16,7 +16,6 @@ use Rattle.demands.specs.Shortest.{FigureLeft}
 
 figure_is : (h : LentState) (s : State) → Represents h s → h.state.shortest ≡ s.limits.shortest
 unfolding limits_in
-
 figure_is h s m = sym (ap (λ (l : Limits). l.shortest) m.limits)
 
 -- THE THEOREM: h is what `start` left when it answered Ready; for every list of calls, of any length, each on any bytes.

@@ -18,7 +18,7 @@ use Rattle.rules.specs.Puts.{PutOrTake}
 use Rattle.rules.specs.State as rules
 use Rattle.rules.specs.State.{Limits, any_below, runs_on, waits_on, blocked}
 use Rattle.rules.specs.Topology.{nr_nodes, leaf}
-use Rattle.rules.specs.Requests.{Request, declare_cpu, add_node, place_cpu, seal, set_shortest, declare_thread, set_tick, schedule_thread, schedule, hardtick, stattick, resched, maybe_preempt, donate, remove_donation, set_critical, Reading, unknown, cut_short, asks, widths, read}
+use Rattle.rules.specs.Requests.{Request, declare_cpu, add_node, place_cpu, seal, set_shortest, declare_thread, set_tick, schedule_thread, schedule, hardtick, stattick, resched, maybe_preempt, donate, remove_donation, set_critical, Reading, unknown, cut_short, asks, read}
 use Rattle.rules.specs.Questions as rules_ask
 use Rattle.rules.specs.Questions.{Question, question, first_no, refusal}
 use Rattle.rules.proofs.Seal.{those_alone}

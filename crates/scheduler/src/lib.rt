@@ -1,4 +1,4 @@
-// The static library: what a C or Rust program calls. A slice passes as a pointer and a length, a struct as C lays it out.
+// What a C or Rust program calls, by numbers, Booleans and structs as C lays them out; crate `scheduler_c` exports each as the static library.
 #![tactic(auto)]
 
 pub mod numbers;
@@ -28,7 +28,6 @@ use topology::words::NodeWords;
 use writer::write_command;
 
 // The library's start. Where a slice is too short nothing is changed.
-#[unsafe(no_mangle)]
 pub extern "C" fn scheduler_start(
     threads: &mut [Thread],
     cpus: &mut [CpuWords],
@@ -41,7 +40,6 @@ pub extern "C" fn scheduler_start(
 }
 
 // The command that the bytes ask for.
-#[unsafe(no_mangle)]
 pub extern "C" fn scheduler_command(
     threads: &mut [Thread],
     cpus: &mut [CpuWords],
@@ -56,7 +54,6 @@ pub extern "C" fn scheduler_command(
 }
 
 // The line of one command.
-#[unsafe(no_mangle)]
 pub extern "C" fn scheduler_render(buffer: &mut [u8], number: u64, row: Row) -> Written
     ensures { (result ≡ written_of (rendered buffer.old 0 (line number (answer_of (answer_in row))))) × (buffer.new ≡ buffer_with buffer.old 0 (line number (answer_of (answer_in row)))) }
 {
@@ -65,7 +62,6 @@ pub extern "C" fn scheduler_render(buffer: &mut [u8], number: u64, row: Row) -> 
 }
 
 // One command with its fields, in the form that `wide` says: its bytes in the buffer's first ones, or the refusal 1, 6 or 12.
-#[unsafe(no_mangle)]
 pub extern "C" fn scheduler_write(
     byte: u64,
     fields: Fields,
@@ -79,7 +75,6 @@ pub extern "C" fn scheduler_write(
 }
 
 // A run that begins.
-#[unsafe(no_mangle)]
 pub extern "C" fn scheduler_begin(state: State) -> Progress
     ensures { result ≡ begin state }
 {
@@ -87,7 +82,6 @@ pub extern "C" fn scheduler_begin(state: State) -> Progress
 }
 
 // The first n bytes of input, `last` if no block follows: header, lines and end line in output.
-#[unsafe(no_mangle)]
 pub extern "C" fn scheduler_feed(
     threads: &mut [Thread],
     cpus: &mut [CpuWords],

@@ -1,7 +1,7 @@
 -- What `start` leaves of the memory that was lent to it: the rows of CPUs from 64 on and the words from 82 on as found, all numbers of threads and CPUs
 -- small, the root alone on the nodes.
 use Prim.Native.Nat.{ℕ, zero, suc, ◌≤◌, ◌<◌}
-use Rattle.std.specs.Prelude.{◌≡◌, refl, ◌≢◌, true, false, List, [], length, get_or, replicate, eqb, ltb}
+use Rattle.std.specs.Prelude.{◌≡◌, refl, ◌≢◌, false, List, [], length, get_or, replicate, eqb, ltb}
 use Rattle.std.proofs.Common.{sym, subst, ◌∙◌, true≢false, arith, eqb-true, ltb-true, ltb-false}
 use Rattle.std.proofs.lemmas.List.{length-replicate, get_or-replicate}
 use Rattle.std.proofs.Math.ListN.{get_or-eq_default}
@@ -25,8 +25,8 @@ use Rattle.question_laws.proofs.Start.{new_all}
 use Rattle.command_laws.specs.Law.{lent}
 use Rattle.command_laws.specs.Links.{Link, QueueInRange}
 use Rattle.command_laws.proofs.Links.{orderly_none}
-use Rattle.command_laws.specs.InRange.{Rows, ThreadInRange, InRange}
-use Rattle.command_laws.proofs.InRange.{rows_none, rows_then, rows_put, rows_store, Zeros, zeros_put, zeros_here, zeros_there}
+use Rattle.command_laws.specs.InRange.{Rows, ThreadInRange, InRange, Zeros}
+use Rattle.command_laws.proofs.InRange.{rows_none, rows_then, rows_put, rows_store, zeros_put, zeros_here, zeros_there}
 use Rattle.command_laws.specs.Nodes.{Nodes}
 use Rattle.command_laws.proofs.Nodes.{nodes_root}
 use Rattle.demands.specs.Calls.{LentState, Ready}
