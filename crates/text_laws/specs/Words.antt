@@ -1,4 +1,4 @@
--- Lemmas about words in a row: a word without blanks and comments is read as it stands.
+-- What a word without blanks and comments is.
 use Rattle.std.specs.Prelude.{ℕ, Bool, true, false, cond, List, [], ◌∷◌, leb}
 
 -- Every byte is a digit or comes behind the digits: no blank, no `#`, no `-`.
