@@ -48,8 +48,6 @@ rows_store cs c q h = record {
   words = λ d w l m. let e : w % width ≡ w = omega arith in rw e at (word_after_store cs c d q w (omega arith));
 }
 
-Zeros cs c = (w : ℕ) → 66 ≤ w → w < 72 → get_or (get_or cs c []) w 0 ≡ 0
-
 pub zeros_put : (cs : List (List ℕ)) (c d w v : ℕ) → 72 ≤ w → w < 82 → Zeros cs d → Zeros (put_word cs c w v) d
 zeros_put cs c d w v a b z u l m = put_row_other cs c d w u v (λ e. omega arith) ∙ z u l m
 

@@ -1,6 +1,6 @@
 -- THE MEMORY THAT THE SCHEDULER WRITES: records below 1,024, and of the rows below 64 the words of the run queue and the ten words beside it. What
 -- a record or a word is written, what stays, and that every number of a thread or a CPU in the memory then stays small.
-use Rattle.std.specs.Prelude.{ℕ, ◌-◌, ◌≤◌, ◌<◌, ◌≡◌, List, [], length, get_or}
+use Rattle.std.specs.Prelude.{ℕ, ◌≤◌, ◌<◌, ◌≡◌, List, [], length, get_or}
 use Rattle.rules.specs.Waits.{Under}
 use Rattle.thread.specs.declared.Thread.{Thread}
 use Rattle.thread.specs.Thread.{NONE}
@@ -23,6 +23,7 @@ pub record Rows (cs cs' : List (List ℕ)) : Type 0 where
 
 -- The words 66 to 71 of CPU c are 0.
 abbrev pub Zeros : List (List ℕ) → ℕ → Type 0
+Zeros cs c = (w : ℕ) → 66 ≤ w → w < 72 → get_or (get_or cs c []) w 0 ≡ 0
 
 -- ---- all of it
 

@@ -3,7 +3,7 @@
 use Rattle.std.specs.Prelude.{ℕ, ◌≡◌, List}
 use Rattle.rules.specs.Puts.{PutOrTake}
 use Rattle.rules.specs.State.{State}
-use Rattle.rules.specs.Commands.{Step, step}
+use Rattle.rules.specs.Commands.{Step}
 use Rattle.rules.proofs.Laws.Reached.{Reached}
 use Rattle.lines.specs.Lines.{answer_of}
 use Rattle.sched_laws.specs.Sealed.{Sealed}

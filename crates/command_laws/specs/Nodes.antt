@@ -1,7 +1,6 @@
 -- THE ROWS OF THE NODES: what a command leaves of those that are not made, and of the words that no rule speaks of.
-use Rattle.std.specs.Prelude.{ℕ, ◌-◌, ◌≤◌, ◌<◌, ◌≡◌, ◌≢◌, List, [], length, get_or, set}
+use Rattle.std.specs.Prelude.{ℕ, ◌≤◌, ◌<◌, ◌≡◌, ◌≢◌, List, [], length, get_or}
 use Rattle.topology.specs.Words.{width}
-use Rattle.topology.specs.Node.{first}
 
 -- Of as many nodes as `count` says, made on rows that were found so: a row that is not made is as found, and in one that is made the words 7 to 31
 -- but the first of the set, 16, are 0.

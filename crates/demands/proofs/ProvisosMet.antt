@@ -18,7 +18,7 @@ use Rattle.demands.specs.Provisos.{Arrivals, Provided}
 use Rattle.demands.proofs.Demand3.{demand_3_bound}
 use Rattle.demands.specs.Witness.{begun}
 use Rattle.demands.proofs.Witness.{ready}
-use Rattle.demands.specs.ProvisosMet.{alone, before, blocks, calls, cpu_then, first, into, put_0, put_1, returns, rounds, since, soon, thread_then, ticks, turning, {}
+use Rattle.demands.specs.ProvisosMet.{alone, before, blocks, calls, cpu_then, first, into, put_0, put_1, returns, rounds, since, soon, thread_then, ticks, turning}
 
 -- ---- that they are so, for every n
 
@@ -46,16 +46,13 @@ turn n = (refl, refl)
 -- ---- THE PROVISOS ARE MET
 
 timeshare≢realtime : part.Timeshare ≢ part.Realtime
-
 timeshare≢realtime e = let z : ◌≡◌ {A = ℕ} 0 1 = cc in absurd (omega arith)
 
 idle≢realtime : part.Idle ≢ part.Realtime
-
 idle≢realtime e = let z : ◌≡◌ {A = ℕ} 0 1 = cc in absurd (omega arith)
 
 only_one : (p : Put) → p.part ≢ part.Realtime → (w : Wait) → In w (waiting 0 (a_put p ∷ [])) → w.put.part ≢ part.Realtime
 unfolding gone waiting In
-
 only_one p a w (inl e) r = a (ap (λ (v : Wait). v.put.part) e ∙ r)
 only_one p a w (inr e) r = absurd e
 
@@ -133,4 +130,5 @@ takes n h = rw (turns_first, served_rounds n 25 3502118652 _ _ _ (omega arith)) 
 -- Thread 0 is gone once 8,192 takes have handed out a thread, by the theorem on the memory of Witness.
 pub left_within : gone 0 (since 8186) ≡ true
 left_within =
-    demand_3_bound begun ready (calls 8186) 0 (omega arith) before (since 8186) [] put_0 (log_is 8186) refl (provided 8186) (rw (takes 8186 (omega arith)) (omega arith))
+    demand_3_bound begun ready (calls 8186) 0 (omega arith) before (since 8186) [] put_0 (log_is 8186) refl (provided 8186)
+    (unfold served counts in rw (turns_first, served_rounds 8186 25 3502118652 _ _ _ (omega arith)) (omega arith))

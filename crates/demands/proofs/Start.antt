@@ -1,15 +1,14 @@
 -- THE LIBRARY'S START: when it answers Ready, and what it leaves where it does not. A reader reads all of this file, after Calls.
-use Rattle.std.specs.Prelude.{ℕ, ◌≤◌, refl, true, false, List, length}
+use Rattle.std.specs.Prelude.{ℕ, ◌≤◌, refl, List, length}
 use Rattle.std.proofs.Math.Path.{◌≡◌}
 use Rattle.std.proofs.Common.{arith}
 use borrow.Author.Tests.{le-ltb}
 use Rattle.rules.proofs.Laws.Line.{both}
 use Rattle.thread.specs.declared.Thread.{Thread}
-use Rattle.command.specs.Lent.{Lent}
 use Rattle.command_laws.specs.Law.{lent}
 use Rattle.stream.specs.declared.start.Started.TheVariants as started
 use Rattle.stream.specs.Start.{no_room_def, initial, start_def}
-use Rattle.demands.specs.Calls.{LentState, Typed, Ready}
+use Rattle.demands.specs.Calls.{Typed, Ready}
 
 -- what is lent, whatever it holds
 module _ (threads : List Thread) (cpus nodes : List (List ℕ)) where
@@ -31,7 +30,7 @@ module _ (threads : List Thread) (cpus nodes : List (List ℕ)) where
     cpus = cpus;
     nodes = nodes;
     typed = typed;
-    answered = start_ready t c n;
+    answered = unfold start_def no_room_def in rw (le-ltb (length threads) 1024 t, le-ltb (length cpus) 64 c, le-ltb (length nodes) 128 n);
     left_threads = refl;
     left_cpus = refl;
     left_nodes = refl;

@@ -2,11 +2,9 @@
 -- of each after every list of calls from the library's start, obeyed and refused: that it is as found, or what it is written. A reader reads the record and
 -- the theorem.
 use Rattle.std.specs.Prelude.{ℕ, ◌≤◌, ◌<◌, ◌≡◌, ◌≢◌, ◌⊎◌, List, [], length, get_or}
-use Rattle.rules.specs.State.{start}
 use Rattle.thread.specs.Thread.{NONE, blank}
 use Rattle.records.specs.Left.{mem}
 use Rattle.command.specs.Lent.{Lent}
-use Rattle.command_laws.specs.Law.{lent}
 use Rattle.command_laws.specs.InRange.{StaysInRange}
 use Rattle.command_laws.specs.Nodes.{Nodes}
 use Rattle.demands.specs.Calls.{LentState}
@@ -39,5 +37,5 @@ pub record Frame (found : Lent) (h : LentState) : Type 0 where
 -- ---- for the proof
 
 pub record KeptFree (found : List (List ℕ)) (b h : LentState) : Type 0 where
-  memory : StaysInRange (mem b.threads b.cpus) (mem h.threads h.cpus)
-  nodes : Nodes found h.state.node_count h.nodes
+  pub memory : StaysInRange (mem b.threads b.cpus) (mem h.threads h.cpus)
+  pub nodes : Nodes found h.state.node_count h.nodes

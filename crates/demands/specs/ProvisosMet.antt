@@ -1,6 +1,6 @@
 -- The bound's provisos (Provisos) can be met, and so many takes as it counts can be made: lists of calls in which a timeshare thread comes in, others arrive while
 -- it waits, and it is handed out by take 4; `demand_3_bound` applies to one with 8,192 takes.
-use Rattle.std.specs.Prelude.{ℕ, zero, suc, ◌+◌, Bool, true, false, List, [], ◌∷◌, ◌++◌}
+use Rattle.std.specs.Prelude.{ℕ, zero, suc, Bool, true, false, List, [], ◌∷◌, ◌++◌}
 use Rattle.std.proofs.Math.Option.{none, some}
 use Rattle.rules.specs.declared.PriorityClass.TheVariants as class
 use Rattle.rules.specs.declared.Part.{Part}

@@ -1,5 +1,5 @@
 -- WHAT `start` LEAVES stands for the rules' start with the base's limits.
-use Rattle.std.specs.Prelude.{ℕ, ◌≤◌, ◌<◌, ◌≡◌, refl, true, false, List, [], length, get_or, ltb}
+use Rattle.std.specs.Prelude.{ℕ, ◌≤◌, ◌<◌, ◌≡◌, refl, false, List, [], length, get_or, ltb}
 use Rattle.std.proofs.Common.{true≢false, arith, ltb-false}
 use Rattle.rules.proofs.Laws.Line.{both}
 use Rattle.rules.specs.State.{base_limits, start}

@@ -2,8 +2,7 @@
 -- is that of the rules.
 use Prim.Native.Nat.{ℕ}
 use Rattle.std.specs.Prelude.{Bool, true, false}
-use Rattle.std.proofs.Math.Option.{none}
-use Rattle.rules.specs.Requests.{Request, declare_cpu, add_node, place_cpu, seal, set_shortest, declare_thread, set_tick, schedule_thread, schedule, hardtick, stattick, resched, maybe_preempt, donate, remove_donation, set_critical, Reading, unknown, cut_short, asks, request}
+use Rattle.rules.specs.Requests.{Request, declare_cpu, add_node, place_cpu, seal, set_shortest, declare_thread, set_tick, schedule_thread, schedule, hardtick, stattick, resched, maybe_preempt, donate, remove_donation, set_critical, Reading, unknown, cut_short, asks}
 use Rattle.thread.specs.declared.place.Place.{Place}
 use Rattle.thread.specs.declared.place.Place.TheVariants as place
 use Rattle.thread.specs.Thread.{NONE}

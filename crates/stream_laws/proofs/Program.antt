@@ -1,8 +1,8 @@
 -- THE PROGRAM'S BUFFERS AND THE BYTES THAT IT KEEPS. `replay` (replay/src/main.rt) reads into an input of 4,096 bytes behind the bytes left over, feeds it with an output
 -- of 32,768 bytes, writes what `feed` wrote, and moves the bytes not taken to the front by `keep` (stream/src/block.rt). Where that call left no room for a line it
 -- feeds the bytes left over before it reads again. A reader reads the statements of this file, after Calls and Output.
-use Rattle.std.specs.Prelude.{ℕ, zero, suc, ◌+◌, ◌-◌, ◌*◌, ◌≤◌, ◌<◌, ◌≡◌, refl, ◌≢◌, true, false, List, [], ◌∷◌, ◌++◌, length, take, drop, eqb}
-use Rattle.std.proofs.Common.{sym, ap, ◌∙◌, arith, length-drop, take_at, length-take-le, le-ltb, eqb-true}
+use Rattle.std.specs.Prelude.{ℕ, zero, suc, ◌+◌, ◌-◌, ◌≤◌, ◌≡◌, ◌≢◌, true, false, List, [], ◌∷◌, ◌++◌, length, take, drop, eqb}
+use Rattle.std.proofs.Common.{sym, ◌∙◌, arith, length-drop, take_at, length-take-le, le-ltb, eqb-true}
 use Rattle.std.proofs.Math.Seq.{take-nil}
 use Rattle.std.proofs.lemmas.Bool.{eqb-false}
 use Rattle.rules.proofs.Laws.Line.{both}

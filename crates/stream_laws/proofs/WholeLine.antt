@@ -15,7 +15,7 @@ use Rattle.demands.specs.Calls.{LentState, Ready, call, after}
 use Rattle.demands.proofs.Laws.Kept.{follows_start, follows_after}
 use Rattle.demands.proofs.Demand2.{demand_2_step}
 use Rattle.stream_laws.proofs.Laws.Length.{line_fits}
-use Rattle.stream_laws.specs.WholeLine.{WholeLine, left}
+use Rattle.stream_laws.specs.WholeLine.{WholeLine}
 
 -- an answer that is the rules', with a line of at most 48 bytes
 line_whole : (buffer : List ℕ) (number : ℕ) (answer : Answer) (r : rules.Answer) → answer_of answer ≡ r → length (line number r) ≤ 48

@@ -1,6 +1,6 @@
 -- There are such calls: any stream cut into blocks of at most 4,096 bytes, each fed with one buffer of 262,144 bytes, and then a call with no new byte that says
 -- `last`.
-use Rattle.std.specs.Prelude.{ℕ, ◌≡◌, refl, true, false, List, [], ◌∷◌, ◌++◌, length}
+use Rattle.std.specs.Prelude.{ℕ, ◌≡◌, refl, true, List, [], ◌∷◌, ◌++◌, length}
 use Rattle.std.proofs.Common.{ap, ◌∙◌, arith}
 use Rattle.std.proofs.lemmas.Bool.{false≢true}
 use Rattle.rules.specs.State.{base_limits, start}
@@ -9,7 +9,7 @@ use Rattle.rules.specs.Commands.{nothing_shown, refuses, answered, step}
 use Rattle.rules.specs.Lines.{ends, no_bytes, output}
 use Rattle.demands.specs.Calls.{LentState, Ready}
 use Rattle.stream_laws.specs.Calls.{outputs, stream, Proper, Roomy, says_last, begun}
-use Rattle.stream_laws.proofs.Laws.Reading.{is_whole}
+use Rattle.stream_laws.specs.Laws.Reading.{is_whole}
 use Rattle.stream_laws.specs.Taken.{says, does, after_commands, EndedWithin}
 use Rattle.stream_laws.proofs.Output.{feed_output}
 use Rattle.stream_laws.specs.Witness.{Short, fed_with, joined}
@@ -17,7 +17,6 @@ use Rattle.stream_laws.specs.Witness.{Short, fed_with, joined}
 stream_joined : (buffer : List ℕ) (blocks : List (List ℕ)) → stream (fed_with buffer blocks) ≡ joined blocks
 unfolding stream fed_with joined
 stream_joined buffer [] = refl
-
 stream_joined buffer (block ∷ blocks) = ap (λ (l : List ℕ). block ++ l) (stream_joined buffer blocks)
 
 proper : (buffer : List ℕ) (blocks : List (List ℕ)) → length buffer ≡ 262144 → Proper (fed_with buffer blocks) []

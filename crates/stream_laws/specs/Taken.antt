@@ -5,7 +5,7 @@ use Rattle.rules.specs.Requests.{Reading, read, past}
 use Rattle.rules.specs.Commands.{Step, step}
 use Rattle.rules.specs.Lines.{header, line, end_line, ends, used, no_bytes}
 use Rattle.stream.specs.Progress.{HEADER, ENDED}
-use Rattle.stream_laws.proofs.Laws.Reading.{is_whole}
+use Rattle.stream_laws.specs.Laws.Reading.{is_whole}
 
 -- Between two commands: the rules' state, and the bytes of the stream that no command took yet.
 pub record Place : Type 0 where

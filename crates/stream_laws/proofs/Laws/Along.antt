@@ -15,7 +15,8 @@ use Rattle.rules.specs.Commands.{Step, step, after_calls}
 use Rattle.rules.specs.Lines.{header, line, end_line, ends, used, refused_by, no_bytes, lines_from, output}
 use Rattle.stream.specs.declared.progress.Progress.{Progress}
 use Rattle.stream.specs.Progress.{HEADER, COMMANDS, END, ENDED, phase_after}
-use Rattle.stream_laws.proofs.Laws.Reading.{is_whole, read_more, past_more, past_length, used_most, used_one, lines_step, bytes_some, some_bytes}
+use Rattle.stream_laws.specs.Laws.Reading.{is_whole}
+use Rattle.stream_laws.proofs.Laws.Reading.{read_more, past_more, past_length, used_most, used_one, lines_step, bytes_some, some_bytes}
 use Rattle.stream_laws.proofs.Laws.Going.{left}
 use Rattle.stream_laws.specs.Taken.{says, does, next_place, after_commands, lines_of, so_far, EndedWithin}
 

@@ -1,5 +1,5 @@
 -- One call of `feed`: written by it, and still owed, together: what was owed before.
-use Prim.Native.Nat.{ℕ, zero, suc, ◌+◌, ◌-◌, ◌*◌, ◌%◌, ◌^◌, ◌≤◌, ◌<◌}
+use Prim.Native.Nat.{ℕ, zero, suc, ◌+◌, ◌*◌, ◌%◌, ◌^◌, ◌≤◌, ◌<◌}
 use Rattle.std.specs.Prelude.{◌≡◌, refl, Bool, true, cond, ◌≢◌, eqb, ltb, leb}
 use Rattle.std.proofs.Math.Path.{sym, ap, subst}
 use Rattle.std.proofs.Common.{◌∙◌, true≢false, length-take-le, zero-add}
@@ -24,7 +24,8 @@ use Rattle.stream.specs.declared.progress.Progress.{Progress}
 use Rattle.stream.specs.Progress.{HEADER, COMMANDS, END, ENDED, not_cut, whole, more, written, with_output, at_start, headed, opened_fed, opened_out, due, end_line_of, ends_now, closed_fed, closed_out}
 use Rattle.stream.specs.Feed.{World, world_of_def, step_def, run_def, opened_world, closed_world, feed_def}
 use Rattle.question_laws.proofs.Answers.{read_same}
-use Rattle.stream_laws.proofs.Laws.Reading.{is_whole, read_more, cut_most, lines_none, some_bytes}
+use Rattle.stream_laws.specs.Laws.Reading.{is_whole}
+use Rattle.stream_laws.proofs.Laws.Reading.{read_more, cut_most, lines_none, some_bytes}
 use Rattle.stream_laws.proofs.Laws.Length.{end_fits, header_length}
 use Rattle.stream_laws.proofs.Laws.Going.{left_at, left, left_header, left_commands, left_end, left_ended, Going, Within, line_in, done_after, taken_after, length_after}
 use Rattle.stream_laws.specs.Taken.{so_far}

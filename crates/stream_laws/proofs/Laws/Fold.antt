@@ -18,7 +18,7 @@ use Rattle.demands.proofs.Laws.Kept.{ready_stands}
 use Rattle.stream_laws.proofs.Laws.Going.{left_at, left, left_ended, Going}
 use Rattle.stream_laws.specs.Taken.{after_commands, so_far, EndedWithin}
 use Rattle.stream_laws.proofs.Laws.Along.{Along, waits, never_ended}
-use Rattle.stream_laws.proofs.Laws.Block.{Called, called, Leaves, run_ended, run_waits, Leaves, leaves_room, full_takes, stays_ended}
+use Rattle.stream_laws.proofs.Laws.Block.{Called, called, Leaves, run_ended, run_waits, leaves, leaves_room, full_takes, stays_ended}
 use Rattle.stream_laws.specs.Calls.{Call, Run, in_hand, fed_by, after, output_of, room_left, after_all, outputs, stream, Proper, Roomy, says_last, Settled, over, few, begun}
 
 abbrev Goes : Run → State → Type 0
@@ -67,7 +67,7 @@ module _ (r : Run) (c : Call) (s : State) (g : Goes r s) (small : length c.buffe
   unfolding after fed_by
   one_leaves h =
       let w : World = feed_def (hand ++ c.behind) (length hand) c.last world in
-      subst (λ (b : List ℕ). Leaves c.last w.fed (drop w.fed.at b)) front (Leaves (hand ++ c.behind) (length hand) fits to_come c.last none_to_come world s g small h)
+      subst (λ (b : List ℕ). Leaves c.last w.fed (drop w.fed.at b)) front (leaves (hand ++ c.behind) (length hand) fits to_come c.last none_to_come world s g small h)
 
   one_room : 48 ≤ length c.buffer → room_left r c ≡ true → Leaves c.last (after r c).fed (after r c).left_over
   unfolding after fed_by room_left

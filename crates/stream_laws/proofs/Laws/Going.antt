@@ -1,5 +1,5 @@
 -- What holds of a run between and within calls of `feed`, and what is left to write.
-use Rattle.std.specs.Prelude.{ℕ, suc, ◌+◌, ◌-◌, ◌*◌, ◌%◌, ◌^◌, ◌≤◌, ◌<◌, ◌≡◌, refl, true, cond, List, [], ◌++◌, length, take, drop, eqb}
+use Rattle.std.specs.Prelude.{ℕ, suc, ◌+◌, ◌*◌, ◌%◌, ◌^◌, ◌≤◌, ◌<◌, ◌≡◌, refl, true, cond, List, [], ◌++◌, length, take, drop, eqb}
 use Rattle.std.proofs.Common.{ap, ◌∙◌, length-append, take_at, length-take-le, arith, mod-eq_of_lt}
 use Rattle.std.proofs.Math.Seq.{length-sets}
 use borrow.Author.Tests.{leb-true}

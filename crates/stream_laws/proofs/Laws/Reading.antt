@@ -13,12 +13,7 @@ use Rattle.rules.proofs.Laws.Refused.{refused_number}
 use Rattle.rules.specs.Lines.{line, end_line, used, ends, refused_by, no_bytes, lines_from}
 use Rattle.rules.proofs.Laws.Writer.{past_drop}
 use Rattle.request.proofs.Bytes.{enough}
-
--- not cut short
-unfoldable pub is_whole : Reading → Bool
-is_whole unknown = true
-is_whole cut_short = false
-is_whole (asks r n) = true
+use Rattle.stream_laws.specs.Laws.Reading.{is_whole}
 
 -- ---- the bytes behind
 
