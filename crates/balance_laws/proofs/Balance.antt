@@ -27,8 +27,10 @@ use Rattle.sched_words.specs.declared.context.Context.{Context}
 use Rattle.sched_ticks.specs.Balance.{move_one_def, move_two, balance_def}
 use Rattle.sched_laws.specs.Hardtick.{context}
 use Rattle.balance_laws.specs.Turns.{going}
-use Rattle.balance_laws.proofs.Turns.{rest, rest_next, step_more, turns_stop, spent}
-use Rattle.balance_laws.proofs.Move.{Meets, move_none, step_law}
+use Rattle.balance_laws.proofs.Turns.{rest, step_more, turns_stop, spent}
+use Rattle.balance_laws.proofs.Rest.{rest_next}
+use Rattle.balance_laws.specs.Move.{Meets}
+use Rattle.balance_laws.proofs.Move.{move_none, step_law}
 use Rattle.balance_laws.specs.Balance.{BalanceLeft}
 
 -- ---- whether another turn is due

@@ -33,7 +33,7 @@ use Rattle.represents.proofs.Laws.Records.{field_set}
 use Rattle.represents.specs.Topology.{TopologyRep}
 use Rattle.choice.specs.Reads.{as_cpu}
 use Rattle.choice.specs.Select as choice
-use Rattle.choice_laws.proofs.Memory.{select_memory}
+use Rattle.choice_laws.proofs.Select.{select_memory}
 use Rattle.sched_words.specs.Choose.{preferred_of_def, select_for, selected_for}
 use Rattle.sched_queues.specs.Queues.{block_def}
 use Rattle.sched_laws.specs.Switch.{Settled, no_one}

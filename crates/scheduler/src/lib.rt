@@ -28,7 +28,7 @@ use topology::words::NodeWords;
 use writer::write_command;
 
 // The library's start. Where a slice is too short nothing is changed.
-pub extern "C" fn scheduler_start(
+pub fn scheduler_start(
     threads: &mut [Thread],
     cpus: &mut [CpuWords],
     nodes: &mut [NodeWords],
@@ -40,7 +40,7 @@ pub extern "C" fn scheduler_start(
 }
 
 // The command that the bytes ask for.
-pub extern "C" fn scheduler_command(
+pub fn scheduler_command(
     threads: &mut [Thread],
     cpus: &mut [CpuWords],
     nodes: &mut [NodeWords],
@@ -54,7 +54,7 @@ pub extern "C" fn scheduler_command(
 }
 
 // The line of one command.
-pub extern "C" fn scheduler_render(buffer: &mut [u8], number: u64, row: Row) -> Written
+pub fn scheduler_render(buffer: &mut [u8], number: u64, row: Row) -> Written
     ensures { (result ≡ written_of (rendered buffer.old 0 (line number (answer_of (answer_in row))))) × (buffer.new ≡ buffer_with buffer.old 0 (line number (answer_of (answer_in row)))) }
 {
     let rendered = render(buffer, number, answer_in(row));
@@ -62,12 +62,7 @@ pub extern "C" fn scheduler_render(buffer: &mut [u8], number: u64, row: Row) -> 
 }
 
 // One command with its fields, in the form that `wide` says: its bytes in the buffer's first ones, or the refusal 1, 6 or 12.
-pub extern "C" fn scheduler_write(
-    byte: u64,
-    fields: Fields,
-    wide: bool,
-    buffer: &mut [u8],
-) -> Written
+pub fn scheduler_write(byte: u64, fields: Fields, wide: bool, buffer: &mut [u8]) -> Written
     ensures { (result ≡ wrote_of (answer wide byte fields buffer.old)) × (buffer.new ≡ buffer_after wide byte fields buffer.old) }
 {
     let written = write_command(byte, fields, wide, buffer);
@@ -75,14 +70,14 @@ pub extern "C" fn scheduler_write(
 }
 
 // A run that begins.
-pub extern "C" fn scheduler_begin(state: State) -> Progress
+pub fn scheduler_begin(state: State) -> Progress
     ensures { result ≡ begin state }
 {
     begin(state)
 }
 
 // The first n bytes of input, `last` if no block follows: header, lines and end line in output.
-pub extern "C" fn scheduler_feed(
+pub fn scheduler_feed(
     threads: &mut [Thread],
     cpus: &mut [CpuWords],
     nodes: &mut [NodeWords],
