@@ -26,7 +26,7 @@ use Rattle.outcome.specs.Call.{pin_back, request_back, reading_back, refusal_bac
 use Rattle.command.specs.Command.{obey_def, answered_def, command_def}
 use Rattle.represents.specs.State.{StateRep}
 use Rattle.question_laws.specs.Answers.{thread_named, thread_in}
-use Rattle.question_laws.proofs.Answers.{refusal_same}
+use Rattle.question_laws.proofs.Refusals.{refusal_same}
 use Rattle.command_laws.specs.Law.{Reachable, AsRuled}
 use Rattle.command_laws.proofs.Numbers.{refusal_most}
 use Rattle.command_laws.proofs.Obeyed.{obey_law, obey_obeyed}

@@ -10,5 +10,6 @@ pub mod Numbers
 pub mod Obeyed
 pub mod Plain
 pub mod Ran
+pub mod Running
 pub mod Writes
 pub mod Written

@@ -2,7 +2,7 @@
 use Prim.Native.Nat.{ℕ, ◌+◌, ◌%◌, ◌^◌, ◌≤◌, ◌<◌}
 use Rattle.std.specs.Prelude.{◌≡◌, Bool, true, List, ltb}
 use Rattle.std.proofs.Math.Path.{refl, sym, ap, subst}
-use Rattle.std.proofs.Common.{◌∙◌, ne_eqb, ltb-false}
+use Rattle.std.proofs.Common.{◌∙◌, ltb-false}
 use Rattle.std.proofs.lemmas.Bool.{false≢true}
 use Rattle.std.proofs.Math.Option.{Option, none, some}
 use native.Mathlib.Omega.{arith}
@@ -28,7 +28,7 @@ use Rattle.thread.specs.declared.Thread.{Thread}
 use Rattle.thread.specs.Thread.{NONE}
 use Rattle.processor.specs.Words.{word}
 use Rattle.processor.specs.Word.{LOAD, RUNNING}
-use Rattle.represents.specs.World.{number_or_none, WorldRep, most_tick}
+use Rattle.represents.specs.World.{WorldRep, most_tick}
 use Rattle.represents.proofs.Laws.Frames.{shows_alike}
 use Rattle.represents.proofs.Laws.Numbers.{word_load, load_shown, running_shown}
 use Rattle.lines.specs.Lines.{refusal_number, shown_option, running_option, answer_of}
@@ -61,15 +61,10 @@ use Rattle.command_laws.proofs.Numbers.{few_accepted}
 use Rattle.command_laws.specs.Asked.{On}
 use Rattle.command_laws.proofs.Asked.{on_node}
 use Rattle.command_laws.proofs.Plain.{one_more}
--- ---- the line: what a CPU runs
+use Rattle.command_laws.proofs.Running.{running_same}
 use Rattle.command_laws.specs.Law.{lent}
 use Rattle.command.specs.Lent.{in_memory, in_threads, in_cpus}
 use Rattle.records.specs.Left.{Memory, mem, Left}
-
-running_same : (o : Option ℕ) → ((x : ℕ) → o ≡ some x → x < NONE) → running_option (running_in (number_or_none o)) ≡ some (running_of o)
-unfolding running_option running_in number_or_none running_of
-running_same none h = refl
-running_same (some x) h = let l : x < NONE = h x refl in rw (ne_eqb x NONE (λ e. omega arith))
 
 -- a limit that a set of CPUs can hold is not cut
 uncut : (n : ℕ) → n ≤ max_cpu_id → lesser n max_cpu_id ≡ n

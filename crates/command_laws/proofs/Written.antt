@@ -39,7 +39,7 @@ use Rattle.outcome.specs.Call.{refusal_back, pin_number, call_of, call_read, con
 use Rattle.outcome.specs.Prepare.{prepares}
 use Rattle.command.specs.Command.{declare_thread_command, schedule_thread_command, schedule_command, hardtick_command, stattick_command, resched_command, maybe_preempt_command, donate_command, remove_donation_command, set_critical_command, obey_def, command_def}
 use Rattle.represents.specs.State.{StateRep, limits_in}
-use Rattle.question_laws.proofs.Answers.{refusal_same}
+use Rattle.question_laws.proofs.Refusals.{refusal_same}
 use Rattle.command_laws.specs.Law.{lent, Reachable}
 use Rattle.command_laws.proofs.Numbers.{refusal_most}
 use Rattle.command_laws.proofs.Call.{number_there, call_numbers, numbered_call, read_call, command_read}

@@ -36,4 +36,4 @@ demand_3 h ready calls c near =
 pub demand_3_bound : (h : LentState) → Ready h → (calls : List (List ℕ)) (c : ℕ) → c < 64
     → (pre mid post : List PutOrTake) (p : Put) → history (start base_limits) calls c ≡ pre ++ (a_put p ∷ mid) ++ post
     → p.part ≡ part.Timeshare → Provided pre p mid → 8192 ≤ served mid → gone p.thread mid ≡ true
-demand_3_bound h ready calls c near pre mid post p = gone_within (demand_3 h ready calls c near) pre mid post p
+demand_3_bound h ready calls c near pre mid post p = gone_within (rules.demand_3 calls c) pre mid post p

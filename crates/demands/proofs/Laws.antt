@@ -1,2 +1,3 @@
 pub mod Begun
 pub mod Kept
+pub mod New

@@ -130,4 +130,5 @@ takes n h = rw (turns_first, served_rounds n 25 3502118652 _ _ _ (omega arith)) 
 -- Thread 0 is gone once 8,192 takes have handed out a thread, by the theorem on the memory of Witness.
 pub left_within : gone 0 (since 8186) ≡ true
 left_within =
-    demand_3_bound begun ready (calls 8186) 0 (omega arith) before (since 8186) [] put_0 (log_is 8186) refl (provided 8186) (rw (takes 8186 (omega arith)) (omega arith))
+    demand_3_bound begun ready (calls 8186) 0 (omega arith) before (since 8186) [] put_0 (log_is 8186) refl (provided 8186)
+    (unfold served counts in rw (turns_first, served_rounds 8186 25 3502118652 _ _ _ (omega arith)) (omega arith))

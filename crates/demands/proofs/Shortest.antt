@@ -1,6 +1,6 @@
 -- 2026-07, of the library's calls: "sets the shortest User timeslice to 2 to 32; unset it is 2, the last one given holds", "before the seal". What the calls give is
 -- defined in the rules' Shortest (`given`: the operands of the obeyed calls of hex 05, in their order).
-use Rattle.std.specs.Prelude.{ℕ, ◌≡◌, false, List}
+use Rattle.std.specs.Prelude.{ℕ, ◌≡◌, true, false, List}
 use Rattle.std.proofs.Common.{sym, ap, ◌∙◌, arith}
 use Rattle.rules.specs.State.{Limits, base_limits, State, start}
 use Rattle.rules.specs.Questions.{least_shortest, most_shortest}
@@ -30,7 +30,7 @@ figure_left h ready calls =
       last_given = is ∙ g.last_given;
       least = rw is g.least;
       most = rw is g.most;
-      settled = λ t more.
+      settled = λ (t : (after h calls).state.sealed ≡ true) more.
           figure_is (after (after h calls) more) (after_calls s more) (follows_after (after h calls) s more f).stood
           ∙ g.settled (sym f.stood.sealed ∙ t) more ∙ sym is;
     }

@@ -30,7 +30,7 @@ module _ (threads : List Thread) (cpus nodes : List (List ℕ)) where
     cpus = cpus;
     nodes = nodes;
     typed = typed;
-    answered = start_ready t c n;
+    answered = unfold start_def no_room_def in rw (le-ltb (length threads) 1024 t, le-ltb (length cpus) 64 c, le-ltb (length nodes) 128 n);
     left_threads = refl;
     left_cpus = refl;
     left_nodes = refl;

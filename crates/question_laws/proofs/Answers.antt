@@ -1,7 +1,7 @@
 -- THE QUESTIONS: each, asked of memory that stands for a state which the rules reach, is answered as the rules answer it; so the refusal of every reading
 -- is that of the rules.
 use Prim.Native.Nat.{ℕ, zero, suc, ◌<◌, ◌≤◌}
-use Rattle.std.specs.Prelude.{◌≡◌, Bool, true, false, ◌&&◌, ◌||◌, List, [], ◌∷◌, ◌++◌, eqb, ltb}
+use Rattle.std.specs.Prelude.{◌≡◌, Bool, true, false, ◌&&◌, ◌||◌, List, eqb, ltb}
 use Rattle.std.proofs.Math.Path.{refl, sym, ap}
 use Rattle.std.proofs.Common.{◌∙◌, true≢false, arith}
 use Rattle.std.proofs.Math.Bool.{not, not-not, or-true}
@@ -18,7 +18,7 @@ use Rattle.rules.specs.Puts.{PutOrTake}
 use Rattle.rules.specs.State as rules
 use Rattle.rules.specs.State.{Limits, any_below, runs_on, waits_on, blocked}
 use Rattle.rules.specs.Topology.{nr_nodes, leaf}
-use Rattle.rules.specs.Requests.{Request, declare_cpu, add_node, place_cpu, seal, set_shortest, declare_thread, set_tick, schedule_thread, schedule, hardtick, stattick, resched, maybe_preempt, donate, remove_donation, set_critical, Reading, unknown, cut_short, asks, read}
+use Rattle.rules.specs.Requests.{read}
 use Rattle.rules.specs.Questions as rules_ask
 use Rattle.rules.specs.Questions.{Question, question, first_no, refusal}
 use Rattle.rules.proofs.Seal.{those_alone}
@@ -41,7 +41,7 @@ use Rattle.questions.specs.declared.state.State.{State}
 use Rattle.questions.specs.Questions as ask
 use Rattle.represents.specs.State.{limits_in, runs, StateRep}
 use Rattle.represents.proofs.Laws.State.{cpus_are, nodes_are, threads_are}
-use Rattle.question_laws.specs.Answers.{is_blocked, thread_in, thread_named}
+use Rattle.question_laws.specs.Answers.{is_blocked}
 
 -- ---- general
 
@@ -54,11 +54,6 @@ zero_test : (n : ℕ) → leb n 0 ≡ not (mark_in n)
 unfolding mark_in
 zero_test zero = refl
 zero_test (suc n) = rw (lt-leb (suc n) 0 (omega arith), ne_eqb (suc n) 0 (λ e. omega arith))
-
--- a question that is answered alike, and where it is answered yes those after it
-first_then : (p q : Question) (l m : List Question) → p ≡ q → (q.answer ≡ true → first_no l ≡ first_no m) → first_no (p ∷ l) ≡ first_no (q ∷ m)
-unfolding first_no
-first_then p q l m e f = rw e (both q.answer (λ t. rw t (f t)) (λ t. rw t))
 
 blocked_test : (n : ℕ) → eqb n BLOCKED ≡ is_blocked (place_in n)
 unfolding place_in is_blocked
@@ -206,52 +201,7 @@ module _ {H : ℕ → List PutOrTake} {ts : List Thread} {cs ns : List (List ℕ
       those_alone _ _ _ _ n (λ c l. mark_test (word cs c DECLARED) ∙ declared_word c (omega arith))
       (λ c l. ap not (unplaced_word c (omega arith)) ∙ not-not (is_some (s.topology.placed c)))
 
-  pub all_placed_same : ask.all_placed cs a ≡ rules_ask.all_placed s
-  unfolding ask.all_placed rules_ask.all_placed
-  all_placed_same = rw (← cpus_are m) (ap (question 9) (all_placed_below_same s.limits.cpus (omega arith)))
-
   -- 10
   pub room_same : ask.room a ≡ rules_ask.room s
   unfolding ask.room rules_ask.room
   room_same = ap (λ (n : ℕ). question 10 (ltb n rules_ask.most_accepted)) m.accepted
-
-  exists : (n : ℕ) → (rules_ask.node_exists s n).answer ≡ true → n < length s.topology.nodes
-  unfolding rules_ask.node_exists question
-  exists n e = ltb-true _ _ e
-
-  knows : (x : ℕ) → (rules_ask.thread_declared s x).answer ≡ true → s.known x ≡ true
-  unfolding rules_ask.thread_declared question
-  knows x e = e
-
-  -- THE REFUSAL OF EACH REQUEST, asked with the record of the thread that it names
-  pub asked_same : (r : Request) → ask.asked_of cs ns a (record_at ts (thread_named r)) r ≡ first_no (rules_ask.concerning s r ++ (rules_ask.room s ∷ []))
-  unfolding ask.asked_of ask.concerning rules_ask.concerning thread_named
-  asked_same (declare_cpu c) = rw (open_same, cpu_new_same c, room_same)
-  asked_same (add_node p k) =
-      rw (open_same, node_exists_same p, node_fits_same, room_same)
-      (first_then _ _ _ _ refl (λ o. first_then _ _ _ _ refl (λ l. first_then _ _ _ _ refl (λ e. first_then _ _ _ _ (parent_same p (exists p e)) (λ y. refl)))))
-  asked_same (place_cpu n c) =
-      rw (open_same, cpu_unplaced_same c, node_exists_same n, room_same)
-      (first_then _ _ _ _ refl (λ o. first_then _ _ _ _ refl (λ l. first_then _ _ _ _ refl (λ e. first_then _ _ _ _ (childless_same n (exists n e)) (λ y. refl)))))
-  asked_same seal = rw (open_same, all_placed_same, room_same)
-  asked_same (set_shortest n) = rw (open_same, room_same)
-  asked_same (declare_thread x k v pin) = rw (sealed_same, pin_declared_same pin, thread_new_same x, room_same)
-  asked_same (set_tick n) = rw (sealed_same, tick_fits_same n, room_same)
-  asked_same (schedule_thread c x) =
-      rw (sealed_same, cpu_declared_same c, thread_declared_same x, room_same)
-      (first_then _ _ _ _ refl (λ o. first_then _ _ _ _ refl (λ l. first_then _ _ _ _ refl (λ e. first_then _ _ _ _ (thread_blocked_same x (knows x e)) (λ y. refl)))))
-  asked_same (schedule c flags) = rw (sealed_same, cpu_declared_same c, room_same)
-  asked_same (hardtick c) = rw (sealed_same, cpu_declared_same c, room_same)
-  asked_same (stattick c n) = rw (sealed_same, cpu_declared_same c, room_same)
-  asked_same (resched c) = rw (sealed_same, cpu_declared_same c, room_same)
-  asked_same (maybe_preempt c) = rw (sealed_same, cpu_declared_same c, room_same)
-  asked_same (donate c x k v) = rw (sealed_same, cpu_declared_same c, thread_declared_same x, room_same)
-  asked_same (remove_donation x) = rw (sealed_same, thread_declared_same x, room_same)
-  asked_same (set_critical x k) = rw (sealed_same, thread_declared_same x, room_same)
-
-  -- THE REFUSAL OF EACH READING
-  pub refusal_same : (r : Reading) → ask.refusal_in cs ns a (record_at ts (thread_in r)) r ≡ refusal s r
-  unfolding ask.refusal_in refusal thread_in
-  refusal_same unknown = refl
-  refusal_same cut_short = refl
-  refusal_same (asks r used) = asked_same r

@@ -1,4 +1,6 @@
 pub mod Answers
 pub mod Changes
+pub mod Refusals
 pub mod Start
 pub mod Started
+pub mod Written

@@ -1,6 +1,6 @@
 -- THE LIBRARY'S START: cleared records, new CPUs and the root alone stand for the rules' start. Any limits.
 use Prim.Native.Nat.{ℕ, zero, suc, ◌≤◌, ◌<◌}
-use Rattle.std.specs.Prelude.{◌≡◌, refl, ◌≢◌, false, cond, get_or, replicate, eqb, ltb}
+use Rattle.std.specs.Prelude.{◌≡◌, refl, ◌≢◌, false, get_or, replicate, eqb, ltb}
 use Rattle.std.proofs.Common.{sym, ◌∙◌, arith, length-set}
 use Rattle.std.proofs.lemmas.Bool.{false≢true}
 use mathlib.Core.List.{List, []}
@@ -23,23 +23,23 @@ use Rattle.queue.specs.PriorityQueue.{no_priority}
 use Rattle.queue.specs.Timeshare.{no_timeshare}
 use Rattle.runqueue.specs.RunQueue.{no_run_queue}
 use Rattle.processor.specs.Words.{width, word}
-use Rattle.processor.specs.Queue.{queue_at, queue_stored}
+use Rattle.processor.specs.Queue.{queue_at}
 use Rattle.processor.proofs.Laws.Queue.{Eights, queue_after_store, queue_elsewhere, row_length_store, length_store}
-use Rattle.processor.specs.Word.{DECLARED, PLACED, RUNNING, OWN_PRIORITY, IS_IDLE, MUST_REBALANCE, PREEMPT, RAND_STATE, CUR_REBALANCE_TIME, IDLE_TIMESLICE}
 use Rattle.topology.specs.CpuSet.{max_cpu_id}
 use Rattle.topology.specs.Node.{new_root, put_node}
 use Rattle.records.specs.Rq.{record_at}
 use Rattle.represents.proofs.Laws.Readings.{new_reading}
 use Rattle.represents.proofs.Laws.System.{new_law}
 use Rattle.represents.specs.World.{reading_of, number_or_none, mark_in, Small, WorldRep}
-use Rattle.represents.proofs.Laws.Frames.{Written, written_none, written_put, words_same}
+use Rattle.represents.proofs.Laws.Frames.{words_same}
 use Rattle.represents.proofs.Laws.NumberLists.{any_none}
 use Rattle.represents.specs.Topology.{Sized}
 use Rattle.represents.proofs.Laws.Grown.{tree_start}
 use Rattle.questions.specs.declared.state.State.{State}
 use Rattle.represents.specs.State.{limits_in, runs, StateRep}
-use Rattle.stream.specs.Start.{new_marks, new_numbers, new_cpu_def, new_cpus}
+use Rattle.stream.specs.Start.{new_cpu_def, new_cpus}
 use Rattle.question_laws.specs.Start.{New}
+use Rattle.question_laws.proofs.Written.{long_stored, all_written}
 
 -- ---- a CPU made new
 
@@ -53,37 +53,12 @@ no_eights = record {
 }
 
 module _ (cs : List (List ℕ)) (c : ℕ) (h : c < length cs) (l : length (get_or cs c []) ≡ width) where
-  abbrev stored : List (List ℕ)
-  stored = queue_stored cs c no_run_queue
-
-  in_stored : c < length stored
-  in_stored = rw (length_store cs c no_run_queue) h
-
-  long_stored : length (get_or stored c []) ≡ width
-  long_stored = row_length_store cs c c no_run_queue ∙ l
-
-  all_written : Written stored (new_cpu_def cs c) c
-      (λ i. cond (eqb i IDLE_TIMESLICE) 0 (cond (eqb i CUR_REBALANCE_TIME) 0 (cond (eqb i RAND_STATE) 0 (cond (eqb i PREEMPT) 0 (cond (eqb i MUST_REBALANCE) 0
-      (cond (eqb i IS_IDLE) 1 (cond (eqb i OWN_PRIORITY) 0 (cond (eqb i RUNNING) NONE (cond (eqb i PLACED) NONE (cond (eqb i DECLARED) 0 (word stored c i)))))))))))
-  unfolding new_cpu_def new_marks new_numbers
-  all_written =
-      written_put 81 0 in_stored long_stored (omega arith) (omega arith)
-      (written_put 80 0 in_stored long_stored (omega arith) (omega arith)
-      (written_put 79 0 in_stored long_stored (omega arith) (omega arith)
-      (written_put 78 0 in_stored long_stored (omega arith) (omega arith)
-      (written_put 77 0 in_stored long_stored (omega arith) (omega arith)
-      (written_put 76 1 in_stored long_stored (omega arith) (omega arith)
-      (written_put 75 0 in_stored long_stored (omega arith) (omega arith)
-      (written_put 74 NONE in_stored long_stored (omega arith) (omega arith)
-      (written_put 73 NONE in_stored long_stored (omega arith) (omega arith)
-      (written_put 72 0 in_stored long_stored (omega arith) (omega arith) (written_none stored c))))))))))
-
   pub new_here : (limits : Limits) → New limits (new_cpu_def cs c) c
   unfolding start new_cpu number_or_none mark_in idle_priority from_raw class_at cut nr_values is_some
   new_here limits = record {
-    row = all_written.beside.as_long c ∙ long_stored;
-    queue = all_written.beside.queue c ∙ queue_after_store cs c no_run_queue h (omega (arith, l)) no_eights;
-    words = words_same (λ u m k. all_written.words u k) (record {
+    row = (all_written cs c h l).beside.as_long c ∙ long_stored cs c h l;
+    queue = (all_written cs c h l).beside.queue c ∙ queue_after_store cs c no_run_queue h (omega (arith, l)) no_eights;
+    words = words_same (λ u m k. (all_written cs c h l).words u k) (record {
       declared = refl;
       placed = refl;
       running = refl;
@@ -98,16 +73,16 @@ module _ (cs : List (List ℕ)) (c : ℕ) (h : c < length cs) (l : length (get_o
   }
 
   as_many : length (new_cpu_def cs c) ≡ length cs
-  as_many = all_written.beside.as_many ∙ length_store cs c no_run_queue
+  as_many = (all_written cs c h l).beside.as_many ∙ length_store cs c no_run_queue
 
   as_long : (d : ℕ) → length (get_or (new_cpu_def cs c) d []) ≡ length (get_or cs d [])
-  as_long d = all_written.beside.as_long d ∙ row_length_store cs c d no_run_queue
+  as_long d = (all_written cs c h l).beside.as_long d ∙ row_length_store cs c d no_run_queue
 
   other_word : (d u : ℕ) → d ≢ c → word (new_cpu_def cs c) d u ≡ word cs d u
-  other_word d u n = all_written.beside.others d u n ∙ (unfold word in rw (queue_elsewhere cs c d no_run_queue n))
+  other_word d u n = (all_written cs c h l).beside.others d u n ∙ (unfold word in rw (queue_elsewhere cs c d no_run_queue n))
 
   other_queue : (d : ℕ) → d ≢ c → queue_at (new_cpu_def cs c) d ≡ queue_at cs d
-  other_queue d n = all_written.beside.queue d ∙ (unfold queue_at in rw (queue_elsewhere cs c d no_run_queue n))
+  other_queue d n = (all_written cs c h l).beside.queue d ∙ (unfold queue_at in rw (queue_elsewhere cs c d no_run_queue n))
 
   pub new_there : (limits : Limits) (d : ℕ) → d ≢ c → New limits cs d → New limits (new_cpu_def cs c) d
   new_there limits d n w = record { row = as_long d ∙ w.row; queue = other_queue d n ∙ w.queue; words = words_same (λ u m k. other_word d u n) w.words }

@@ -31,7 +31,7 @@ module _ (h : LentState) (ready : Ready h) (calls : List Call) where
 
   -- and so end with an end line.
   pub feed_ends : Proper calls [] → Roomy calls → says_last calls ≡ true → EndsWithEndLine (outputs (begun h) calls)
-  feed_ends p m e = subst EndsWithEndLine (sym (feed_output p m e)) (output_ends base_limits (stream calls))
+  feed_ends p m e = subst EndsWithEndLine (sym (from_start_whole h ready calls p m e)) (output_ends base_limits (stream calls))
 
   -- After such calls at most eight bytes are left over, for which the next block's buffer has room.
   pub feed_left_over : (to_come : List ℕ) → Proper calls to_come → Roomy calls → Settled (after_all (begun h) calls)
@@ -52,7 +52,9 @@ module _ (h : LentState) (ready : Ready h) (calls : List Call) where
 
   -- and so end with an end line.
   pub feed_ends_by_command : (to_come : List ℕ) → Proper calls to_come → Roomy calls → EndedWithin (stream calls) → EndsWithEndLine (outputs (begun h) calls)
-  feed_ends_by_command to_come p m e = subst EndsWithEndLine (sym (feed_output_by_command to_come p m e).0) (output_ends base_limits (stream calls))
+  feed_ends_by_command to_come p m e =
+      subst EndsWithEndLine (sym (from_start_ended h ready calls to_come p (from_start_by_command h ready calls to_come p m e) ∙ ended_whatever (stream calls) to_come e))
+      (output_ends base_limits (stream calls))
 
   -- THE MEMORY, with any buffers and whatever is to come, stands for the rules' state after the first commands of the stream, as many as the run counts;
   pub feed_stands : (to_come : List ℕ) → Proper calls to_come

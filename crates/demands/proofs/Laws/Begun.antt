@@ -1,11 +1,9 @@
 -- What `start` leaves of the memory that was lent to it: the rows of CPUs from 64 on and the words from 82 on as found, all numbers of threads and CPUs
 -- small, the root alone on the nodes.
 use Prim.Native.Nat.{ℕ, zero, suc, ◌≤◌, ◌<◌}
-use Rattle.std.specs.Prelude.{◌≡◌, refl, ◌≢◌, false, List, [], length, get_or, replicate, eqb, ltb}
-use Rattle.std.proofs.Common.{sym, subst, ◌∙◌, true≢false, arith, eqb-true, ltb-true, ltb-false}
-use Rattle.std.proofs.lemmas.List.{length-replicate, get_or-replicate}
-use Rattle.std.proofs.Math.ListN.{get_or-eq_default}
-use Rattle.std.proofs.lemmas.Bool.{eqb-false}
+use Rattle.std.specs.Prelude.{◌≡◌, refl, false, List, [], length, get_or, replicate, ltb}
+use Rattle.std.proofs.Common.{sym, subst, ◌∙◌, true≢false, arith, ltb-false}
+use Rattle.std.proofs.lemmas.List.{length-replicate}
 use Rattle.rules.proofs.Laws.Line.{both}
 use Rattle.rules.specs.State.{base_limits, new_cpu}
 use Rattle.rules.specs.Waits.{Under}
@@ -15,7 +13,6 @@ use Rattle.thread.specs.Reads.{named, cpu_in}
 use Rattle.runqueue.specs.RunQueue.{no_run_queue}
 use Rattle.processor.specs.Words.{width, word}
 use Rattle.processor.specs.Word.{RUNNING}
-use Rattle.processor.specs.Queue.{queue_stored}
 use Rattle.records.specs.Left.{mem}
 use Rattle.records.specs.Rq.{record_at}
 use Rattle.represents.specs.World.{number_or_none}
@@ -26,11 +23,12 @@ use Rattle.command_laws.specs.Law.{lent}
 use Rattle.command_laws.specs.Links.{Link, QueueInRange}
 use Rattle.command_laws.proofs.Links.{orderly_none}
 use Rattle.command_laws.specs.InRange.{Rows, ThreadInRange, InRange, Zeros}
-use Rattle.command_laws.proofs.InRange.{rows_none, rows_then, rows_put, rows_store, zeros_put, zeros_here, zeros_there}
+use Rattle.command_laws.proofs.InRange.{rows_none, rows_then, rows_put, rows_store}
 use Rattle.command_laws.specs.Nodes.{Nodes}
 use Rattle.command_laws.proofs.Nodes.{nodes_root}
 use Rattle.demands.specs.Calls.{LentState, Ready}
 use Rattle.demands.proofs.Laws.Kept.{is_ready}
+use Rattle.demands.proofs.Laws.New.{zeros_new, blank_at}
 
 -- ---- the rows of the CPUs
 
@@ -50,22 +48,6 @@ rows_new : (cs : List (List ℕ)) (c : ℕ) → c < 64 → Rows cs (new_cpu_def 
 unfolding new_cpu_def
 rows_new cs c h = rows_then (rows_store cs c no_run_queue h) (rows_then (rows_marks _ c h) (rows_numbers _ c h))
 
-zeros_beside : (cs : List (List ℕ)) (c d : ℕ) → Zeros cs d → Zeros (new_numbers (new_marks cs c) c) d
-unfolding new_marks new_numbers
-zeros_beside cs c d z =
-    zeros_put _ c d 81 0 (omega arith) (omega arith) (zeros_put _ c d 80 0 (omega arith) (omega arith) (zeros_put _ c d 79 0 (omega arith) (omega arith)
-    (zeros_put _ c d 78 0 (omega arith) (omega arith) (zeros_put _ c d 77 0 (omega arith) (omega arith) (zeros_put _ c d 76 1 (omega arith) (omega arith)
-    (zeros_put _ c d 75 0 (omega arith) (omega arith) (zeros_put _ c d 74 NONE (omega arith) (omega arith) (zeros_put _ c d 73 NONE (omega arith) (omega arith)
-    (zeros_put cs c d 72 0 (omega arith) (omega arith) z)))))))))
-
-zeros_new : (cs : List (List ℕ)) (c d : ℕ) → c < length cs → 72 ≤ length (get_or cs c []) → (d ≢ c → Zeros cs d) → Zeros (new_cpu_def cs c) d
-unfolding new_cpu_def
-zeros_new cs c d h l z =
-    zeros_beside (queue_stored cs c no_run_queue) c d
-    (both (eqb d c)
-    (λ e. subst (Zeros (queue_stored cs c no_run_queue)) (sym (eqb-true d c e)) (zeros_here cs c no_run_queue h l))
-    (λ e. zeros_there cs c d no_run_queue (eqb-false d c e) (z (eqb-false d c e))))
-
 module _ (cs : List (List ℕ)) (room : 64 ≤ length cs) (long : (c : ℕ) → c < 64 → length (get_or cs c []) ≡ width) where
   rows_all : (k : ℕ) → k ≤ 64 → Rows cs (new_cpus k cs)
   unfolding new_cpus
@@ -80,11 +62,6 @@ module _ (cs : List (List ℕ)) (room : 64 ≤ length cs) (long : (c : ℕ) → 
       zeros_new (new_cpus k cs) k d (omega (arith, s.as_many)) (omega (arith, s.as_long k, long k (omega arith))) (λ n. zeros_all k (omega arith) d (omega arith))
 
   -- ---- all numbers are small
-
-  blank_at : (n x : ℕ) → record_at (replicate n blank) x ≡ blank
-  blank_at n x =
-      both (ltb x n) (λ e. get_or-replicate n x blank blank (ltb-true _ _ e))
-      (λ e. get_or-eq_default (replicate n blank) blank {n = x} (rw (length-replicate n blank) (ltb-false _ _ e)))
 
   tidy_blank : ThreadInRange blank
   unfolding Under named cpu_in
@@ -137,7 +114,7 @@ left ts cs ns e most long sized =
     rw e (record {
       tame = tame_new cs r.0 rows_long (length ts) most;
       as_many = length-replicate (length ts) blank;
-      blanks = blank_at cs r.0 rows_long (length ts);
+      blanks = blank_at (length ts);
       rows = rows_all cs r.0 rows_long 64 (omega arith);
       nodes = nodes_root ns r.1 sized;
     })
