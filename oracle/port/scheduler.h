@@ -1,4 +1,4 @@
-/* The static library libscheduler.a: crates/scheduler, crate `scheduler`, for C. Nothing compares these declarations with
+/* The static library libscheduler.a: crates/scheduler_c, the functions of crate `scheduler` for C. Nothing compares these declarations with
  * the Rattle source but the tests that link both. */
 #ifndef SCHEDULER_H
 #define SCHEDULER_H

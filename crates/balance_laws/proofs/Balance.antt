@@ -27,8 +27,10 @@ use Rattle.sched_words.specs.declared.context.Context.{Context}
 use Rattle.sched_ticks.specs.Balance.{move_one_def, move_two, balance_def}
 use Rattle.sched_laws.specs.Hardtick.{context}
 use Rattle.balance_laws.specs.Turns.{going}
-use Rattle.balance_laws.proofs.Turns.{rest, rest_next, step_more, turns_stop, spent}
-use Rattle.balance_laws.proofs.Move.{Meets, move_none, step_law}
+use Rattle.balance_laws.proofs.Turns.{rest, step_more, turns_stop, spent}
+use Rattle.balance_laws.proofs.Rest.{rest_next}
+use Rattle.balance_laws.specs.Move.{Meets}
+use Rattle.balance_laws.proofs.Move.{move_none, step_law}
 use Rattle.balance_laws.specs.Balance.{BalanceLeft}
 
 -- ---- whether another turn is due
@@ -43,7 +45,6 @@ going_on B e = (and_left B.goes_on _ e, ltb-true B.steps 20 (and_right B.goes_on
 
 done_moves : (b : step.Balancing) → b.moves ≡ true → is_done b ≡ true
 unfolding is_done
-
 done_moves b e = ap (λ (t : Bool). t || (not b.goes_on || leb 20 b.steps)) e
 
 found_stops : (n : ℕ) (cs ns : List (List ℕ)) (us limit : ℕ) (b : step.Balancing) → is_done b ≡ true → find_move n cs ns us limit b ≡ record { balancing = b; cpus = cs }

@@ -2,5 +2,6 @@ pub mod Balance
 pub mod Move
 pub mod Pairs
 pub mod Rebalance
+pub mod Rest
 pub mod Stattick
 pub mod Turns

@@ -1,5 +1,5 @@
 -- ONE CHOICE OF `balance`, and the move that it comes to: memory that meets the rules' balancing meets it again after the rules' step.
-use Prim.Native.Nat.{ℕ, ◌+◌, ◌*◌, ◌≤◌, ◌<◌}
+use Prim.Native.Nat.{ℕ, ◌+◌, ◌≤◌, ◌<◌}
 use Rattle.std.specs.Prelude.{◌≡◌, Bool, false, eqb, ltb}
 use Rattle.std.proofs.Math.Path.{refl, sym, ap, subst}
 use Rattle.std.proofs.Common.{◌∙◌, true≢false, eqb-true, arith}
@@ -53,6 +53,7 @@ use Rattle.sched_ticks.specs.Balance.{received, move_one_def}
 use Rattle.sched_laws.proofs.Frames.{from_wakeups, put_one}
 use Rattle.sched_laws.specs.Hardtick.{context}
 use Rattle.sched_laws.proofs.Queues.{nobody_moved, shows_scheduled, counts_scheduled, from_handed, shows_taken_from}
+use Rattle.balance_laws.specs.Move.{Meets as MeetsAt, Stepped as SteppedAt}
 use Rattle.balance_laws.specs.Pairs.{PairUnder}
 use Rattle.balance_laws.proofs.Pairs.{chosen_in}
 
@@ -103,16 +104,8 @@ module _ (limits : Limits) (topology : Topology) (tick us : ℕ) (known : ℕ �
   abbrev OK : World → Type 0
   OK w = Sound limits known H nobody_but w
 
-  -- Memory shows the world, and the code's balancing is the rules'; which thread moves the code alone keeps.
-  pub record Meets (ts : List Thread) (cs : List (List ℕ)) (wakeups : ℕ) (b : step.Balancing) (B : Balancing) : Type 0 where
-    pub shows : WorldRep limits topology known active ts cs B.world
-    pub safe : Sound limits known H nobody_but B.world
-    pub words : Sixteen b.allowed
-    pub allowed : (c : ℕ) → c < limits.cpus → cpus.contains b.allowed c ≡ B.allowed c
-    pub steps : b.steps ≡ B.steps
-    pub goes_on : b.goes_on ≡ B.goes_on
-    pub counted : wakeups ≡ B.world.wakeups
-    pub few : B.world.wakeups * 11 ≤ base * 11 + B.steps
+  abbrev Meets : List Thread → List (List ℕ) → ℕ → step.Balancing → Balancing → Type 0
+  Meets ts cs wakeups b B = MeetsAt limits topology tick us known numbered small early H us_in active base room ts cs wakeups b B
 
   -- ---- the rules
 
@@ -239,10 +232,8 @@ module _ (limits : Limits) (topology : Topology) (tick us : ℕ) (known : ℕ �
 
   -- ---- one choice
 
-  -- after a choice and the move that it comes to; a choice that moves a thread is eleven steps
-  pub record Stepped (ts : List Thread) (n : ℕ) (s : Balanced) (before : ℕ) (B : Balancing) : Type 0 where
-    pub meets : Meets (move_one_def k s.balancing n (mem ts s.cpus)).memory.threads (move_one_def k s.balancing n (mem ts s.cpus)).memory.cpus (move_one_def k s.balancing n (mem ts s.cpus)).answer s.balancing B
-    pub far : s.balancing.moves ≡ true → before + 11 ≤ B.steps
+  abbrev Stepped : List Thread → ℕ → Balanced → ℕ → Balancing → Type 0
+  Stepped ts n s before B = SteppedAt limits topology tick us known numbered small early H us_in active base room ts n s before B
 
   still : {ts : List Thread} {n : ℕ} (s : Balanced) (before : ℕ) (B : Balancing) → s.balancing.moves ≡ false → Meets ts s.cpus n s.balancing B → Stepped ts n s before B
   still {ts} {n} s before B e m = record {

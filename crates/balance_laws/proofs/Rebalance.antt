@@ -4,7 +4,7 @@ use Rattle.std.proofs.Math.Path.{refl, sym}
 use Rattle.std.proofs.Common.{subst, ◌∙◌, true≢false}
 use Rattle.rules.proofs.Laws.Line.{both}
 use Rattle.rules.specs.Puts.{PutOrTake}
-use Rattle.rules.specs.State.{at, Limits, Topology, Cpu}
+use Rattle.rules.specs.State.{Limits, Topology, Cpu}
 use Rattle.rules.specs.Schedule as sched
 use Rattle.rules.specs.Schedule.{World, with_cpu, with_draws, with_rebalance_time}
 use Rattle.rules.proofs.Laws.Sound.{at_keeps, same_cpu_changed, sound_same, Sound}
@@ -15,7 +15,7 @@ use Rattle.thread.specs.Thread.{NONE}
 use Rattle.represents.specs.World.{Small, WorldRep, most_tick}
 use Rattle.represents.proofs.Laws.Clock.{shows_clock}
 use Rattle.sched_words.specs.Rebalance.{rebalance_due}
-use Rattle.records.specs.Left.{Memory, mem, Left}
+use Rattle.records.specs.Left.{mem}
 use Rattle.sched_words.specs.declared.context.Context.{Context}
 use Rattle.sched_ticks.specs.Balance.{balance_def, maybe_rebalance_def, clocked, schedule_stattick_def}
 use Rattle.sched_laws.proofs.Ticks.{due_shown, anew, shows_due, shows_not_due}

@@ -11,7 +11,7 @@ use Rattle.thread.specs.declared.Thread.{Thread}
 use Rattle.thread.specs.Thread.{NONE}
 use Rattle.represents.specs.World.{Small, WorldRep, most_tick}
 use Rattle.represents.specs.Topology.{TopologyRep}
-use Rattle.records.specs.Left.{Memory, mem, Left}
+use Rattle.records.specs.Left.{mem}
 use Rattle.sched_ticks.specs.Balance.{balance_def, maybe_rebalance_def, schedule_stattick_def}
 use Rattle.sched_laws.specs.Hardtick.{context}
 use Rattle.sched_laws.specs.Switch.{Settled, no_one}

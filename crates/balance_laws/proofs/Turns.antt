@@ -45,7 +45,7 @@ module _ (limits : Limits) (topology : Topology) (tick us : ℕ) where
   unfolding sched.balance_step
   step_more b h = pair_more _ b.allowed b.steps _ h
 
-  stops : (b : Balancing) → b.goes_on ≡ false → going b ≡ false
+  pub stops : (b : Balancing) → b.goes_on ≡ false → going b ≡ false
   unfolding going
   stops b e = ap (λ (t : Bool). t && ltb b.steps 20) e
 
@@ -58,7 +58,7 @@ module _ (limits : Limits) (topology : Topology) (tick us : ℕ) where
   turns_stop zero b e = refl
   turns_stop (suc n) b e = rw e
 
-  turns_next : (n : ℕ) (b : Balancing) → going b ≡ true → turns (suc n) b ≡ turns n (step b)
+  pub turns_next : (n : ℕ) (b : Balancing) → going b ≡ true → turns (suc n) b ≡ turns n (step b)
   unfolding sched.balance_turns sched.max_steps going
   turns_next n b e = rw e
 
@@ -75,10 +75,3 @@ module _ (limits : Limits) (topology : Topology) (tick us : ℕ) where
       (λ g. turns_stop n (step b) (stops (step b) g) ∙ sym (turns_stop m (step b) (stops (step b) g)))
       ∙ sym (turns_next m b e))
       (λ e. turns_stop (suc n) b e ∙ sym (turns_stop (suc m) b e))
-
-  pub rest_next : (b : Balancing) → going b ≡ true → rest b ≡ rest (step b)
-  rest_next b e =
-      turns_next 19 b e
-      ∙ both (step b).goes_on
-      (λ g. turns_enough 19 20 (step b) (omega (arith, step_more b g)) (omega arith))
-      (λ g. turns_stop 19 (step b) (stops (step b) g) ∙ sym (turns_stop 20 (step b) (stops (step b) g)))

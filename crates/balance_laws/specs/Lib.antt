@@ -1,3 +1,4 @@
 pub mod Balance
+pub mod Move
 pub mod Pairs
 pub mod Turns

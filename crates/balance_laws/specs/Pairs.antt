@@ -12,5 +12,5 @@ PairUnder n (pair donor recipient) = (donor < n) × (recipient < n)
 
 -- the CPUs found so far
 pub record Within (n : ℕ) (e : Extremes) : Type 0 where
-  high : e.highest < n
-  low : BestUnder n e.lowest
+  pub high : e.highest < n
+  pub low : BestUnder n e.lowest

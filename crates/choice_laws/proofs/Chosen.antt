@@ -1,6 +1,6 @@
 -- On words that are a tree of nodes and show the CPUs of a world, each choice is the choice of the rules.
 use Prim.Native.Nat.{ℕ, zero, suc, ◌<◌}
-use Rattle.std.specs.Prelude.{◌≡◌, Bool, true, false, cond, eqb}
+use Rattle.std.specs.Prelude.{◌≡◌, Bool, true, cond, eqb}
 use Rattle.std.proofs.Math.Path.{refl, ap}
 use Rattle.std.proofs.Common.{sym, ◌∙◌, mod-eq_of_lt, eq-eqb}
 use Rattle.std.proofs.lemmas.Bool.{false≢true}
@@ -11,7 +11,7 @@ use Rattle.rules.specs.declared.Priority.{Priority}
 use Rattle.rules.specs.Line.{has}
 use Rattle.rules.proofs.Laws.Line.{both, has_append}
 use Rattle.rules.specs.Priority.{less}
-use Rattle.rules.specs.Times.{effective_priority, preferred_cpu}
+use Rattle.rules.specs.Times.{effective_priority}
 use Rattle.rules.specs.Queue.{load}
 use Rattle.rules.specs.State.{at, Limits, Topology, Cpu, join_all}
 use Rattle.rules.specs.Topology.{nr_nodes, children, leaf, cpus_of, visits, visited, nearest_from, nearest, above}
@@ -24,7 +24,7 @@ use Rattle.topology.specs.Walk.{cpus_at, nearest_at}
 use Rattle.processor.specs.Words.{word}
 use Rattle.choice.specs.Reads.{load_at, weight_at, movable_at, skips_at, draw_word}
 use Rattle.choice.specs.Found.{begun}
-use Rattle.choice.specs.Select.{runs_at_once, at_once, cpu_found, accepted, search_from, search_again, search_twice, select_cpu}
+use Rattle.choice.specs.Select.{runs_at_once, at_once, cpu_found, search_from}
 use Rattle.represents.proofs.Laws.NumberLists.{below_has}
 use Rattle.represents.specs.Topology.{TopologyRep}
 use Rattle.represents.proofs.Laws.Topology.{cpus_same, nearest_same, visited_same}
@@ -173,7 +173,6 @@ threads_kept us w d = refl
 
 movable_kept : (us : ℕ) (w : World) (d c : ℕ) → movable_on (drawn us w d) c ≡ movable_on w c
 unfolding movable_on
-
 movable_kept us w d c = rw (threads_kept us w d, kept (λ (p : Cpu). p.queue) queue_kept us w d c)
 
 reads_drawn : (limits : Limits) (cpus : List (List ℕ)) (us : ℕ) (w : World) (d : ℕ) → ChoiceReads limits cpus w → ChoiceReads limits cpus (drawn us w d)
@@ -192,10 +191,10 @@ module _ (limits : Limits) (t : Topology) (tick us : ℕ) (cpus nodes : List (Li
   got_found (best s c) = refl
 
   -- what the search finds, and the draw state that it leaves
-  unfoldable searched : World → Searched → Got
+  unfoldable pub searched : World → Searched → Got
   searched w f = record { got = cpu_found f.found; world = drawn us w f.draws }
 
-  find_got : (w : World) → ChoiceReads limits cpus w → (p : Option Priority) (d : ℕ) → (w.cpus us).draw_state ≡ d
+  pub find_got : (w : World) → ChoiceReads limits cpus w → (p : Option Priority) (d : ℕ) → (w.cpus us).draw_state ≡ d
       → sched.find_cpu_from_topo limits t tick us w p ≡ searched w (search_from cpus nodes us limits.cpus p d)
   unfolding sched.find_cpu_from_topo drawn searched begun with_draws
   find_got w s p d e =
@@ -211,44 +210,19 @@ module _ (limits : Limits) (t : Topology) (tick us : ℕ) (cpus nodes : List (Li
     p = effective_priority (w.threads x)
 
     -- 1
-    preferred_law : (o : Option ℕ) → ((c : ℕ) → o ≡ some c → c < limits.cpus) → sched.preferred limits t tick us w x avoid o ≡ cond (at_once cpus p avoid o) o none
+    pub preferred_law : (o : Option ℕ) → ((c : ℕ) → o ≡ some c → c < limits.cpus) → sched.preferred limits t tick us w x avoid o ≡ cond (at_once cpus p avoid o) o none
     unfolding sched.preferred at_once runs_at_once
     preferred_law none h = refl
     preferred_law (some c) h = rw (shows.waiting c (h c refl), shows.priorities c (h c refl))
 
-    taken : (o : Option ℕ) → at_once cpus p avoid o ≡ true → sched.select_from limits t tick us w x avoid o ≡ record { got = o; world = w }
+    pub taken : (o : Option ℕ) → at_once cpus p avoid o ≡ true → sched.select_from limits t tick us w x avoid o ≡ record { got = o; world = w }
     unfolding sched.select_from at_once
     taken none e = absurd (false≢true e)
     taken (some c) e = refl
 
     -- 3: the search without a priority, after draws
-    second : (d : ℕ) → sched.find_cpu_from_topo limits t tick us (drawn us w d) none ≡ searched w (search_from cpus nodes us limits.cpus none d)
+    pub second : (d : ℕ) → sched.find_cpu_from_topo limits t tick us (drawn us w d) none ≡ searched w (search_from cpus nodes us limits.cpus none d)
     unfolding searched
     second d =
         find_got (drawn us w d) (reads_drawn limits cpus us w d shows) none d (ap (λ (c : Cpu). c.draw_state) (drawn_at us w d) ∙ unfold with_draws in refl)
         ∙ (λ i. record { got = cpu_found (search_from cpus nodes us limits.cpus none d).found; world = drawn_again us w d (search_from cpus nodes us limits.cpus none d).draws i })
-
-    -- 2, else 3
-    again : (b : Best) (d : ℕ) → sched.found_or_any limits t tick us (drawn us w d) avoid (cpu_found b) ≡ searched w (search_again cpus nodes us limits.cpus avoid (record { found = b; draws = d }))
-    unfolding sched.found_or_any cpu_found search_again accepted
-    again none_yet d = second d
-    again (best s c) d = both (same_cpu c avoid) (λ e. rw e (second d)) (λ e. rw e (unfold searched in unfold cpu_found in refl))
-
-    not_taken : sched.select_from limits t tick us w x avoid none ≡ searched w (search_twice cpus nodes us limits.cpus p avoid (word cpus us draw_word))
-    unfolding sched.select_from search_twice
-    not_taken =
-        let f : Searched = search_from cpus nodes us limits.cpus (some p) (word cpus us draw_word) in
-        ap (λ (g : Got). sched.found_or_any limits t tick us g.world avoid g.got) (find_got w shows (some p) (word cpus us draw_word) (sym state))
-        ∙ (unfold searched in again f.found f.draws)
-
-    -- THE CPU FOR A THREAD, AND THE DRAW STATE THAT IS LEFT
-    pub select_law : ((c : ℕ) → preferred_cpu (w.threads x) ≡ some c → c < limits.cpus)
-        → sched.select_cpu limits t tick us w x avoid
-        ≡ record {
-          got = select_cpu cpus nodes us limits.cpus (preferred_cpu (w.threads x)) p avoid;
-          world = cond (at_once cpus p avoid (preferred_cpu (w.threads x))) w (drawn us w (search_twice cpus nodes us limits.cpus p avoid (word cpus us draw_word)).draws);
-        }
-    unfolding sched.select_cpu select_cpu searched
-    select_law h =
-        ap (sched.select_from limits t tick us w x avoid) (preferred_law (preferred_cpu (w.threads x)) h)
-        ∙ both (at_once cpus p avoid (preferred_cpu (w.threads x))) (λ e. rw e (taken (preferred_cpu (w.threads x)) e)) (λ e. rw e not_taken)

@@ -1,10 +1,8 @@
 -- On lent memory that shows a world of the rules: what a choice reads of it, and what it leaves.
-use Rattle.std.specs.Prelude.{ℕ, ◌<◌, ◌≡◌, refl, Bool, List}
+use Rattle.std.specs.Prelude.{ℕ, ◌<◌, ◌≡◌, Bool, List}
 use Rattle.std.proofs.Math.Path.{ap}
 use Rattle.std.proofs.Common.{◌∙◌, arith}
-use Rattle.std.proofs.Math.Option.{Option, some}
-use Rattle.rules.proofs.Laws.Line.{both}
-use Rattle.rules.specs.Times.{effective_priority, preferred_cpu}
+use Rattle.std.proofs.Math.Option.{some}
 use Rattle.rules.specs.State.{Limits, Topology}
 use Rattle.rules.specs.Topology.{cpus_of}
 use Rattle.rules.specs.Choice.{may_steal_from, first_that, choose_cpu_balance}
@@ -18,10 +16,9 @@ use Rattle.represents.proofs.Laws.Frames.{shows_draws}
 use Rattle.represents.proofs.Laws.Numbers.{word_load, word_movable, load_shown, movable_shown, current_load_shown, current_load_most, priority_shown}
 use Rattle.topology.specs.Walk.{cpus_at, nearest_at}
 use Rattle.choice.specs.Reads.{load_at, weight_at, queue_load_at, movable_at, draw_word}
-use Rattle.choice.specs.Select.{at_once, select_cpu, after_select}
 use Rattle.represents.specs.Topology.{TopologyRep}
 use Rattle.choice_laws.specs.Chosen.{ChoiceReads, drawn}
-use Rattle.choice_laws.proofs.Chosen.{steal_law, balance_law, select_law}
+use Rattle.choice_laws.proofs.Chosen.{steal_law, balance_law}
 
 module _ {limits : Limits} {topology : Topology} {known active : ℕ → Bool} {ts : List Thread} {cs : List (List ℕ)} {w : World} (shows : WorldRep limits topology known active ts cs w)
     (small : Small limits) where
@@ -44,16 +41,6 @@ module _ {limits : Limits} {topology : Topology} {known active : ℕ → Bool} {
     pub shows_drawn : (d : ℕ) → WorldRep limits topology known active ts (put_word cs us draw_word d) (drawn us w d)
     unfolding drawn
     shows_drawn d = shows_draws shows us us_in d
-
-    -- `select_cpu`: THE CPU THAT THE RULES CHOOSE, AND MEMORY THAT SHOWS THE WORLD AFTER IT
-    pub select_memory : (nodes : List (List ℕ)) → TopologyRep limits nodes topology → (tick x : ℕ) (avoid : Option ℕ) → ((c : ℕ) → preferred_cpu (w.threads x) ≡ some c → c < limits.cpus)
-        → ((sched.select_cpu limits topology tick us w x avoid).got ≡ select_cpu cs nodes us limits.cpus (preferred_cpu (w.threads x)) (effective_priority (w.threads x)) avoid)
-        × WorldRep limits topology known active ts (after_select cs nodes us limits.cpus (preferred_cpu (w.threads x)) (effective_priority (w.threads x)) avoid)
-        (sched.select_cpu limits topology tick us w x avoid).world
-    unfolding after_select
-    select_memory nodes tree tick x avoid h =
-        rw (select_law limits topology tick us cs nodes tree w choice_reads draws_shown x avoid h)
-        (refl, both (at_once cs (effective_priority (w.threads x)) avoid (preferred_cpu (w.threads x))) (λ e. rw e shows) (λ e. rw e (shows_drawn _)))
 
     -- THE CPU FROM WHICH THE RULES STEAL, from the node on which CPU us was put
     pub steal_memory : (nodes : List (List ℕ)) → TopologyRep limits nodes topology → (tick m : ℕ) → topology.placed us ≡ some m

@@ -6,7 +6,6 @@ use Rattle.rules.specs.Queue.{load}
 use Rattle.rules.specs.State.{Limits}
 use Rattle.rules.specs.Schedule.{World, with_cpu, with_draws, current_load, current_priority, movable_on}
 use Rattle.choice.specs.Reads.{load_at, priority_at, queue_load_at, movable_at}
-use Rattle.choice.specs.Select.{select_cpu}
 
 -- ---- what the words must say of the CPUs of a world
 

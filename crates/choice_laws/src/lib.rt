@@ -1,3 +1,2 @@
-// No code: that the choice of a CPU over words is the choice of the rules, in specs/.
+// No code: that the choice of a CPU over words is the choice of the rules, in proofs/.
 #![tactic(auto)]
-

@@ -55,6 +55,7 @@ fn set_tick(state: State, call: Call) -> Answered
     changed(state, call.used)
 }
 
+#[tactic(auto, unfolding(crate::specs::Command::declare_thread_command))]
 pub fn declare_thread(threads: &mut [Thread], state: State, call: Call) -> Answered
     ensures { LeavesOne (declare_thread_command state call) result threads }
 {
@@ -65,6 +66,7 @@ pub fn declare_thread(threads: &mut [Thread], state: State, call: Call) -> Answe
 }
 
 // The line shows the CPU chosen.
+#[tactic(auto, unfolding(crate::specs::Command::schedule_thread_command))]
 pub fn schedule_thread(
     threads: &mut [Thread],
     cpus: &mut [CpuWords],
@@ -83,6 +85,7 @@ pub fn schedule_thread(
     ran(cpus, state, c, w, used)
 }
 
+#[tactic(auto, unfolding(crate::specs::Command::schedule_command))]
 pub fn schedule_on(
     threads: &mut [Thread],
     cpus: &mut [CpuWords],
@@ -98,6 +101,7 @@ pub fn schedule_on(
     ran_on(cpus, state, call, w)
 }
 
+#[tactic(auto, unfolding(crate::specs::Command::hardtick_command))]
 pub fn hardtick(threads: &mut [Thread], cpus: &mut [CpuWords], state: State, call: Call) -> Answered
     ensures { Leaves (hardtick_command state call) result threads cpus }
 {
@@ -106,6 +110,7 @@ pub fn hardtick(threads: &mut [Thread], cpus: &mut [CpuWords], state: State, cal
     ran_on(cpus, state, call, 0)
 }
 
+#[tactic(auto, unfolding(crate::specs::Command::stattick_command))]
 pub fn stattick(
     threads: &mut [Thread],
     cpus: &mut [CpuWords],
@@ -121,6 +126,7 @@ pub fn stattick(
     ran_on(cpus, state, call, w)
 }
 
+#[tactic(auto, unfolding(crate::specs::Command::resched_command))]
 pub fn resched(threads: &[Thread], cpus: &mut [CpuWords], state: State, call: Call) -> Answered
     ensures { LeavesOne (resched_command state call threads.now) result cpus }
 {
@@ -129,6 +135,7 @@ pub fn resched(threads: &[Thread], cpus: &mut [CpuWords], state: State, call: Ca
     ran_on(cpus, state, call, 0)
 }
 
+#[tactic(auto, unfolding(crate::specs::Command::maybe_preempt_command))]
 pub fn maybe_preempt(
     threads: &mut [Thread],
     cpus: &mut [CpuWords],
@@ -143,6 +150,7 @@ pub fn maybe_preempt(
     ran_on(cpus, state, call, w)
 }
 
+#[tactic(auto, unfolding(crate::specs::Command::donate_command))]
 pub fn donate(threads: &mut [Thread], cpus: &[CpuWords], state: State, call: Call) -> Answered
     ensures { LeavesOne (donate_command state call cpus.now) result threads }
 {
@@ -153,6 +161,7 @@ pub fn donate(threads: &mut [Thread], cpus: &[CpuWords], state: State, call: Cal
     ran_on(cpus, state, call, w)
 }
 
+#[tactic(auto, unfolding(crate::specs::Command::remove_donation_command))]
 pub fn remove_donation(threads: &mut [Thread], state: State, call: Call) -> Answered
     ensures { LeavesOne (remove_donation_command state call) result threads }
 {
@@ -161,6 +170,7 @@ pub fn remove_donation(threads: &mut [Thread], state: State, call: Call) -> Answ
     done(state, call)
 }
 
+#[tactic(auto, unfolding(crate::specs::Command::set_critical_command))]
 pub fn set_critical(threads: &mut [Thread], state: State, call: Call) -> Answered
     ensures { LeavesOne (set_critical_command state call) result threads }
 {
@@ -171,6 +181,7 @@ pub fn set_critical(threads: &mut [Thread], state: State, call: Call) -> Answere
 }
 
 // The case of the command.
+#[tactic(auto, unfolding(crate::specs::Command::obey_def))]
 pub fn obey(
     threads: &mut [Thread],
     cpus: &mut [CpuWords],
@@ -218,6 +229,7 @@ pub fn obey(
 }
 
 // The command that was read. "A no gives the number, changes nothing."
+#[tactic(auto, unfolding(crate::specs::Command::answered_def))]
 pub fn command_read(
     threads: &mut [Thread],
     cpus: &mut [CpuWords],
@@ -239,6 +251,7 @@ pub fn command_read(
 }
 
 // The command that the bytes ask for.
+#[tactic(auto, unfolding(crate::specs::Command::command_def))]
 pub fn command(
     threads: &mut [Thread],
     cpus: &mut [CpuWords],

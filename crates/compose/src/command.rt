@@ -27,18 +27,27 @@ fn ended() -> Step {
     }
 }
 
-fn output_lost() -> Step {
-    report_output();
+fn output_lost(stderr: &impl Print) -> Step {
+    report_output(stderr);
     ended()
 }
 
 // A line that cannot be composed: what was composed before it is shown, then the reason.
-fn refuse(line: &[u8], output: &[u8], done: usize, number: u64, refusal: u64, word: usize) -> Step {
-    if show(libc::STDOUT_FILENO, output, done) {
-        report(line, number, refusal, word);
+fn refuse(
+    stdout: &impl Print,
+    stderr: &impl Print,
+    line: &[u8],
+    output: &[u8],
+    done: usize,
+    number: u64,
+    refusal: u64,
+    word: usize,
+) -> Step {
+    if show(stdout, output, done) {
+        report(stderr, line, number, refusal, word);
         return ended();
     }
-    output_lost()
+    output_lost(stderr)
 }
 
 // The fields up to number i, and 0 in the others.
@@ -95,6 +104,8 @@ fn word_refused(refusal: u64, byte: u64, fields: Fields) -> usize {
 }
 
 fn write_at(
+    stdout: &impl Print,
+    stderr: &impl Print,
     line: &[u8],
     output: &mut [u8],
     done: usize,
@@ -107,11 +118,15 @@ fn write_at(
     }
     match write_command(byte, fields, false, &mut output[done..]) {
         Written::Bytes(n) => on(std::num::wrapping_add_usize(done, n)),
-        Written::Refused(refusal) => refuse_at(line, output, done, number, byte, fields, refusal),
+        Written::Refused(refusal) => refuse_at(
+            stdout, stderr, line, output, done, number, byte, fields, refusal,
+        ),
     }
 }
 
 fn refuse_at(
+    stdout: &impl Print,
+    stderr: &impl Print,
     line: &[u8],
     output: &[u8],
     done: usize,
@@ -121,7 +136,16 @@ fn refuse_at(
     refusal: Refusal,
 ) -> Step {
     let r = refusal_number(refusal);
-    refuse(line, output, done, number, r, word_refused(r, byte, fields))
+    refuse(
+        stdout,
+        stderr,
+        line,
+        output,
+        done,
+        number,
+        r,
+        word_refused(r, byte, fields),
+    )
 }
 
 fn has_room(output: &[u8], done: usize) -> bool {
@@ -133,6 +157,8 @@ fn has_room(output: &[u8], done: usize) -> bool {
 
 // A command; an output without room for it is shown first.
 fn compose_command(
+    stdout: &impl Print,
+    stderr: &impl Print,
     line: &[u8],
     output: &mut [u8],
     done: usize,
@@ -141,21 +167,28 @@ fn compose_command(
     fields: Fields,
 ) -> Step {
     if has_room(output, done) {
-        return write_at(line, output, done, number, byte, fields);
+        return write_at(stdout, stderr, line, output, done, number, byte, fields);
     }
-    if show(libc::STDOUT_FILENO, output, done) {
-        return write_at(line, output, 0, number, byte, fields);
+    if show(stdout, output, done) {
+        return write_at(stdout, stderr, line, output, 0, number, byte, fields);
     }
-    output_lost()
+    output_lost(stderr)
 }
 
-pub fn compose_line(line: &[u8], output: &mut [u8], done: usize, number: u64) -> Step {
+pub fn compose_line(
+    stdout: &impl Print,
+    stderr: &impl Print,
+    line: &[u8],
+    output: &mut [u8],
+    done: usize,
+    number: u64,
+) -> Step {
     match parse(line, false) {
         Parsed::Nothing => on(done),
-        Parsed::Unknown => refuse(line, output, done, number, 1, 0),
-        Parsed::Unfit(word) => refuse(line, output, done, number, 6, word),
+        Parsed::Unknown => refuse(stdout, stderr, line, output, done, number, 1, 0),
+        Parsed::Unfit(word) => refuse(stdout, stderr, line, output, done, number, 6, word),
         Parsed::Command { byte, fields } => {
-            compose_command(line, output, done, number, byte, fields)
+            compose_command(stdout, stderr, line, output, done, number, byte, fields)
         }
     }
 }

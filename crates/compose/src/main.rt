@@ -10,6 +10,7 @@ use blocks::keep;
 use command::compose_line;
 use files::{fill, show};
 use message::{report_input, report_length, report_output};
+use std::io::Read;
 
 // What a block left: its first byte that is in no whole line, the bytes in the output, the number of the next line, whether the run ends here.
 #[derive(Clone, Copy)]
@@ -36,6 +37,8 @@ fn line_end(block: &[u8], at: usize) -> usize
 
 // The line at `at`, which has no line feed: composed if the input ends with it, else left for the next block.
 fn compose_rest(
+    stdout: &impl Print,
+    stderr: &impl Print,
     block: &[u8],
     at: usize,
     last: bool,
@@ -45,7 +48,7 @@ fn compose_rest(
 ) -> Block {
     if last {
         if at <= block.len() {
-            let got = compose_line(&block[at..], output, done, number);
+            let got = compose_line(stdout, stderr, &block[at..], output, done, number);
             return Block {
                 at: block.len(),
                 done: got.done,
@@ -64,6 +67,8 @@ fn compose_rest(
 
 // The lines of a block, the first of which has this number.
 fn compose_block(
+    stdout: &impl Print,
+    stderr: &impl Print,
     block: &[u8],
     last: bool,
     output: &mut [u8],
@@ -76,9 +81,9 @@ fn compose_block(
     while at < block.len() {
         let end = line_end(block, at);
         if block.len() <= end {
-            return compose_rest(block, at, last, output, done, number);
+            return compose_rest(stdout, stderr, block, at, last, output, done, number);
         }
-        let got = compose_line(&block[at..end], output, done, number);
+        let got = compose_line(stdout, stderr, &block[at..end], output, done, number);
         let ended = got.ended;
         if ended {
             return Block {
@@ -100,23 +105,23 @@ fn compose_block(
     }
 }
 
-fn finish(output: &[u8], done: usize) -> bool {
-    if show(libc::STDOUT_FILENO, output, done) {
+fn finish(stdout: &impl Print, stderr: &impl Print, output: &[u8], done: usize) -> bool {
+    if show(stdout, output, done) {
         return true;
     }
-    report_output();
+    report_output(stderr);
     false
 }
 
-fn input_lost(output: &[u8], done: usize) {
-    if finish(output, done) {
-        report_input();
+fn input_lost(stdout: &impl Print, stderr: &impl Print, output: &[u8], done: usize) {
+    if finish(stdout, stderr, output, done) {
+        report_input(stderr);
     }
 }
 
-fn too_long(output: &[u8], done: usize, number: u64) {
-    if finish(output, done) {
-        report_length(number);
+fn too_long(stdout: &impl Print, stderr: &impl Print, output: &[u8], done: usize, number: u64) {
+    if finish(stdout, stderr, output, done) {
+        report_length(stderr, number);
     }
 }
 
@@ -125,20 +130,26 @@ fn turns() -> u64 {
     18446744073709551615
 }
 
-fn serve(input: &mut [u8], output: &mut [u8]) {
+fn serve(
+    stdin: &mut impl Read,
+    stdout: &impl Print,
+    stderr: &impl Print,
+    input: &mut [u8],
+    output: &mut [u8],
+) {
     let mut kept: usize = 0;
     let mut done: usize = 0;
     let mut number: u64 = 1;
     let mut budget = turns();
     while 0 < budget {
         if input.len() <= kept {
-            too_long(output, done, number);
+            too_long(stdout, stderr, output, done, number);
             return;
         }
-        let got = fill(input, kept);
+        let got = fill(stdin, input, kept);
         let failed = got.failed;
         if failed {
-            input_lost(output, done);
+            input_lost(stdout, stderr, output, done);
             return;
         }
         let n = got.bytes;
@@ -146,14 +157,14 @@ fn serve(input: &mut [u8], output: &mut [u8]) {
         if input.len() < n {
             return;
         }
-        let block = compose_block(&input[..n], last, output, done, number);
+        let block = compose_block(stdout, stderr, &input[..n], last, output, done, number);
         let ended = block.ended;
         if ended {
             return;
         }
         done = block.done;
         if last {
-            finish(output, done);
+            finish(stdout, stderr, output, done);
             return;
         }
         number = block.number;
@@ -162,8 +173,14 @@ fn serve(input: &mut [u8], output: &mut [u8]) {
     }
 }
 
-fn main() {
+fn main(rt: HostRuntime) {
     let mut input = [0u8; 32768];
     let mut output = [0u8; 32768];
-    serve(&mut input, &mut output);
+    serve(
+        &mut rt.stdin(),
+        &rt.stdout(),
+        &rt.stderr(),
+        &mut input,
+        &mut output,
+    );
 }

@@ -67,32 +67,30 @@ fn put_start(message: &mut [u8], number: u64, refusal: u64) -> usize {
 }
 
 // A line that is refused for its word of this number.
-pub fn report(line: &[u8], number: u64, refusal: u64, word: usize) -> bool {
+pub fn report(stderr: &impl Print, line: &[u8], number: u64, refusal: u64, word: usize) -> bool {
     let mut message = [0u8; 256];
     let a = put_start(&mut message, number, refusal);
     let b = put_reason(&mut message, a, line, word);
     let c = put(&mut message, b, 10);
-    show(libc::STDERR_FILENO, &message, c)
+    show(stderr, &message, c)
 }
 
 // A line that the input cannot hold.
-pub fn report_length(number: u64) -> bool {
+pub fn report_length(stderr: &impl Print, number: u64) -> bool {
     let mut message = [0u8; 256];
     let a = put_start(&mut message, number, 6);
     let b = put_bytes(&mut message, a, b"line too long\n");
-    show(libc::STDERR_FILENO, &message, b)
+    show(stderr, &message, b)
 }
 
-pub fn report_input() -> bool {
-    io::write_all(
-        libc::STDERR_FILENO,
-        b"compose: standard input could not be read\n",
-    )
+pub fn report_input(stderr: &impl Print) -> bool {
+    stderr
+        .write_all(b"compose: standard input could not be read\n")
+        .is_ok()
 }
 
-pub fn report_output() -> bool {
-    io::write_all(
-        libc::STDERR_FILENO,
-        b"compose: standard output could not be written\n",
-    )
+pub fn report_output(stderr: &impl Print) -> bool {
+    stderr
+        .write_all(b"compose: standard output could not be written\n")
+        .is_ok()
 }

@@ -6,7 +6,8 @@ use Rattle.rules.specs.State.{Limits, base_limits, State, start}
 use Rattle.rules.specs.Questions.{least_shortest, most_shortest}
 use Rattle.rules.specs.Commands.{Answer, nothing_shown, after_calls}
 use Rattle.rules.specs.Shortest.{Figure}
-use Rattle.rules.proofs.Shortest.{figure_held, before_the_seal}
+use Rattle.rules.proofs.Shortest.{figure_held}
+use Rattle.rules.proofs.ShortestLine.{before_the_seal}
 use Rattle.represents.specs.State.{limits_in}
 use Rattle.lines.specs.Lines.{refusal_number, answer_of}
 use Rattle.demands.specs.Calls.{LentState, Ready, call, after}

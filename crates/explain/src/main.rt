@@ -7,6 +7,7 @@ use lines::{put, put_bytes, put_number};
 use listing::{LINE, list_command};
 use request::fields::operands;
 use request::{Operands, operand_bytes};
+use std::io::Read;
 
 // Why the listing of a block stops.
 #[derive(Clone, Copy)]
@@ -169,9 +170,15 @@ fn list_block(input: &[u8], n: usize, output: &mut [u8], from: usize) -> Progres
 }
 
 // The same, shown on standard output.
-fn list_and_show(input: &[u8], n: usize, output: &mut [u8], from: usize) -> Progress {
+fn list_and_show(
+    stdout: &impl Print,
+    input: &[u8],
+    n: usize,
+    output: &mut [u8],
+    from: usize,
+) -> Progress {
     let p = list_block(input, n, output, from);
-    if show(libc::STDOUT_FILENO, output, p.done) {
+    if show(stdout, output, p.done) {
         return p;
     }
     Progress {
@@ -182,14 +189,14 @@ fn list_and_show(input: &[u8], n: usize, output: &mut [u8], from: usize) -> Prog
 }
 
 // All commands of the first n bytes.
-fn list_all(input: &[u8], n: usize, output: &mut [u8]) -> Progress {
-    let mut p = list_and_show(input, n, output, 0);
+fn list_all(stdout: &impl Print, input: &[u8], n: usize, output: &mut [u8]) -> Progress {
+    let mut p = list_and_show(stdout, input, n, output, 0);
     let mut budget = n;
     while 0 < budget {
         if is_done(p) {
             return p;
         }
-        p = list_and_show(input, n, output, p.at);
+        p = list_and_show(stdout, input, n, output, p.at);
         budget -= 1;
     }
     p
@@ -219,30 +226,35 @@ fn put_reason(output: &mut [u8], at: usize, cut: bool) -> usize {
     put_bytes(output, at, b" is no command\n")
 }
 
-fn input_failed() -> bool {
-    io::write_all(
-        libc::STDERR_FILENO,
-        b"explain: standard input could not be read\n",
-    )
+fn input_failed(stderr: &impl Print) -> bool {
+    stderr
+        .write_all(b"explain: standard input could not be read\n")
+        .is_ok()
 }
 
-fn output_failed() -> bool {
-    io::write_all(
-        libc::STDERR_FILENO,
-        b"explain: standard output could not be written\n",
-    )
+fn output_failed(stderr: &impl Print) -> bool {
+    stderr
+        .write_all(b"explain: standard output could not be written\n")
+        .is_ok()
 }
 
 // The line that ends a listing before the stream does, on standard output and on standard error.
-fn tell(output: &mut [u8], offset: u64, byte: u8, cut: bool) -> bool {
+fn tell(
+    stdout: &impl Print,
+    stderr: &impl Print,
+    output: &mut [u8],
+    offset: u64,
+    byte: u8,
+    cut: bool,
+) -> bool {
     let a = put_bytes(output, 0, b"# ");
     let b = put_place(output, a, offset, byte);
     let c = put_reason(output, b, cut);
-    if show(libc::STDOUT_FILENO, output, c) {
+    if show(stdout, output, c) {
         let d = put_bytes(output, 0, b"explain: ");
         let e = put_place(output, d, offset, byte);
         let f = put_reason(output, e, cut);
-        show(libc::STDERR_FILENO, output, f);
+        show(stderr, output, f);
         return true;
     }
     false
@@ -264,23 +276,39 @@ fn byte_at(input: &[u8], at: usize) -> u8 {
 }
 
 // The listing ends at the byte at `at`.
-fn end_at(input: &[u8], output: &mut [u8], at: usize, offset: u64, cut: bool) -> Serving {
+fn end_at(
+    stdout: &impl Print,
+    stderr: &impl Print,
+    input: &[u8],
+    output: &mut [u8],
+    at: usize,
+    offset: u64,
+    cut: bool,
+) -> Serving {
     let byte = byte_at(input, at);
     let place = std::num::wrapping_add_u64(offset, at as u64);
-    if tell(output, place, byte, cut) {
+    if tell(stdout, stderr, output, place, byte, cut) {
         return ended();
     }
-    output_failed();
+    output_failed(stderr);
     ended()
 }
 
 // The bytes of the block are listed but for a command that is not whole.
-fn go_on(input: &mut [u8], output: &mut [u8], at: usize, got: Filled, offset: u64) -> Serving {
+fn go_on(
+    stdout: &impl Print,
+    stderr: &impl Print,
+    input: &mut [u8],
+    output: &mut [u8],
+    at: usize,
+    got: Filled,
+    offset: u64,
+) -> Serving {
     let kept = keep(input, at, got.bytes);
     let place = std::num::wrapping_add_u64(offset, at as u64);
     if got.last {
         if 0 < kept {
-            return end_at(input, output, 0, place, true);
+            return end_at(stdout, stderr, input, output, 0, place, true);
         }
         return ended();
     }
@@ -291,36 +319,57 @@ fn go_on(input: &mut [u8], output: &mut [u8], at: usize, got: Filled, offset: u6
     }
 }
 
-fn write_failed() -> Serving {
-    output_failed();
+fn write_failed(stderr: &impl Print) -> Serving {
+    output_failed(stderr);
     ended()
 }
 
 // What comes after a block.
-fn after(input: &mut [u8], output: &mut [u8], p: Progress, got: Filled, offset: u64) -> Serving {
+fn after(
+    stdout: &impl Print,
+    stderr: &impl Print,
+    input: &mut [u8],
+    output: &mut [u8],
+    p: Progress,
+    got: Filled,
+    offset: u64,
+) -> Serving {
     let at = p.at;
     let stop = p.stop;
     match stop {
-        Stop::Not => go_on(input, output, at, got, offset),
-        Stop::Full => go_on(input, output, at, got, offset),
-        Stop::Short => go_on(input, output, at, got, offset),
-        Stop::Unknown => end_at(input, output, at, offset, false),
-        Stop::Failed => write_failed(),
+        Stop::Not => go_on(stdout, stderr, input, output, at, got, offset),
+        Stop::Full => go_on(stdout, stderr, input, output, at, got, offset),
+        Stop::Short => go_on(stdout, stderr, input, output, at, got, offset),
+        Stop::Unknown => end_at(stdout, stderr, input, output, at, offset, false),
+        Stop::Failed => write_failed(stderr),
     }
 }
 
 // One block is read and listed.
-fn turn(input: &mut [u8], output: &mut [u8], s: Serving) -> Serving {
-    let got = fill(input, s.kept);
+fn turn(
+    stdin: &mut impl Read,
+    stdout: &impl Print,
+    stderr: &impl Print,
+    input: &mut [u8],
+    output: &mut [u8],
+    s: Serving,
+) -> Serving {
+    let got = fill(stdin, input, s.kept);
     if got.failed {
-        input_failed();
+        input_failed(stderr);
         return ended();
     }
-    let p = list_all(input, got.bytes, output);
-    after(input, output, p, got, s.offset)
+    let p = list_all(stdout, input, got.bytes, output);
+    after(stdout, stderr, input, output, p, got, s.offset)
 }
 
-fn serve(input: &mut [u8], output: &mut [u8]) {
+fn serve(
+    stdin: &mut impl Read,
+    stdout: &impl Print,
+    stderr: &impl Print,
+    input: &mut [u8],
+    output: &mut [u8],
+) {
     let mut s = Serving {
         kept: 0,
         offset: 0,
@@ -328,7 +377,7 @@ fn serve(input: &mut [u8], output: &mut [u8]) {
     };
     let mut budget: u64 = 18446744073709551615;
     while 0 < budget {
-        s = turn(input, output, s);
+        s = turn(stdin, stdout, stderr, input, output, s);
         if s.ended {
             return;
         }
@@ -336,8 +385,14 @@ fn serve(input: &mut [u8], output: &mut [u8]) {
     }
 }
 
-fn main() {
+fn main(rt: HostRuntime) {
     let mut input = [0u8; 32768];
     let mut output = [0u8; 32768];
-    serve(&mut input, &mut output);
+    serve(
+        &mut rt.stdin(),
+        &rt.stdout(),
+        &rt.stderr(),
+        &mut input,
+        &mut output,
+    );
 }

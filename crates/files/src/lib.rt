@@ -1,6 +1,10 @@
 // Standard input block by block, and bytes to a file.
 #![tactic(auto)]
 
+ghost use Rattle.std.specs.Prelude.{◌≤◌, length};
+
+use std::io;
+use std::io::Read;
 
 // The bytes at the front of the input, whether they are the last, and whether reading failed.
 #[derive(Clone, Copy)]
@@ -10,27 +14,29 @@ pub struct Filled {
     pub failed: bool,
 }
 
-fn behind(input: &[u8], kept: usize, got: isize) -> Filled {
-    if got < 0 {
-        return Filled {
+fn behind(kept: usize, got: io::Result<usize>) -> Filled {
+    match got {
+        Ok(count) => {
+            let n = std::num::wrapping_add_usize(kept, count);
+            Filled {
+                bytes: n,
+                last: n <= kept,
+                failed: false,
+            }
+        }
+        Err(_) => Filled {
             bytes: kept,
             last: false,
             failed: true,
-        };
-    }
-    let n = std::num::wrapping_add_usize(kept, io::count(got, input));
-    Filled {
-        bytes: n,
-        last: n <= kept,
-        failed: false,
+        },
     }
 }
 
-// One read of standard input behind the first `kept` bytes. One that adds nothing and does not fail is the end of the input, as is an input without room for a byte.
-pub fn fill(input: &mut [u8], kept: usize) -> Filled {
+// One read of a file behind the first `kept` bytes. One that adds nothing and does not fail is the end of the input, as is an input without room for a byte.
+pub fn fill(file: &mut impl Read, input: &mut [u8], kept: usize) -> Filled {
     if kept < input.len() {
-        let got = libc::read(libc::STDIN_FILENO, &mut input[kept..]);
-        return behind(input, kept, got);
+        let got = file.read(&mut input[kept..]);
+        return behind(kept, got);
     }
     Filled {
         bytes: kept,
@@ -40,9 +46,24 @@ pub fn fill(input: &mut [u8], kept: usize) -> Filled {
 }
 
 // The first n bytes to a file; false if they could not be written.
-pub fn show(file: i32, bytes: &[u8], n: usize) -> bool {
+pub fn show(file: &impl Print, bytes: &[u8], n: usize) -> bool {
     if n <= bytes.len() {
-        return io::write_all(file, &bytes[..n]);
+        return file.write_all(&bytes[..n]).is_ok();
     }
     false
+}
+
+// Reads until the buffer is full, the input ends or a read fails; answers how many bytes came, which are at the front of the buffer.
+pub fn read_full(file: &mut impl Read, buffer: &mut [u8]) -> usize
+    ensures { result ≤ length buffer.new }
+{
+    let mut done: usize = 0;
+    while done < buffer.len() {
+        match file.read(&mut buffer[done..]) {
+            Ok(0) => return done,
+            Ok(n) => done += n,
+            Err(_) => return done,
+        }
+    }
+    done
 }

@@ -1,18 +1,18 @@
 -- Writing byte after byte: one text after another, and what is left of the buffer.
-use Prim.Native.Nat.{ℕ, zero, suc, ◌+◌, ◌-◌, ◌<◌, ◌≤◌, min}
+use Prim.Native.Nat.{ℕ, suc, ◌+◌, ◌-◌, ◌<◌, ◌≤◌, min}
 use mathlib.Core.Path.{◌≡◌, refl, ap, sym, ◌∙◌}
-use mathlib.Core.Bool.{Bool, true, false, cond}
+use mathlib.Core.Bool.{true, false}
 use mathlib.Core.List.{List, [], ◌∷◌, ◌++◌, append_assoc}
 use lib.Dec.{ltb, leb}
 use lib.ListN.{length, set, length-set, drop, drop_of_length-le}
-use lib.Seq.{sets, set_out, drop-cons, drop-length}
+use lib.Seq.{sets, set_out}
 use native.Mathlib.Omega.{arith}
 use native.Mathlib.Nat.{zero-min, min-zero, suc-min-suc}
 use native.Mathlib.Numerals.{add-one}
 use borrow.Author.Tests.{lt-ltb, le-ltb, le-leb, lt-leb, leb-true, leb-false, ltb-true, ltb-false}
 use Rattle.rules.proofs.Laws.Line.{both}
 use Rattle.rules.specs.Commands.{Answer}
-use Rattle.rules.specs.Lines.{decimal, space, line_feed, number_or_dash, running_or_dash, line, end_word, end_line}
+use Rattle.rules.specs.Lines.{space, line_feed, line, end_word, end_line}
 use Rattle.lines.specs.declared.Rendered.TheVariants as render
 use Rattle.lines.specs.declared.Refusal.TheVariants as refusal
 use Rattle.lines.specs.Text.{Text, text, write_one, write, numbers_part, cpu_part, counts_part}

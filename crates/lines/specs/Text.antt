@@ -1,5 +1,5 @@
 -- Writing byte after byte into a buffer: where the next byte goes, and the parts of a line.
-use Rattle.std.specs.Prelude.{ℕ, ◌+◌, ◌/◌, ◌%◌, Bool, cond, List, [], ◌∷◌, ◌++◌, ltb, length, set}
+use Rattle.std.specs.Prelude.{ℕ, ◌+◌, ◌/◌, ◌%◌, cond, List, [], ◌∷◌, ◌++◌, ltb, length, set}
 use Rattle.std.proofs.Math.Option.{Option}
 use Rattle.rules.specs.Commands.{Running}
 use Rattle.rules.specs.Lines.{decimal, space, line_feed, number_or_dash, running_or_dash}

@@ -41,7 +41,6 @@ fn shown_count(byte: u8, fields: Fields, wide: bool) -> usize
 }
 
 // A space and a number, once, twice, three and four times.
-#[tactic(auto, using(crate::proofs::Numbers::numbers_one, lines::proofs::Writing::then), unfolding(rules::specs::Lines::space))]
 fn put_one(buffer: &mut [u8], at: usize, a: u64) -> usize
     ensures { text buffer.new result ≡ write (text buffer.old at) (numbers (a ∷ [])) }
 {
@@ -49,7 +48,6 @@ fn put_one(buffer: &mut [u8], at: usize, a: u64) -> usize
     put_number(buffer, next, a)
 }
 
-#[tactic(auto, using(crate::proofs::Numbers::numbers_more, lines::proofs::Writing::then))]
 fn put_two(buffer: &mut [u8], at: usize, a: u64, b: u64) -> usize
     ensures { text buffer.new result ≡ write (text buffer.old at) (numbers (a ∷ b ∷ [])) }
 {
@@ -57,7 +55,6 @@ fn put_two(buffer: &mut [u8], at: usize, a: u64, b: u64) -> usize
     put_one(buffer, next, b)
 }
 
-#[tactic(auto, using(crate::proofs::Numbers::numbers_more, lines::proofs::Writing::then))]
 fn put_three(buffer: &mut [u8], at: usize, a: u64, b: u64, c: u64) -> usize
     ensures { text buffer.new result ≡ write (text buffer.old at) (numbers (a ∷ b ∷ c ∷ [])) }
 {
@@ -65,7 +62,6 @@ fn put_three(buffer: &mut [u8], at: usize, a: u64, b: u64, c: u64) -> usize
     put_two(buffer, next, b, c)
 }
 
-#[tactic(auto, using(crate::proofs::Numbers::numbers_more, lines::proofs::Writing::then))]
 fn put_four(buffer: &mut [u8], at: usize, a: u64, b: u64, c: u64, d: u64) -> usize
     ensures { text buffer.new result ≡ write (text buffer.old at) (numbers (a ∷ b ∷ c ∷ d ∷ [])) }
 {
@@ -95,7 +91,6 @@ fn put_fields(buffer: &mut [u8], at: usize, fields: Fields, count: usize) -> usi
 }
 
 // The line of one command.
-#[tactic(auto, using(lines::proofs::Writing::then), unfolding(crate::specs::Listing::listed, crate::specs::Listing::shown_fields, rules::specs::Lines::line_feed))]
 pub fn list_command(buffer: &mut [u8], at: usize, byte: u8, fields: Fields, wide: bool) -> usize
     ensures { text buffer.new result ≡ write (text buffer.old at) (listed wide byte (list_of fields)) }
 {

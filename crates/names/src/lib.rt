@@ -8,7 +8,6 @@ ghost use Rattle.names.specs.Names.{name_of, field_name};
 use lines::put_bytes;
 
 // The name of a command; nothing for a byte that is not in the table.
-#[tactic(auto, using(crate::proofs::Table::no_name), unfolding(crate::specs::Names::name_of, crate::specs::Names::naming_among, crate::specs::Names::namings, crate::specs::Names::naming, crate::specs::Names::ascii, crate::proofs::Table::Untold, crate::proofs::Table::WithTold, lines::specs::Text::write))]
 pub fn put_name(buffer: &mut [u8], at: usize, byte: u8) -> usize
     ensures { text buffer.new result ≡ write (text buffer.old at) (name_of byte) }
 {
@@ -33,7 +32,6 @@ pub fn put_name(buffer: &mut [u8], at: usize, byte: u8) -> usize
     }
 }
 
-#[tactic(auto, using(crate::proofs::Table::no_field), unfolding(crate::specs::Names::field_name, crate::specs::Names::naming_among, crate::specs::Names::namings, crate::specs::Names::naming, crate::specs::Names::nth_text, crate::specs::Names::ascii, crate::proofs::Table::Untold, crate::proofs::Table::WithTold, lines::specs::Text::write))]
 fn put_first(buffer: &mut [u8], at: usize, byte: u8) -> usize
     ensures { text buffer.new result ≡ write (text buffer.old at) (field_name byte 0) }
 {
@@ -57,7 +55,6 @@ fn put_first(buffer: &mut [u8], at: usize, byte: u8) -> usize
     }
 }
 
-#[tactic(auto, using(crate::proofs::Table::no_field), unfolding(crate::specs::Names::field_name, crate::specs::Names::naming_among, crate::specs::Names::namings, crate::specs::Names::naming, crate::specs::Names::nth_text, crate::specs::Names::ascii, crate::proofs::Table::Untold, crate::proofs::Table::WithTold, lines::specs::Text::write))]
 fn put_second(buffer: &mut [u8], at: usize, byte: u8) -> usize
     ensures { text buffer.new result ≡ write (text buffer.old at) (field_name byte 1) }
 {
@@ -74,7 +71,6 @@ fn put_second(buffer: &mut [u8], at: usize, byte: u8) -> usize
     }
 }
 
-#[tactic(auto, using(crate::proofs::Table::no_field), unfolding(crate::specs::Names::field_name, crate::specs::Names::naming_among, crate::specs::Names::namings, crate::specs::Names::naming, crate::specs::Names::nth_text, crate::specs::Names::ascii, crate::proofs::Table::Untold, crate::proofs::Table::WithTold, lines::specs::Text::write))]
 fn put_third(buffer: &mut [u8], at: usize, byte: u8) -> usize
     ensures { text buffer.new result ≡ write (text buffer.old at) (field_name byte 2) }
 {
@@ -85,7 +81,6 @@ fn put_third(buffer: &mut [u8], at: usize, byte: u8) -> usize
     }
 }
 
-#[tactic(auto, using(crate::proofs::Table::no_field), unfolding(crate::specs::Names::field_name, crate::specs::Names::naming_among, crate::specs::Names::namings, crate::specs::Names::naming, crate::specs::Names::nth_text, crate::specs::Names::ascii, crate::proofs::Table::Untold, crate::proofs::Table::WithTold, lines::specs::Text::write))]
 fn put_fourth(buffer: &mut [u8], at: usize, byte: u8) -> usize
     ensures { text buffer.new result ≡ write (text buffer.old at) (field_name byte 3) }
 {

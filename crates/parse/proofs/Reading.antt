@@ -15,7 +15,7 @@ use Rattle.parse.specs.declared.name.Named.{Named}
 use Rattle.parse.specs.declared.name.Named.TheVariants as named
 use Rattle.parse.specs.Words.{blanks, letters, skip_blanks, word, behind, from_word, Part}
 use Rattle.parse.specs.Numbers.{option_of}
-use Rattle.parse.specs.Meaning.{nothing, unknown, unfit, command, byte_named, byte_of, field, given, ended, fields_from, named_meaning, text_meaning}
+use Rattle.parse.specs.Meaning.{nothing, unknown, unfit, byte_named, byte_of, field, given, ended, fields_from, named_meaning, text_meaning}
 use Rattle.request.proofs.ByWidths.{plain, plain_row, row_plain}
 use Rattle.rules.proofs.Laws.Line.{both}
 use Rattle.parse.proofs.Walking.{blanks_within, letters_within}

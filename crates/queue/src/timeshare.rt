@@ -90,7 +90,7 @@ impl TimeshareQueue {
     }
 
     // The bucket that a thread joins.
-    #[tactic(auto, using(crate::specs::Timeshare::back_one, crate::specs::Timeshare::back_zero, crate::specs::Timeshare::round_left, rules::proofs::Laws::Effect::offset_in), unfolding(crate::specs::Timeshare::ts_bucket, rules::specs::Queue::nr_buckets, crate::specs::Timeshare::ts_index))]
+    #[tactic(auto, using(crate::specs::Timeshare::back_one, crate::specs::Timeshare::back_zero, crate::specs::Timeshare::round_left, rules::proofs::Laws::Offset::offset_in), unfolding(crate::specs::Timeshare::ts_bucket, rules::specs::Queue::nr_buckets, crate::specs::Timeshare::ts_index))]
     pub fn bucket(self, value: u64, current: bool) -> u64
         ensures { result ≡ ts_bucket self value current }
     {

@@ -6,12 +6,14 @@ mod answer;
 mod operation;
 
 use answer::write_answer;
+use files::read_full;
 use operation::{Operation, asked, operation_in, prepared, tick_after};
 use processor::rq::store_queue;
 use processor::words::CpuWords;
 use records::record::{get, set};
 use records::rq::{Taken, clock, hardtick, insert, take};
 use runqueue::rq::RunQueue;
+use std::io::Read;
 use thread::{NONE, Thread, blank};
 
 fn taken_number(t: Taken) -> u64 {
@@ -48,20 +50,27 @@ fn act(threads: &mut [Thread], cpus: &mut [CpuWords], op: Operation, tick: u64) 
     asked(cpus, op)
 }
 
-fn fill(line: &mut [u8]) -> usize {
-    io::read_full(libc::STDIN_FILENO, line)
+fn fill(stdin: &mut impl Read, line: &mut [u8]) -> usize {
+    read_full(stdin, line)
 }
 
-fn show(line: &[u8]) -> bool {
-    io::write_all(libc::STDOUT_FILENO, line)
+fn show(stdout: &impl Print, line: &[u8]) -> bool {
+    stdout.write_all(line).is_ok()
 }
 
 // As many operations as there are, a million at most.
-fn drive(threads: &mut [Thread], cpus: &mut [CpuWords], line: &mut [u8], out: &mut [u8]) {
+fn drive(
+    stdin: &mut impl Read,
+    stdout: &impl Print,
+    threads: &mut [Thread],
+    cpus: &mut [CpuWords],
+    line: &mut [u8],
+    out: &mut [u8],
+) {
     let mut tick: u64 = 0;
     let mut left: u64 = 1000000;
     while 0 < left {
-        let n = fill(line);
+        let n = fill(stdin, line);
         if n < 16 {
             return;
         }
@@ -69,7 +78,7 @@ fn drive(threads: &mut [Thread], cpus: &mut [CpuWords], line: &mut [u8], out: &m
         let now = tick_after(tick, op);
         let number = act(threads, cpus, op, now);
         write_answer(out, cpus, op, number);
-        let shown = show(out);
+        let shown = show(stdout, out);
         tick = now;
         left = left - 1;
     }
@@ -88,7 +97,7 @@ fn zeros() -> CpuWords {
     [0u64; 96]
 }
 
-fn main() {
+fn main(rt: HostRuntime) {
     let t = blank();
     let row = zeros();
     let mut threads = [t; 96];
@@ -96,5 +105,12 @@ fn main() {
     let mut line = [0u8; 16];
     let mut out = [0u8; 48];
     start(&mut cpus);
-    drive(&mut threads, &mut cpus, &mut line, &mut out);
+    drive(
+        &mut rt.stdin(),
+        &rt.stdout(),
+        &mut threads,
+        &mut cpus,
+        &mut line,
+        &mut out,
+    );
 }

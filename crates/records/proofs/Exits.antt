@@ -1,15 +1,12 @@
--- What the walks of `rq` say at their exits.
+-- What the functions of `rq` leave at their exits.
 use Prim.Native.Nat.{ℕ}
 use mathlib.Core.Path.{◌≡◌, refl, sym, ap}
-use mathlib.Core.Bool.{Bool, cond}
-use mathlib.Core.List.{List}
+use mathlib.Core.Bool.{Bool, false}
 use lib.ListN.{set}
-use lib.Dec.{eqb}
 use Rattle.rules.specs.declared.Part.{Part}
 use Rattle.rules.specs.declared.Part.TheVariants as part
 use Rattle.rules.specs.Queue.{part_of}
-use Rattle.thread.specs.declared.Thread.{Thread}
-use Rattle.thread.specs.Thread.{NONE, RUNNING, with_place, with_next}
+use Rattle.thread.specs.Thread.{RUNNING, with_place}
 use Rattle.runqueue.specs.declared.rq.Front.{Front}
 use Rattle.runqueue.specs.declared.rq.Front.TheVariants as front
 use Rattle.runqueue.specs.declared.rq.Arrival.{Arrival}
@@ -19,10 +16,6 @@ use Rattle.processor.specs.Queue.{queue_at, queue_stored}
 use Rattle.records.specs.declared.rq.Taken.TheVariants as taken
 use Rattle.records.specs.Left.{Memory}
 use Rattle.records.specs.Rq.{record_at, arrival_of, put_in_def, link_behind, insert_def, is_nothing, left_by_def, took_from_def}
-
-pub linked_is : (ts : List Thread) (b x : ℕ) → cond (eqb b NONE) ts (set ts b (with_next (record_at ts b) x)) ≡ link_behind ts b x
-unfolding link_behind
-linked_is ts b x = refl
 
 -- the put, as the code finds its part
 put_part : (p : Part) (q : RunQueue) (a : Arrival) → (rq_insert_into p q a).part ≡ p
@@ -49,10 +42,10 @@ inserted_is c x tick current m =
       cpus = queue_stored m.cpus c (rq_insert_into p (queue_at m.cpus c) a).queue;
     }) (sym (put_part p (queue_at m.cpus c) a))
 
--- the take, as the code tests for it
+-- the take, where the queue found a thread
 pub took_is : (c : ℕ) (f : Front) (m : Memory)
-    → cond (is_nothing f) (record { answer = taken.Nobody; memory = m })
-    (record {
+    → is_nothing f ≡ false
+    → (record {
       answer = taken.Thread (front_thread f);
       memory = record {
         threads = set m.threads (front_thread f) (with_place (record_at m.threads (front_thread f)) RUNNING);
@@ -61,5 +54,5 @@ pub took_is : (c : ℕ) (f : Front) (m : Memory)
     })
     ≡ took_from_def c f m
 unfolding is_nothing front_thread took_from_def
-took_is c (front.At p b x) m = refl
-took_is c front.Nothing m = refl
+took_is c (front.At p b x) m h = refl
+took_is c front.Nothing m h = cc

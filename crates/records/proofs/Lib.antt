@@ -1,5 +1,2 @@
 pub mod Cleared
 pub mod Exits
-pub mod Lent
-pub mod Past
-pub mod Walk

@@ -45,6 +45,7 @@ pub fn set(threads: &mut [Thread], i: u64, t: Thread)
 }
 
 // Every record is blank, as the library's start makes it.
+#[tactic(auto, using(crate::proofs::Cleared::cleared_step, crate::proofs::Cleared::cleared_all))]
 pub fn clear(threads: &mut [Thread])
     ensures { threads.new ≡ replicate (length threads.old) blank }
 {

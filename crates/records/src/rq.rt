@@ -79,6 +79,7 @@ fn is_none(x: u64) -> bool
 }
 
 // Thread b's link now points to x; b is NONE where x is the first of its list.
+#[tactic(auto, unfolding(crate::specs::Rq::link_behind))]
 fn link_behind(threads: &mut [Thread], b: u64, x: u64)
     ensures { threads.new ≡ link_behind threads.old b x }
 {
@@ -91,6 +92,7 @@ fn link_behind(threads: &mut [Thread], b: u64, x: u64)
 }
 
 // Thread x goes into the queue of CPU c. current: it comes in as the current thread.
+#[tactic(auto, unfolding(crate::specs::Rq::insert_def))]
 pub fn insert(
     threads: &mut [Thread],
     cpus: &mut [CpuWords],
@@ -147,6 +149,7 @@ fn handed_out(x: u64) -> Taken
 }
 
 // A thread is asked of the queue of CPU c: by the CPU itself, or by another that steals.
+#[tactic(auto, unfolding(crate::specs::Rq::take_def, crate::specs::Rq::took_from_def, crate::specs::Rq::is_nothing))]
 pub fn take(threads: &mut [Thread], cpus: &mut [CpuWords], c: u64, stealing: bool) -> Taken
     ensures { Leaves (take_def c stealing) result threads cpus }
 {

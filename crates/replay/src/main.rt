@@ -5,6 +5,8 @@ use blocks::keep;
 use lines::has_room;
 use processor::words::CpuWords;
 use questions::state::State;
+use std::io;
+use std::io::Read;
 use stream::block::{is_ended, is_last};
 use stream::feed::feed;
 use stream::progress::{ENDED, Progress, begin};
@@ -27,29 +29,37 @@ pub struct Filled {
     pub failed: bool,
 }
 
-fn behind(input: &[u8], left: usize, got: isize) -> Filled {
-    if got < 0 {
-        return Filled {
+fn behind(left: usize, got: io::Result<usize>) -> Filled {
+    match got {
+        Ok(count) => {
+            let n = std::num::wrapping_add_usize(left, count);
+            Filled {
+                bytes: n,
+                last: is_last(left, n),
+                failed: false,
+            }
+        }
+        Err(_) => Filled {
             bytes: left,
             last: false,
             failed: true,
-        };
-    }
-    let n = std::num::wrapping_add_usize(left, io::count(got, input));
-    Filled {
-        bytes: n,
-        last: is_last(left, n),
-        failed: false,
+        },
     }
 }
 
 // One read of standard input behind the first `left` bytes. One that adds nothing and does not fail is the end of the input. Where the `done` bytes of output
 // left no room for a line, the bytes that are there come first, and nothing is read.
-fn fill(input: &mut [u8], output: &[u8], left: usize, done: usize) -> Filled {
+fn fill(
+    stdin: &mut impl Read,
+    input: &mut [u8],
+    output: &[u8],
+    left: usize,
+    done: usize,
+) -> Filled {
     if has_room(output, done) {
         if left < input.len() {
-            let got = libc::read(libc::STDIN_FILENO, &mut input[left..]);
-            return behind(input, left, got);
+            let got = stdin.read(&mut input[left..]);
+            return behind(left, got);
         }
     }
     Filled {
@@ -59,26 +69,24 @@ fn fill(input: &mut [u8], output: &[u8], left: usize, done: usize) -> Filled {
     }
 }
 
-fn show(output: &[u8], n: usize) -> bool {
+fn show(stdout: &impl Print, output: &[u8], n: usize) -> bool {
     if n <= output.len() {
-        return io::write_all(libc::STDOUT_FILENO, &output[..n]);
+        return stdout.write_all(&output[..n]).is_ok();
     }
     false
 }
 
 // A file failed: the output has no end line, and standard error says why.
-fn input_failed() -> bool {
-    io::write_all(
-        libc::STDERR_FILENO,
-        b"replay: standard input could not be read\n",
-    )
+fn input_failed(stderr: &impl Print) -> bool {
+    stderr
+        .write_all(b"replay: standard input could not be read\n")
+        .is_ok()
 }
 
-fn output_failed() -> bool {
-    io::write_all(
-        libc::STDERR_FILENO,
-        b"replay: standard output could not be written\n",
-    )
+fn output_failed(stderr: &impl Print) -> bool {
+    stderr
+        .write_all(b"replay: standard output could not be written\n")
+        .is_ok()
 }
 
 fn not(shown: bool) -> bool {
@@ -98,6 +106,9 @@ fn turns() -> u64 {
 }
 
 fn serve(
+    stdin: &mut impl Read,
+    stdout: &impl Print,
+    stderr: &impl Print,
     threads: &mut [Thread],
     cpus: &mut [CpuWords],
     nodes: &mut [NodeWords],
@@ -110,18 +121,18 @@ fn serve(
     while 0 < budget {
         let left = s.left;
         let fed = s.fed;
-        let got = fill(input, output, left, fed.done);
+        let got = fill(stdin, input, output, left, fed.done);
         let failed = got.failed;
         if failed {
-            input_failed();
+            input_failed(stderr);
             return false;
         }
         let n = got.bytes;
         let last = got.last;
         let f = feed(threads, cpus, nodes, input, output, n, last, fed);
-        let shown = show(output, f.done);
+        let shown = show(stdout, output, f.done);
         if not(shown) {
-            output_failed();
+            output_failed(stderr);
             return false;
         }
         if is_ended(f) {
@@ -171,7 +182,7 @@ fn no_node() -> NodeWords {
     [0; 32]
 }
 
-fn main() {
+fn main(rt: HostRuntime) {
     let t = blank();
     let c = no_cpu();
     let d = no_node();
@@ -183,6 +194,9 @@ fn main() {
     let started = start(&mut threads, &mut cpus, &mut nodes);
     let s = begun(started);
     serve(
+        &mut rt.stdin(),
+        &rt.stdout(),
+        &rt.stderr(),
         &mut threads,
         &mut cpus,
         &mut nodes,

@@ -1,12 +1,12 @@
 -- Operands as numbers of bytes: where they are, how they are put together, how large they are.
-use Prim.Native.Nat.{ℕ, zero, suc, ◌+◌, ◌*◌, ◌^◌, ◌-◌, ◌<◌, ◌≤◌}
-use mathlib.Core.Path.{◌≡◌, refl, ap, sym, ◌∙◌}
-use mathlib.Core.Bool.{Bool, true, false, cond}
+use Prim.Native.Nat.{ℕ, zero, suc, ◌+◌, ◌*◌, ◌^◌, ◌<◌, ◌≤◌}
+use mathlib.Core.Path.{◌≡◌, refl}
+use mathlib.Core.Bool.{true, false}
 use mathlib.Core.List.{List, [], ◌∷◌}
-use lib.ListN.{length, get_or, drop, length-drop, drop_of_length-le}
-use lib.Seq.{drop-cons, drop-drop, get_or-drop, drop-nil, drop-length}
+use lib.ListN.{length, get_or, drop, drop_of_length-le}
+use lib.Seq.{drop-cons, drop-drop, get_or-drop, drop-length}
 use native.Mathlib.Omega.{arith}
-use native.Mathlib.Nat.{suc-add, mul_assoc, pow-succ', one-le-pow, zero-add, one-mul, add-zero, mul-zero}
+use native.Mathlib.Nat.{suc-add, mul_assoc, pow-succ', zero-add, one-mul, mul-zero}
 use Rattle.rules.specs.Requests.{operand, past, at_least}
 use Rattle.rules.specs.Writer.{Bytes}
 use Rattle.rules.proofs.Laws.Writer.{operand_lt, past_drop}

@@ -1,12 +1,11 @@
 -- Laws of reading: how large an operand is, and which of the limits reading asks.
 use Prim.Native.Nat.{ℕ, ◌^◌, ◌<◌}
 use mathlib.Core.Path.{◌≡◌, refl}
-use mathlib.Core.Bool.{cond}
 use mathlib.Core.Option.{Option, none, some}
 use mathlib.Core.List.{List, [], ◌∷◌}
 use lib.ListN.{drop}
 use Rattle.rules.specs.State.{Limits}
-use Rattle.rules.specs.Requests.{operand, past, operands, widths, pin_of, request, sum, at_least, Reading, asks, cut_short, read_operands, read}
+use Rattle.rules.specs.Requests.{operands, widths, pin_of, request, read_operands, read}
 use Rattle.rules.specs.Writer.{Bytes}
 use Rattle.rules.proofs.Laws.Writer.{operand_lt, past_drop}
 use Rattle.request.proofs.Bytes.{bytes_drop}

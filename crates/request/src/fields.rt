@@ -134,7 +134,6 @@ fn operand(bytes: &[u8], at: usize, n: usize) -> u64
 }
 
 // The operands that begin at `at`; bytes that are not there count as 0.
-#[tactic(auto, using(crate::proofs::ByWidths::first_width, crate::proofs::ByWidths::four_read, crate::proofs::ByWidths::fourth_width, crate::proofs::ByWidths::row_plain, crate::proofs::ByWidths::second_width, crate::proofs::ByWidths::third_width), unfolding(crate::specs::Fields::list_of))]
 pub fn operands(bytes: &[u8], at: usize, byte: u8, wide: bool) -> Fields
     ensures { list_of result ≡ four (operands (row wide byte) (drop at bytes.now)) }
 {

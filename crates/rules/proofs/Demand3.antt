@@ -13,7 +13,7 @@ use Rattle.std.proofs.Math.Option.{some}
 use Rattle.rules.proofs.Laws.Line.{both}
 use Rattle.rules.specs.Queue.{Queue, nr_buckets}
 use Rattle.rules.specs.Puts.{PutOrTake, a_put, a_take}
-use Rattle.rules.specs.Ahead.{threads, gone, a_of, b_of}
+use Rattle.rules.specs.Ahead.{gone, a_of, b_of}
 use Rattle.rules.specs.State.{Limits, base_limits, start}
 use Rattle.rules.specs.Commands.{after_calls, history}
 use Rattle.rules.proofs.Laws.Kept.{Kept}

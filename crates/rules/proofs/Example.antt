@@ -1,5 +1,5 @@
 -- Document 01's worked example and empty input, computed by the definitions.
-use Rattle.std.specs.Prelude.{ℕ, ◌≡◌, refl, List, [], ◌∷◌}
+use Rattle.std.specs.Prelude.{◌≡◌, refl, [], ◌∷◌}
 use Rattle.rules.specs.State.{base_limits}
 use Rattle.rules.specs.Lines.{output}
 use Rattle.rules.specs.Laws.Computed.{computed}

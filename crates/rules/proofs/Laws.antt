@@ -8,7 +8,9 @@ pub mod InOrder
 pub mod Kept
 pub mod Limits
 pub mod Line
+pub mod Offset
 pub mod Places
+pub mod Ranges
 pub mod Reached
 pub mod Refused
 pub mod Seal
@@ -17,4 +19,3 @@ pub mod Sound
 pub mod Steps
 pub mod Waiting
 pub mod Writer
-pub mod Ranges

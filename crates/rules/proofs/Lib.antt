@@ -2,9 +2,14 @@ pub mod Demand3
 pub mod Example
 pub mod Laws
 pub mod ReadBack
+pub mod ReadBackCommands
+pub mod ReadBackFields
 pub mod Rows
 pub mod Run
 pub mod Seal
 pub mod Shortest
+pub mod ShortestLine
+pub mod ShortestMost
+pub mod ShortestSlices
 pub mod Wakeups
 pub mod Witnesses

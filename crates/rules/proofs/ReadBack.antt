@@ -1,16 +1,14 @@
 -- 2026-02: "What it writes, the reader must take back as that command, and each accepted command is rewritten to its own bytes." All for any limits, so for every
 -- width of CPU and node operands. `fields` are the numbers given to the writer, `room` is how many bytes its buffer has.
-use Rattle.std.specs.Prelude.{ℕ, suc, ◌+◌, ◌-◌, ◌≤◌, ◌<◌, ◌≡◌, ◌↔◌, ◌≢◌, true, false, cond, ◌&&◌, length, take, drop, replicate}
+use Rattle.std.specs.Prelude.{ℕ, suc, ◌≤◌, ◌<◌, ◌≡◌, ◌↔◌, ◌≢◌, true, false, ◌&&◌, length, take, replicate}
 use Rattle.std.proofs.Math.Path.{refl}
-use Rattle.std.proofs.Common.{sym, ap, ◌∙◌, arith, ne_eqb, leb-true, leb-false, le-leb}
+use Rattle.std.proofs.Common.{sym, ap, ◌∙◌, leb-true, leb-false, le-leb}
 use mathlib.Core.List.{List, [], ◌∷◌, ◌++◌}
-use Rattle.std.proofs.Math.Seq.{sets-eq}
-use Rattle.std.proofs.Math.Nat.{zero-add}
 use Rattle.std.proofs.lemmas.Bool.{lt-leb}
 use Rattle.rules.specs.State.{Limits, State, base_limits}
 use Rattle.rules.specs.Requests.{Request, asks, read, operands, widths, widths_or, request, sum, at_least, pin_of, nth, all_ones}
 use Rattle.rules.specs.Questions.{question, first_no, priority_in_range, in_range, refusal}
-use Rattle.rules.specs.Writer.{Bytes, little_endian, field_bytes, row, bytes_of, fits, ranges, has_row, in_table, no_misfit, buffer_holds, write_refusal, buffer_with, names_node}
+use Rattle.rules.specs.Writer.{Bytes, little_endian, field_bytes, row, bytes_of, fits, ranges, has_row, in_table, no_misfit, buffer_holds, write_refusal, names_node}
 use Rattle.rules.proofs.Laws.Writer as laws
 use Rattle.rules.proofs.Laws.Ranges.{out_of_range, in_range_passes}
 
@@ -40,45 +38,6 @@ module _ (l : Limits) (byte : ℕ) (fields : List ℕ) (room : ℕ) where
     (λ h. laws.refusal_is l byte fields room ∙ laws.fails_third _ _ _ h.0 h.1 (lt-leb _ _ h.2)),
   )
 
-  -- ---- "What it writes, the reader must take back as that command", whatever bytes follow.
-
-  module _ (accepted : write_refusal l byte fields room ≡ 0) where
-    fit : fits (row l byte) fields ≡ true
-    fit = laws.and_left _ _ (accepted_exactly.0 accepted).1
-
-    -- the operands read off, with zeros behind them, are the fields
-    pub fields_read_off : (rest : List ℕ) → operands (row l byte) (field_bytes (row l byte) fields ++ rest) ++ replicate (length fields - length (row l byte)) 0 ≡ fields
-    fields_read_off rest = laws.fields_read (row l byte) fields rest fit
-
-    pub reader_takes_back : (rest : List ℕ) → read l (bytes_of l byte fields ++ rest) ≡ asks (request l byte fields) (length (bytes_of l byte fields))
-    unfolding read bytes_of row
-    reader_takes_back rest = laws.read_row l byte fields rest (widths l byte) refl (accepted_exactly.0 accepted).0 fit
-
--- ---- what is left of the buffer
-
-module _ (l : Limits) (byte : ℕ) (fields buffer : List ℕ) where
-  -- Accepted: the command stands at the front, and "Bytes past the written ones keep their content."
-  pub accepted_buffer : write_refusal l byte fields (length buffer) ≡ 0 → buffer_with l byte fields buffer ≡ bytes_of l byte fields ++ drop (length (bytes_of l byte fields)) buffer
-  unfolding buffer_with
-  accepted_buffer h =
-      rw (h, sets-eq (bytes_of l byte fields) buffer 0 (rw zero-add ((accepted_exactly l byte fields (length buffer)).0 h).2), zero-add)
-
-  -- Refused: nothing is written.
-  pub refused_buffer : write_refusal l byte fields (length buffer) ≢ 0 → buffer_with l byte fields buffer ≡ buffer
-  unfolding buffer_with
-  refused_buffer h = rw (ne_eqb _ _ h)
-
--- ---- no two accepted commands have the same bytes
-
-pub writing_is_injective : (l : Limits) (byte byte' : ℕ) (fields fields' : List ℕ) (room room' : ℕ) → length fields ≡ length fields'
-    → write_refusal l byte fields room ≡ 0 → write_refusal l byte' fields' room' ≡ 0 → bytes_of l byte fields ≡ bytes_of l byte' fields'
-    → (byte ≡ byte') × (fields ≡ fields')
-unfolding bytes_of
-writing_is_injective l byte byte' fields fields' room room' long a a' e =
-    let b : byte ≡ byte' = cc in
-    let m : field_bytes (row l byte) fields ≡ field_bytes (row l byte') fields' = cc in
-    (b, sym (fields_read_off l byte fields room a []) ∙ rw (m, long, b) refl ∙ fields_read_off l byte' fields' room' a' [])
-
 -- ---- "each accepted command is rewritten to its own bytes"
 
 -- A command that was read: its byte, the bytes behind it, what it asks and how many bytes it takes. Given to the writer are its operands with any number of zeros
@@ -87,7 +46,7 @@ module _ (l : Limits) (byte : ℕ) (bytes : List ℕ) (are : Bytes bytes) (q : R
   abbrev pub operands_read : List ℕ
   operands_read = operands (row l byte) bytes ++ replicate zeros 0
 
-  known : (has_row (widths l byte) ≡ true) × (at_least (sum (row l byte)) bytes ≡ true) × (request l byte (operands (row l byte) bytes) ≡ q) × (suc (sum (row l byte)) ≡ used)
+  pub known : (has_row (widths l byte) ≡ true) × (at_least (sum (row l byte)) bytes ≡ true) × (request l byte (operands (row l byte) bytes) ≡ q) × (suc (sum (row l byte)) ≡ used)
   unfolding read row
   known = laws.read_known l byte bytes q used (widths l byte) reads
 
@@ -99,18 +58,6 @@ module _ (l : Limits) (byte : ℕ) (bytes : List ℕ) (are : Bytes bytes) (q : R
   -- They ask for the same.
   pub asks_the_same : request l byte operands_read ≡ q
   asks_the_same = laws.request_zeros l byte zeros (operands (row l byte) bytes) ∙ known.2
-
-  held : (room : ℕ) → used ≤ room → length (bytes_of l byte operands_read) ≤ room
-  unfolding bytes_of
-  held room h = omega (arith, laws.fields_length (row l byte) operands_read, known.3)
-
-  -- With room for it the writer refuses it with 6 if the ranges do, and else accepts it.
-  pub ranges_alone_decide : (room : ℕ) → used ≤ room → write_refusal l byte operands_read room ≡ cond (in_range q).answer 0 6
-  unfolding ranges
-  ranges_alone_decide room h =
-      laws.refusal_is l byte operands_read room
-      ∙ laws.two_hold known.0 (laws.fits_again zeros (row l byte) bytes are) (ap (λ (r : Request). (in_range r).answer) asks_the_same)
-      (le-leb _ _ (held room h))
 
 -- ---- "in the ranges of the sixth question"
 

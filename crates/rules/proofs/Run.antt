@@ -1,6 +1,6 @@
 -- One run of 83 commands beside the original Rust: the bytes, and the answers of the Rust (oracle/). Among them are steals, a `balance` that moves two
 -- threads, donations, and refusals where several questions would be answered no. Every other run is executed by a test program.
-use Rattle.std.specs.Prelude.{ℕ, ◌≡◌, refl, List, [], ◌∷◌}
+use Rattle.std.specs.Prelude.{◌≡◌, refl, [], ◌∷◌}
 use Rattle.rules.specs.State.{base_limits}
 use Rattle.rules.specs.Lines.{output}
 use Rattle.rules.specs.Laws.Computed.{computed}

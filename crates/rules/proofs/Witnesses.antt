@@ -1,9 +1,7 @@
 -- Lists of calls that meet the hypotheses of demand 3, computed by the definitions.
-use Rattle.std.specs.Prelude.{◌+◌, ◌≡◌, refl, true, false, [], ◌∷◌, ◌++◌}
-use Rattle.std.proofs.Math.Option.{none}
+use Rattle.std.specs.Prelude.{◌≡◌, refl, true, false, [], ◌∷◌, ◌++◌}
 use Rattle.rules.specs.State.{base_limits, start}
 use Rattle.rules.specs.Commands.{history}
-use Rattle.rules.specs.Ahead.{threads}
 use Rattle.rules.specs.Witnesses.{comes, few, found_nothing, next_on, one_cpu, round, shown, stat_tick, turn_of, two_cpus, with_steal}
 
 -- Thread 1 waits in idle, and thread 2 comes in ahead of it in realtime: b is 1, and take 2 hands it out.

@@ -1,5 +1,5 @@
 -- The draw (`quick_random`, utils.rs).
-use Rattle.std.specs.Prelude.{ℕ, ◌+◌, ◌*◌, ◌/◌, ◌%◌, ◌^◌, Bool, cond, eqb}
+use Rattle.std.specs.Prelude.{ℕ, ◌+◌, ◌*◌, ◌/◌, ◌%◌, ◌^◌, cond, eqb}
 
 -- "One state per CPU, at first 0; a state of 0 is replaced by the CPU number."
 unfoldable pub seed : ℕ → ℕ → ℕ

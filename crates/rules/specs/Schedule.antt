@@ -1,14 +1,12 @@
 -- Scheduling (sched.rs): puts, takes, steals, `balance`, `do_schedule`, ticks, preemption and donation, each in the order of the Rust.
-use Rattle.std.specs.Prelude.{ℕ, zero, suc, ◌+◌, ◌-◌, ◌*◌, ◌%◌, Bool, true, false, cond, not, ◌&&◌, ◌||◌, List, [], ◌∷◌, ◌++◌, eqb, ltb, leb}
+use Rattle.std.specs.Prelude.{ℕ, zero, suc, ◌+◌, ◌-◌, ◌%◌, Bool, true, false, cond, not, ◌&&◌, ◌||◌, List, [], ◌∷◌, ◌++◌, eqb, ltb, leb}
 use Rattle.std.proofs.Math.Option.{Option, none, some}
-use Rattle.rules.specs.declared.PriorityClass.{PriorityClass}
 use Rattle.rules.specs.declared.Priority.{Priority}
-use Rattle.rules.specs.declared.Part.{Part}
 use Rattle.rules.specs.Priority.{less, at_most, greater_of, donation_accepted}
 use Rattle.rules.specs.Draw.{next_state, draw}
 use Rattle.rules.specs.Times.{timeslice, deadline_distance, Paid, pay_ticks, Thread, effective_priority, preferred_cpu, pinned, is_some, donated_to, steadied, moving_to_queue, moving_to_active, reset_time, paid_to}
-use Rattle.rules.specs.Queue.{Queue, order, load, timeshare_load, empty, movable, Arrival, part_for, bucket_for, insert, Next, nobody, next_in, asked, leave, said_after_put, said_after_take, advance_insert_index, is_timeshare}
-use Rattle.rules.specs.Puts.{Put, PutOrTake, a_put, a_take, put_made}
+use Rattle.rules.specs.Queue.{Queue, order, load, timeshare_load, empty, movable, Arrival, part_for, insert, Next, nobody, next_in, asked, leave, said_after_put, said_after_take, advance_insert_index, is_timeshare}
+use Rattle.rules.specs.Puts.{PutOrTake, a_put, a_take, put_made}
 use Rattle.rules.specs.State.{at, Limits, Topology, Cpu, idle_priority}
 use Rattle.rules.specs.Topology.{cpus_of, visited, nearest}
 use Rattle.rules.specs.Choice.{Best, none_yet, best, Searched, find_cpu, first_that, may_steal_from, Pair, no_pair, pair, Chosen, choose_cpu_balance}

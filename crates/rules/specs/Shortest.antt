@@ -1,7 +1,6 @@
 -- 2026-07: "New command hex 05 before the seal, operand 1 byte, sets the shortest User timeslice to 2 to 32; unset it is 2, the last one given holds. Timeslices at
 -- timeshare load 0 are still 100. Deadlines and hard ticks use the new figure." "Its line shows `-` four times, as do those of commands later added before the seal."
 use Rattle.std.specs.Prelude.{ℕ, ◌≤◌, ◌≡◌, Bool, true, cond, List, [], ◌∷◌, ◌++◌, eqb}
-use Rattle.rules.specs.Times.{timeslice}
 use Rattle.rules.specs.State.{Limits, base_limits, State, start}
 use Rattle.rules.specs.Requests.{operand}
 use Rattle.rules.specs.Questions.{least_shortest, most_shortest}

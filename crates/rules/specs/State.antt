@@ -1,5 +1,5 @@
 -- What the rules keep: limits, topology, CPUs, threads, and beside them the puts and takes that a command makes.
-use Rattle.std.specs.Prelude.{ℕ, zero, suc, ◌+◌, Bool, false, cond, not, ◌||◌, List, [], ◌∷◌, ◌++◌, eqb}
+use Rattle.std.specs.Prelude.{ℕ, zero, suc, Bool, false, cond, not, ◌||◌, List, [], ◌∷◌, ◌++◌, eqb}
 use Rattle.std.proofs.Math.Option.{Option, none, some}
 use Rattle.rules.specs.declared.PriorityClass.TheVariants as class
 use Rattle.rules.specs.declared.Priority.{Priority}

@@ -1,7 +1,7 @@
 -- The tree of nodes: children, what lies below, the CPUs of a node (sched.rs, CPUTopoNode).
-use Rattle.std.specs.Prelude.{ℕ, zero, suc, ◌+◌, Bool, true, false, cond, not, ◌&&◌, ◌||◌, List, [], ◌∷◌, ◌++◌, length, get_or, eqb, ltb}
+use Rattle.std.specs.Prelude.{ℕ, zero, suc, Bool, true, false, cond, ◌&&◌, ◌||◌, List, [], ◌∷◌, length, get_or, eqb, ltb}
 use Rattle.std.proofs.Math.Option.{Option, none, some}
-use Rattle.rules.specs.State.{Node, Topology, Limits, those_below, join_all}
+use Rattle.rules.specs.State.{Topology, Limits, those_below, join_all}
 
 module _ (limits : Limits) (t : Topology) where
   unfoldable pub nr_nodes : ℕ

@@ -1,7 +1,6 @@
 // The types that document 01 names, shared by its definitions (specs/) and by the code. No functions.
 #![tactic(auto)]
 
-
 // Document 01's numbers are those of `class-number` in specs/Priority.antt.
 #[derive(Clone, Copy)]
 pub enum PriorityClass {

@@ -142,6 +142,7 @@ pub fn down_unless(x: u64, pinned: bool) -> u64
 }
 
 // The timeslice of a User thread where so many wait in the timeshare part.
+#[tactic(auto, unfolding(rules::specs::Times::timeslice))]
 pub fn user_timeslice(shortest: u64, timeshare_load: u64) -> u64
     ensures { result ≡ timeslice shortest class.User timeshare_load }
 {
@@ -442,6 +443,7 @@ impl RunQueue {
         queue
     }
 
+    #[tactic(auto, unfolding(rules::specs::Times::timeslice))]
     pub fn timeslice(self, shortest: u64, class: PriorityClass) -> u64
         ensures { result ≡ timeslice shortest class self.timeshare_load }
     {
@@ -453,7 +455,7 @@ impl RunQueue {
         }
     }
 
-    #[tactic(auto, using(rules::specs::Times::timeslice), unfolding(rules::specs::Times::deadline_distance, queue::specs::Num::product))]
+    #[tactic(auto, unfolding(rules::specs::Times::deadline_distance, queue::specs::Num::product))]
     pub fn deadline(self, shortest: u64, class: PriorityClass) -> u64
         ensures { result ≡ deadline_distance shortest class self.timeshare_load self.load % 2 ^ 64 }
     {

@@ -22,6 +22,7 @@ pub fn preempting() -> SchedFlags
 }
 
 // A mark is cleared, and obeyed.
+#[tactic(auto, unfolding(crate::specs::Preempt::schedule_maybe_preempt_def))]
 pub fn schedule_maybe_preempt(
     threads: &mut [Thread],
     cpus: &mut [CpuWords],

@@ -22,6 +22,7 @@ use thread::{NONE, Thread};
 use topology::words::NodeWords;
 
 // Thread x runs on CPU us.
+#[tactic(auto, unfolding(crate::specs::Schedule::switch_to_def))]
 pub fn switch_to(threads: &mut [Thread], cpus: &mut [CpuWords], us: u64, x: u64)
     ensures { Becomes (switch_to_def us x) threads cpus }
 {
@@ -32,6 +33,7 @@ pub fn switch_to(threads: &mut [Thread], cpus: &mut [CpuWords], us: u64, x: u64)
 }
 
 // The own queue handed out thread y: one that takes itself back is not switched to.
+#[tactic(auto, unfolding(crate::specs::Schedule::run_taken_def))]
 pub fn run_taken(threads: &mut [Thread], cpus: &mut [CpuWords], us: u64, cur: u64, y: u64)
     ensures { Becomes (run_taken_def us cur y) threads cpus }
 {
@@ -42,6 +44,7 @@ pub fn run_taken(threads: &mut [Thread], cpus: &mut [CpuWords], us: u64, cur: u6
 }
 
 // A thread was stolen, or the idle thread runs on, or is switched to.
+#[tactic(auto, unfolding(crate::specs::Schedule::run_stolen_def))]
 pub fn run_stolen(threads: &mut [Thread], cpus: &mut [CpuWords], us: u64, cur: u64, stolen: Taken)
     ensures { Becomes (run_stolen_def us cur stolen) threads cpus }
 {
@@ -65,6 +68,7 @@ pub fn idle_unless(cpus: &mut [CpuWords], us: u64, cur: u64)
 }
 
 // The next thread of the own queue, else one that is stolen, else the idle thread.
+#[tactic(auto, unfolding(crate::specs::Schedule::pick_next_def, crate::specs::Schedule::pick_taken, crate::specs::Schedule::pick_stolen))]
 pub fn pick_next(
     threads: &mut [Thread],
     cpus: &mut [CpuWords],
@@ -99,6 +103,7 @@ pub fn must_move(cpus: &[CpuWords], us: u64, t: Thread, flags: SchedFlags) -> bo
     rq_has_higher(cpus, us, t, flags.yields)
 }
 
+#[tactic(auto, unfolding(crate::specs::Schedule::reinserted_def))]
 pub fn reinserted(
     threads: &mut [Thread],
     cpus: &mut [CpuWords],
@@ -117,6 +122,7 @@ pub fn reinserted(
 }
 
 // The deadline of thread x is set anew on CPU us.
+#[tactic(auto, unfolding(crate::specs::Schedule::reset_thread_time_def))]
 pub fn reset_thread_time(threads: &mut [Thread], cpus: &[CpuWords], k: Context, x: u64)
     ensures { BecomesOne (reset_thread_time_def k x cpus.now) threads }
 {
@@ -129,6 +135,7 @@ pub fn reset_thread_time(threads: &mut [Thread], cpus: &[CpuWords], k: Context, 
 }
 
 // The thread running, cur, goes back into a queue, and the next is picked; or it runs on with its deadline set anew.
+#[tactic(auto, unfolding(crate::specs::Schedule::reinsert_def, crate::specs::Schedule::then_next_def))]
 pub fn reinsert(
     threads: &mut [Thread],
     cpus: &mut [CpuWords],
@@ -160,6 +167,7 @@ pub fn reinsert(
 }
 
 // Without reinsert the thread running is blocked, the idle thread never.
+#[tactic(auto, unfolding(crate::specs::Schedule::do_schedule_def))]
 pub fn do_schedule(
     threads: &mut [Thread],
     cpus: &mut [CpuWords],
@@ -186,6 +194,7 @@ pub fn do_schedule(
 }
 
 // With a critical thread running it changes nothing.
+#[tactic(auto, unfolding(crate::specs::Schedule::schedule_def))]
 pub fn schedule(
     threads: &mut [Thread],
     cpus: &mut [CpuWords],
@@ -218,6 +227,7 @@ fn none() -> OptionCpu
 }
 
 // A blocked thread goes into the queue of the CPU selected for it.
+#[tactic(auto, unfolding(crate::specs::Schedule::schedule_thread_def, crate::specs::Schedule::scheduled_on_def))]
 pub fn schedule_thread(
     threads: &mut [Thread],
     cpus: &mut [CpuWords],

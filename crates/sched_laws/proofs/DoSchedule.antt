@@ -33,7 +33,7 @@ use Rattle.represents.proofs.Laws.Records.{field_set}
 use Rattle.represents.specs.Topology.{TopologyRep}
 use Rattle.choice.specs.Reads.{as_cpu}
 use Rattle.choice.specs.Select as choice
-use Rattle.choice_laws.proofs.Memory.{select_memory}
+use Rattle.choice_laws.proofs.Select.{select_memory}
 use Rattle.sched_words.specs.Choose.{preferred_of_def, select_for, selected_for}
 use Rattle.sched_queues.specs.Queues.{block_def}
 use Rattle.sched_laws.specs.Switch.{Settled, no_one}
@@ -84,11 +84,8 @@ preferred_reads t = preferred_as (preferred_cpu t) ∙ reads_preferred_cpu t
 
 either_in : (n : ℕ) (a b : Option ℕ) → Under n a → Under n b → (c : ℕ) → either a b ≡ some c → c < n
 unfolding either Under
-
 either_in n none none u v c e = let z : ◌≡◌ {A = ℕ} 0 1 = cc in absurd (omega arith)
-
 either_in n none (some d) u v c e = let z : d ≡ c = cc in rw (← z) v
-
 either_in n (some d) b u v c e = let z : d ≡ c = cc in rw (← z) u
 
 module _ (limits : Limits) (topology : Topology) (tick us : ℕ) (known : ℕ → Bool) (numbered : (x : ℕ) → known x ≡ true → x < limits.threads) (small : Small limits)

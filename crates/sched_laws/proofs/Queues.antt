@@ -50,7 +50,6 @@ first_in n test (c ∷ l) b = both (test c) (λ e. rw e b.0) (λ e. rw e (first_
 
 pub nobody_moved : (d : ℕ) (D : Left lent.Taken Memory) → D.answer ≡ taken.Nobody → moved_for_def d D ≡ D
 unfolding moved_for_def is_nobody
-
 nobody_moved d D e = ap (λ (a : lent.Taken). cond (is_nobody a) D (record {
   answer = D.answer;
   memory = record { threads = set D.memory.threads (thread_of a) (moving_to_queue (record_at D.memory.threads (thread_of a)) d); cpus = D.memory.cpus };
@@ -59,7 +58,6 @@ nobody_moved d D e = ap (λ (a : lent.Taken). cond (is_nobody a) D (record {
 somebody_moved : (d x : ℕ) (D : Left lent.Taken Memory) → D.answer ≡ taken.Thread x
     → moved_for_def d D ≡ record { answer = D.answer; memory = record { threads = set D.memory.threads x (moving_to_queue (record_at D.memory.threads x) d); cpus = D.memory.cpus } }
 unfolding moved_for_def is_nobody thread_of
-
 somebody_moved d x D e = ap (λ (a : lent.Taken). cond (is_nobody a) D (record {
   answer = D.answer;
   memory = record { threads = set D.memory.threads (thread_of a) (moving_to_queue (record_at D.memory.threads (thread_of a)) d); cpus = D.memory.cpus };

@@ -14,7 +14,7 @@ use Rattle.rules.specs.Draw.{next_state, draw}
 use Rattle.rules.specs.Times as times
 use Rattle.rules.specs.Times.{timeslice, effective_priority, is_some, pinned, paid_to, Paid}
 use Rattle.rules.specs.Queue.{timeshare_load}
-use Rattle.rules.specs.State.{at, Limits, Topology, Cpu, idle_priority, new_thread}
+use Rattle.rules.specs.State.{Limits, Topology, Cpu, idle_priority, new_thread}
 use Rattle.rules.specs.Schedule as sched
 use Rattle.rules.specs.Schedule.{World, with_cpu, with_ticks, with_draws, with_rebalance_time, priority_running}
 use Rattle.rules.proofs.Laws.Sound.{at_here}

@@ -8,6 +8,7 @@ use rules::Priority;
 use sched_words::donate::signal_donation;
 use thread::Thread;
 
+#[tactic(auto, unfolding(crate::specs::Donate::donate_priority_def))]
 pub fn donate_priority(
     threads: &mut [Thread],
     cpus: &[CpuWords],
@@ -25,6 +26,7 @@ pub fn donate_priority(
     signal_donation(cpus, us, x, d, wakeups)
 }
 
+#[tactic(auto, unfolding(crate::specs::Donate::remove_donated))]
 pub fn remove_donated_priority(threads: &mut [Thread], x: u64)
     ensures { BecomesOne (remove_donated x) threads }
 {
@@ -33,6 +35,7 @@ pub fn remove_donated_priority(threads: &mut [Thread], x: u64)
     set(threads, x, u);
 }
 
+#[tactic(auto, unfolding(crate::specs::Donate::set_critical_def))]
 pub fn set_critical(threads: &mut [Thread], x: u64, mark: u64)
     ensures { BecomesOne (set_critical_def x mark) threads }
 {

@@ -51,6 +51,7 @@ pub fn nobody() -> Taken
 }
 
 // Thread x goes into the queue of CPU c.
+#[tactic(auto, unfolding(crate::specs::Queues::schedule_thread_on_cpu_def, crate::specs::Queues::moved_in))]
 pub fn schedule_thread_on_cpu(
     threads: &mut [Thread],
     cpus: &mut [CpuWords],
@@ -73,6 +74,7 @@ pub fn schedule_thread_on_cpu(
 }
 
 // A blocked thread goes into the queue of CPU c. It and `block` alone change a place from or to blocked.
+#[tactic(auto, unfolding(crate::specs::Queues::wake_def))]
 pub fn wake(
     threads: &mut [Thread],
     cpus: &mut [CpuWords],
@@ -87,6 +89,7 @@ pub fn wake(
 }
 
 // The thread running is blocked.
+#[tactic(auto, unfolding(crate::specs::Queues::block_def))]
 pub fn block(threads: &mut [Thread], x: u64)
     ensures { BecomesOne (block_def x) threads }
 {
@@ -96,6 +99,7 @@ pub fn block(threads: &mut [Thread], x: u64)
 }
 
 // A thread is asked of the queue of CPU c, for CPU d.
+#[tactic(auto, unfolding(crate::specs::Queues::take_from, crate::specs::Queues::moved_for_def))]
 pub fn take_a_thread_from_cpu(
     threads: &mut [Thread],
     cpus: &mut [CpuWords],
@@ -116,6 +120,7 @@ pub fn take_a_thread_from_cpu(
     taken
 }
 
+#[tactic(auto, unfolding(crate::specs::Queues::try_steal_def))]
 pub fn try_steal(
     threads: &mut [Thread],
     cpus: &mut [CpuWords],

@@ -1,5 +1,5 @@
 -- `balance` and the stat tick.
-use Rattle.std.specs.Prelude.{ℕ, cond, not, List}
+use Rattle.std.specs.Prelude.{ℕ, cond, not}
 use Rattle.records.specs.declared.rq.Taken.{Taken}
 use Rattle.records.specs.Left.{Words, Memory, Left}
 use Rattle.records.specs.Rq.{clock_def}

@@ -1,7 +1,6 @@
 -- Hard ticks, and the preemption mark set.
 use Rattle.std.specs.Prelude.{ℕ, true, cond, List, set, eqb}
 use Rattle.thread.specs.declared.Thread.{Thread}
-use Rattle.thread.specs.declared.time.Paid.{Paid}
 use Rattle.thread.specs.Thread.{NONE}
 use Rattle.thread.specs.Time.{pay_ticks}
 use Rattle.records.specs.Left.{Words, Memory, Left}

@@ -22,6 +22,7 @@ fn stays(b: Balancing) -> bool
 }
 
 // The move that the choices came to, if any.
+#[tactic(auto, unfolding(crate::specs::Balance::move_one_def, crate::specs::Balance::received))]
 pub fn move_one(
     threads: &mut [Thread],
     cpus: &mut [CpuWords],
@@ -45,6 +46,7 @@ pub fn move_one(
 }
 
 // A move costs its choice and ten more steps, eleven of twenty, so at most two threads move.
+#[tactic(auto, unfolding(crate::specs::Balance::balance_def, crate::specs::Balance::move_two))]
 pub fn balance(
     threads: &mut [Thread],
     cpus: &mut [CpuWords],
@@ -63,6 +65,7 @@ pub fn balance(
     move_one(threads, cpus, k, second, w)
 }
 
+#[tactic(auto, unfolding(crate::specs::Balance::maybe_rebalance_def))]
 pub fn schedule_maybe_rebalance(
     threads: &mut [Thread],
     cpus: &mut [CpuWords],
@@ -81,6 +84,7 @@ pub fn schedule_maybe_rebalance(
     wakeups
 }
 
+#[tactic(auto, unfolding(crate::specs::Balance::schedule_stattick_def, crate::specs::Balance::clocked))]
 pub fn schedule_stattick(
     threads: &mut [Thread],
     cpus: &mut [CpuWords],

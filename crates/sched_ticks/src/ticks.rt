@@ -13,6 +13,7 @@ use sched_words::running::running;
 use thread::Thread;
 
 // The thread running pays for the ticks since the last hard tick.
+#[tactic(auto, unfolding(crate::specs::Ticks::schedule_hardtick_def, crate::specs::Ticks::paid_by_def))]
 pub fn schedule_hardtick(threads: &mut [Thread], cpus: &mut [CpuWords], k: Context)
     ensures { Becomes (schedule_hardtick_def k) threads cpus }
 {
@@ -35,6 +36,7 @@ pub fn schedule_hardtick(threads: &mut [Thread], cpus: &mut [CpuWords], k: Conte
     expire(cpus, us, resched, expired);
 }
 
+#[tactic(auto, unfolding(crate::specs::Ticks::schedule_resched_def))]
 pub fn schedule_resched(threads: &[Thread], cpus: &mut [CpuWords], us: u64)
     ensures { BecomesOne (schedule_resched_def us threads.now) cpus }
 {

@@ -1,4 +1,4 @@
-// The static library: what a C or Rust program calls. A slice passes as a pointer and a length, a struct as C lays it out.
+// What a C or Rust program calls, by numbers, Booleans and structs as C lays them out; crate `scheduler_c` exports each as the static library.
 #![tactic(auto)]
 
 pub mod numbers;
@@ -28,8 +28,7 @@ use topology::words::NodeWords;
 use writer::write_command;
 
 // The library's start. Where a slice is too short nothing is changed.
-#[unsafe(no_mangle)]
-pub extern "C" fn scheduler_start(
+pub fn scheduler_start(
     threads: &mut [Thread],
     cpus: &mut [CpuWords],
     nodes: &mut [NodeWords],
@@ -41,8 +40,7 @@ pub extern "C" fn scheduler_start(
 }
 
 // The command that the bytes ask for.
-#[unsafe(no_mangle)]
-pub extern "C" fn scheduler_command(
+pub fn scheduler_command(
     threads: &mut [Thread],
     cpus: &mut [CpuWords],
     nodes: &mut [NodeWords],
@@ -56,8 +54,7 @@ pub extern "C" fn scheduler_command(
 }
 
 // The line of one command.
-#[unsafe(no_mangle)]
-pub extern "C" fn scheduler_render(buffer: &mut [u8], number: u64, row: Row) -> Written
+pub fn scheduler_render(buffer: &mut [u8], number: u64, row: Row) -> Written
     ensures { (result ≡ written_of (rendered buffer.old 0 (line number (answer_of (answer_in row))))) × (buffer.new ≡ buffer_with buffer.old 0 (line number (answer_of (answer_in row)))) }
 {
     let rendered = render(buffer, number, answer_in(row));
@@ -65,13 +62,7 @@ pub extern "C" fn scheduler_render(buffer: &mut [u8], number: u64, row: Row) -> 
 }
 
 // One command with its fields, in the form that `wide` says: its bytes in the buffer's first ones, or the refusal 1, 6 or 12.
-#[unsafe(no_mangle)]
-pub extern "C" fn scheduler_write(
-    byte: u64,
-    fields: Fields,
-    wide: bool,
-    buffer: &mut [u8],
-) -> Written
+pub fn scheduler_write(byte: u64, fields: Fields, wide: bool, buffer: &mut [u8]) -> Written
     ensures { (result ≡ wrote_of (answer wide byte fields buffer.old)) × (buffer.new ≡ buffer_after wide byte fields buffer.old) }
 {
     let written = write_command(byte, fields, wide, buffer);
@@ -79,16 +70,14 @@ pub extern "C" fn scheduler_write(
 }
 
 // A run that begins.
-#[unsafe(no_mangle)]
-pub extern "C" fn scheduler_begin(state: State) -> Progress
+pub fn scheduler_begin(state: State) -> Progress
     ensures { result ≡ begin state }
 {
     begin(state)
 }
 
 // The first n bytes of input, `last` if no block follows: header, lines and end line in output.
-#[unsafe(no_mangle)]
-pub extern "C" fn scheduler_feed(
+pub fn scheduler_feed(
     threads: &mut [Thread],
     cpus: &mut [CpuWords],
     nodes: &mut [NodeWords],

@@ -2,6 +2,7 @@
 use Rattle.std.proofs.Common.{◌≡◌, ℕ, zero, suc, ◌+◌, ◌-◌, ◌<◌, ◌≤◌, Bool, true, false, cond, not, T as Holds, eqb, ltb, List, sym, refl, ap, ◌∙◌, sub-le, arith, ltb-false, ltb-true, lt-ltb, eqb-true}
 use borrow.Author.Tests.{eqb-false}
 use Rattle.rules.proofs.Laws.Line.{both}
+use Rattle.thread.specs.declared.Thread.{Thread}
 use Rattle.lines.specs.Lines.{room, refusal_number, buffer_with}
 use Rattle.outcome.specs.declared.answer.Answered.{Answered}
 use Rattle.outcome.specs.Call.{asked_def}
@@ -140,3 +141,18 @@ pub inv_near : (bytes : List ℕ) (n : ℕ) (last : Bool) (w : World) → Holds 
     → n - (stepped bytes n w).fed.at < n - w.fed.at
 unfolding command_def
 inv_near bytes n last w h k = nearer bytes n last w (more_yes bytes n last w h k)
+
+-- ---- a turn of the loop as the calls in it answer: the reading r, the answer a and the memory that is left, the output and how far the run is then
+module _ (bytes : List ℕ) (n : ℕ) (w : World) (r : Reading) (read : r ≡ reading_of_def bytes n w) (a : Answered) (ts : List Thread) (cs ns : List (List ℕ))
+    (left : ◌≡◌ {A = Left Answered Lent} (record { answer = a; memory = record { threads = ts; cpus = cs; nodes = ns } })
+    (answered_def w.fed.state r (record { threads = w.threads; cpus = w.cpus; nodes = w.nodes })))
+    (out : List ℕ) (written : out ≡ buffer_with w.output w.fed.done (line_of_def a w.fed)) (g : Progress) (on : g ≡ answered_fed w.output n a w.fed) where
+  pub turned : world_of_def ts cs ns out g ≡ stepped bytes n w
+  turned =
+      let m : ◌≡◌ {A = Left Answered Lent} (record { answer = a; memory = record { threads = ts; cpus = cs; nodes = ns } }) (answer_of_def bytes n w) =
+      left ∙ ap (λ (q : Reading). answered_def w.fed.state q (record { threads = w.threads; cpus = w.cpus; nodes = w.nodes })) read in
+      let b : a ≡ (answer_of_def bytes n w).answer = ap (λ (l : Left Answered Lent). l.answer) m in
+      let t : ts ≡ (answer_of_def bytes n w).memory.threads = ap (λ (l : Left Answered Lent). l.memory.threads) m in
+      let c : cs ≡ (answer_of_def bytes n w).memory.cpus = ap (λ (l : Left Answered Lent). l.memory.cpus) m in
+      let d : ns ≡ (answer_of_def bytes n w).memory.nodes = ap (λ (l : Left Answered Lent). l.memory.nodes) m in
+      rw (written, on, b, t, c, d)

@@ -38,6 +38,7 @@ fn run(
 
 // The first n bytes of input, `last` if no block follows: header, lines and end line in output. The bytes of a command cut short are not taken: they go
 // to the front of the next block.
+#[tactic(auto, unfolding(crate::specs::Feed::feed_def))]
 pub fn feed(
     threads: &mut [Thread],
     cpus: &mut [CpuWords],

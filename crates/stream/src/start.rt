@@ -108,6 +108,7 @@ fn ready() -> Started
 }
 
 // Ready, or NoRoom where a slice is too short, and then nothing is changed.
+#[tactic(auto, unfolding(crate::specs::Start::start_def))]
 pub fn start(threads: &mut [Thread], cpus: &mut [CpuWords], nodes: &mut [NodeWords]) -> Started
     ensures { LeavesAll start_def result threads cpus nodes }
 {

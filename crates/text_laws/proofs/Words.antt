@@ -55,7 +55,6 @@ comment_append (b ∷ w) l h e =
 comment_numbers : (vs : List ℕ) → before_comment (numbers vs) ≡ numbers vs
 unfolding before_comment numbers space
 comment_numbers [] = refl
-
 comment_numbers (v ∷ vs) = ap (λ (m : List ℕ). 32 ∷ m) (comment_append (decimal v) (numbers vs) (decimal_plain v) (comment_numbers vs))
 
 pub no_comment : (w vs : List ℕ) → plain w ≡ true → before_comment (w ++ numbers vs) ≡ w ++ numbers vs

@@ -1,7 +1,5 @@
--- Lemmas about words in a row: a word without blanks and comments is read as it stands.
+-- What a word without blanks and comments is.
 use Rattle.std.specs.Prelude.{ℕ, Bool, true, false, cond, List, [], ◌∷◌, leb}
-use Rattle.rules.specs.Lines.{digits}
-use Rattle.parse.specs.Words.{blank, behind}
 
 -- Every byte is a digit or comes behind the digits: no blank, no `#`, no `-`.
 unfoldable pub plain : List ℕ → Bool

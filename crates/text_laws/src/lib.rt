@@ -1,3 +1,2 @@
-// No code: that the text of a command means that command, in specs/.
+// No code: that the text of a command means that command, in proofs/.
 #![tactic(auto)]
-

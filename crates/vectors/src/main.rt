@@ -3,8 +3,10 @@
 #![tactic(auto)]
 
 use check::same;
+use files::read_full;
 use processor::words::CpuWords;
 use questions::state::State;
+use std::io::Read;
 use stream::feed::feed;
 use stream::progress::{ENDED, Progress, begin};
 use stream::start::{Started, start};
@@ -65,9 +67,9 @@ fn lengths(head: &[u8], got: usize) -> Sizes {
 }
 
 // The next two lengths; `there` is false at the end.
-fn next_sizes(head: &mut [u8]) -> Sizes {
+fn next_sizes(stdin: &mut impl Read, head: &mut [u8]) -> Sizes {
     if 8 <= head.len() {
-        let got = io::read_full(libc::STDIN_FILENO, &mut head[..8]);
+        let got = read_full(stdin, &mut head[..8]);
         return lengths(head, got);
     }
     no_sizes()
@@ -81,9 +83,9 @@ fn ended(s: Sizes) -> bool {
 }
 
 // The next n bytes; false if they are not there.
-fn take(buffer: &mut [u8], n: usize) -> bool {
+fn take(stdin: &mut impl Read, buffer: &mut [u8], n: usize) -> bool {
     if n <= buffer.len() {
-        let got = io::read_full(libc::STDIN_FILENO, &mut buffer[..n]);
+        let got = read_full(stdin, &mut buffer[..n]);
         return got == n;
     }
     false
@@ -162,6 +164,7 @@ fn nothing() -> Progress {
 
 // At most a thousand streams.
 fn replayed(
+    stdin: &mut impl Read,
     threads: &mut [Thread],
     cpus: &mut [CpuWords],
     nodes: &mut [NodeWords],
@@ -172,14 +175,14 @@ fn replayed(
     let mut t = none();
     let mut budget: u64 = 1000;
     while 0 < budget {
-        let s = next_sizes(input);
+        let s = next_sizes(stdin, input);
         if ended(s) {
             return t;
         }
         let n = s.stream;
         let m = s.lines;
-        let whole = take(input, n);
-        let read = take(lines, m);
+        let whole = take(stdin, input, n);
+        let read = take(stdin, lines, m);
         let started = start(threads, cpus, nodes);
         let fed = begun(started);
         let f = feed(threads, cpus, nodes, input, output, n, whole, fed);
@@ -192,11 +195,19 @@ fn replayed(
     t
 }
 
-fn report(t: Tally) {
-    io::print_decimal(libc::STDOUT_FILENO, t.streams);
-    io::write_all(libc::STDOUT_FILENO, b" streams, ");
-    io::print_decimal(libc::STDOUT_FILENO, t.differ);
-    io::write_all(libc::STDOUT_FILENO, b" differ\n");
+fn put(stdout: &impl Print, text: &[u8]) -> bool {
+    stdout.write_all(text).is_ok()
+}
+
+fn put_decimal(stdout: &impl Print, n: u64) -> bool {
+    stdout.print(n).is_ok()
+}
+
+fn report(stdout: &impl Print, t: Tally) {
+    put_decimal(stdout, t.streams);
+    put(stdout, b" streams, ");
+    put_decimal(stdout, t.differ);
+    put(stdout, b" differ\n");
 }
 
 fn no_cpu() -> CpuWords {
@@ -207,7 +218,7 @@ fn no_node() -> NodeWords {
     [0; 32]
 }
 
-fn main() {
+fn main(rt: HostRuntime) {
     let t = blank();
     let c = no_cpu();
     let d = no_node();
@@ -218,6 +229,7 @@ fn main() {
     let mut output = [0u8; 65536];
     let mut lines = [0u8; 65536];
     let tally = replayed(
+        &mut rt.stdin(),
         &mut threads,
         &mut cpus,
         &mut nodes,
@@ -225,5 +237,5 @@ fn main() {
         &mut output,
         &mut lines,
     );
-    report(tally);
+    report(&rt.stdout(), tally);
 }

@@ -58,7 +58,6 @@ fn low_byte(v: u64) -> u8
 }
 
 // A number in n bytes, the least first.
-#[tactic(auto, using(crate::proofs::Rows::field_done, crate::proofs::Rows::field_next))]
 fn put_field(buffer: &mut [u8], at: usize, n: usize, v: u64) -> usize
     ensures { text buffer.new result ≡ write (text buffer.old at) (little_endian n v) }
 {
@@ -74,7 +73,6 @@ fn put_field(buffer: &mut [u8], at: usize, n: usize, v: u64) -> usize
 }
 
 // The command byte and its fields, from the buffer's front.
-#[tactic(auto, using(crate::proofs::Rows::five_parts), unfolding(rules::specs::Writer::field_bytes, request::specs::Fields::list_of, request::specs::Fields::widths_list))]
 fn put_command(buffer: &mut [u8], byte: u8, fields: Fields, w: Widths) -> usize
     ensures { text buffer.new result ≡ write (text buffer.old 0) (byte ∷ field_bytes (widths_list w) (list_of fields)) }
 {
@@ -86,7 +84,6 @@ fn put_command(buffer: &mut [u8], byte: u8, fields: Fields, w: Widths) -> usize
 }
 
 // A command whose operands have n bytes.
-#[tactic(auto, using(crate::proofs::Rows::known_misfit_1, crate::proofs::Rows::known_misfit_2, crate::proofs::Rows::known_short, crate::proofs::Rows::known_written), unfolding(crate::specs::Writer::written_of, lines::specs::Lines::refusal_number))]
 fn write_known(byte: u8, n: usize, fields: Fields, wide: bool, buffer: &mut [u8]) -> Written
     ensures { (written_of result ≡ known wide byte n fields buffer.old) × (buffer.new ≡ known_after wide byte n fields buffer.old) }
 {
@@ -103,7 +100,6 @@ fn write_known(byte: u8, n: usize, fields: Fields, wide: bool, buffer: &mut [u8]
     Written::Refused(Refusal::OutOfRange)
 }
 
-#[tactic(auto, using(crate::proofs::Rows::known_is, crate::proofs::Rows::unknown_answer), unfolding(crate::specs::Writer::written_of, lines::specs::Lines::refusal_number))]
 fn write_byte(byte: u8, fields: Fields, wide: bool, buffer: &mut [u8]) -> Written
     ensures { (written_of result ≡ answer wide byte fields buffer.old) × (buffer.new ≡ buffer_after wide byte fields buffer.old) }
 {
@@ -114,7 +110,6 @@ fn write_byte(byte: u8, fields: Fields, wide: bool, buffer: &mut [u8]) -> Writte
 }
 
 // The command in the buffer's first bytes. An operand that names a CPU or a node has two bytes if `wide`, else one; a pin is the number that is written.
-#[tactic(auto, using(crate::proofs::Rows::large_answer), unfolding(crate::specs::Writer::written_of, lines::specs::Lines::refusal_number))]
 pub fn write_command(byte: u64, fields: Fields, wide: bool, buffer: &mut [u8]) -> Written
     ensures { (written_of result ≡ answer wide byte fields buffer.old) × (buffer.new ≡ buffer_after wide byte fields buffer.old) }
 {

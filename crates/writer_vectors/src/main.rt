@@ -4,8 +4,10 @@
 #![tactic(auto)]
 
 use check::same;
+use files::read_full;
 use lines::refusal_number;
 use request::fields::Fields;
+use std::io::Read;
 use writer::{Written, write_command};
 
 const FORM: usize = 40;
@@ -149,11 +151,11 @@ fn tallied(t: Tally, agrees: bool) -> Tally {
 }
 
 // As many cases as there are, a million at most. One that is cut short differs.
-fn run(case: &mut [u8], buffer: &mut [u8]) -> Tally {
+fn run(stdin: &mut impl Read, case: &mut [u8], buffer: &mut [u8]) -> Tally {
     let mut t = none();
     let mut budget: u64 = 1000000;
     while 0 < budget {
-        let got = io::read_full(libc::STDIN_FILENO, case);
+        let got = read_full(stdin, case);
         if got == 0 {
             return t;
         }
@@ -163,16 +165,24 @@ fn run(case: &mut [u8], buffer: &mut [u8]) -> Tally {
     t
 }
 
-fn report(t: Tally) {
-    io::print_decimal(libc::STDOUT_FILENO, t.cases);
-    io::write_all(libc::STDOUT_FILENO, b" cases, ");
-    io::print_decimal(libc::STDOUT_FILENO, t.differ);
-    io::write_all(libc::STDOUT_FILENO, b" differ\n");
+fn put(stdout: &impl Print, text: &[u8]) -> bool {
+    stdout.write_all(text).is_ok()
 }
 
-fn main() {
+fn put_decimal(stdout: &impl Print, n: u64) -> bool {
+    stdout.print(n).is_ok()
+}
+
+fn report(stdout: &impl Print, t: Tally) {
+    put_decimal(stdout, t.cases);
+    put(stdout, b" cases, ");
+    put_decimal(stdout, t.differ);
+    put(stdout, b" differ\n");
+}
+
+fn main(rt: HostRuntime) {
     let mut case = [0u8; 56];
     let mut buffer = [0u8; 12];
-    let tally = run(&mut case, &mut buffer);
-    report(tally);
+    let tally = run(&mut rt.stdin(), &mut case, &mut buffer);
+    report(&rt.stdout(), tally);
 }

@@ -1,8 +1,6 @@
 use Prim.Native.Nat.{◌-◌}
 use Prim.Native.Nat.{◌≤◌}
 use Rattle.lines.specs.Text.{text, write}
-use Rattle.rules.specs.Queue.{next}
-use Rattle.rules.specs.State.{at}
 use lib.ListN.{drop, length}
 use mathlib.Core.Path.{◌≡◌}
 use Rattle.lines.proofs.put_bytes.Given as goal

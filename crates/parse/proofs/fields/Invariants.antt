@@ -1,4 +1,4 @@
-use Rattle.parse.specs.Meaning.{field, fields_from}
+use Rattle.parse.specs.Meaning.{fields_from}
 use mathlib.Core.Path.{◌≡◌}
 use Prim.Native.Nat.{◌≤◌, ◌-◌}
 use Rattle.request.specs.Fields.{list_of, four}

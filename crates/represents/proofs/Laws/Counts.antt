@@ -1,5 +1,5 @@
 -- Counts: how many of a line have a mark, and the code's sums, which go round, on numbers that stay small.
-use Rattle.std.specs.Prelude.{ℕ, suc, ◌+◌, ◌-◌, ◌/◌, ◌≤◌, ◌<◌, ◌≡◌, refl, Bool, true, false, cond, not, List, [], ◌∷◌, ◌++◌, length, eqb}
+use Rattle.std.specs.Prelude.{ℕ, suc, ◌+◌, ◌/◌, ◌≤◌, ◌<◌, ◌≡◌, refl, Bool, true, false, cond, not, List, [], ◌∷◌, ◌++◌, length, eqb}
 use Rattle.std.proofs.Common.{◌∙◌, eq-eqb, arith}
 use Rattle.rules.specs.Line.{has, count}
 use Rattle.rules.proofs.Laws.Line.{both, Comes}

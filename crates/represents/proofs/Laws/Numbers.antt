@@ -10,7 +10,7 @@ use Rattle.rules.specs.declared.PriorityClass.{PriorityClass}
 use Rattle.rules.proofs.Laws.Line.{distinct_length}
 use Rattle.rules.specs.Priority.{from_raw}
 use Rattle.rules.specs.Times.{timeslice, deadline_distance, is_some, pinned}
-use Rattle.rules.specs.Queue.{Queue, order, load, timeshare_load, movable}
+use Rattle.rules.specs.Queue.{Queue, order, load, timeshare_load}
 use Rattle.rules.specs.State.{Limits, Topology}
 use Rattle.rules.specs.Schedule.{World, one_unless_idle, current_load, current_priority, is_empty, movable_on}
 use Rattle.thread.specs.declared.Thread.{Thread}

@@ -4,7 +4,6 @@ use Rattle.std.specs.Prelude.{◌≡◌, Bool, ◌||◌, ◌&&◌}
 use Rattle.std.proofs.Math.Path.{refl, sym, ap}
 use Rattle.std.proofs.Common.{◌∙◌}
 use Rattle.std.proofs.Math.Bool.{true, false, cond}
-use Rattle.std.proofs.Math.Option.{some}
 use mathlib.Core.List.{List, [], ◌∷◌, ◌++◌, append_assoc, append-nil}
 use native.Mathlib.Omega.{arith}
 use Rattle.std.proofs.Math.Dec.{eqb, ltb}
@@ -18,7 +17,7 @@ use Rattle.rules.specs.Topology.{nr_nodes, parent_of, children, no_nodes, leaf, 
 use Rattle.rules.specs.Commands.{with_node}
 use Rattle.rules.proofs.Laws.Effect.{and_left, and_right}
 use Rattle.represents.proofs.Laws.NumberLists.{below_same, below_none, below_has, join_append, join_join, join_same, ins, ins_append, ins_join, ins_none, has_ins, distinct_ins}
-use Rattle.represents.specs.Topology.{met, met_first, TopologySound}
+use Rattle.represents.specs.Topology.{met, met_first}
 
 one_ins : (n p m : ℕ) → ins n p (m ∷ []) ≡ cond (eqb p m) (n ∷ []) [] ++ (m ∷ [])
 unfolding ins

@@ -1,11 +1,9 @@
 -- The rules' operations on what is read off a run queue, and the marks of the records after a put.
-use Rattle.std.specs.Prelude.{ℕ, ◌≡◌, Bool, map}
-use Rattle.rules.specs.declared.Priority.{Priority}
+use Rattle.std.specs.Prelude.{ℕ, ◌≡◌}
 use Rattle.rules.specs.declared.Part.{Part}
 use Rattle.rules.specs.declared.Part.TheVariants as part
-use Rattle.rules.specs.Line.{Distinct, Below}
 use Rattle.rules.specs.Priority.{from_raw}
-use Rattle.rules.specs.Queue.{Queue, no_queue, order, load, timeshare_load, movable, insert, Next, nobody, next_in, leave, advance_insert_index, said_after_put, said_after_take}
+use Rattle.rules.specs.Queue.{no_queue, insert, Next, nobody, next_in, leave, advance_insert_index, said_after_put, said_after_take}
 use Rattle.rules.specs.Queue.{Arrival as Arrivalₗ}
 use Rattle.rules.specs.State.{at, idle_priority}
 use Rattle.thread.specs.Thread.{NONE}
@@ -16,8 +14,6 @@ use Rattle.runqueue.specs.declared.rq.Front.{Front}
 use Rattle.runqueue.specs.declared.rq.Front.TheVariants as front
 use Rattle.runqueue.specs.RunQueue.{rq_taken}
 use Rattle.represents.proofs.Laws.Linked.{link_after}
-use Rattle.represents.specs.QueueRead.{walk}
-use Rattle.represents.specs.Queue.{PartRep, TimeshareRep}
 use Rattle.represents.specs.QueueRead.{Marks, queue_read}
 use Rattle.represents.specs.Queue.{QueueReading, QueueRep}
 

@@ -20,7 +20,6 @@ use Rattle.thread.specs.Reads.{reads}
 use Rattle.thread.specs.Priority.{stable_effective_priority, reads_stable}
 use Rattle.thread.specs.Place.{reads_place, reads_next}
 use Rattle.represents.proofs.Laws.Linked.{link_after, BehindIn}
-use Rattle.represents.specs.QueueRead.{Marks}
 use Rattle.represents.proofs.Laws.Readings.{value_after}
 use Rattle.records.specs.Rq.{record_at, steady_in, put_in_def, link_behind}
 use Rattle.represents.specs.QueueRead.{marks}

@@ -1,6 +1,6 @@
 -- What the words of the nodes must be to be a topology of the rules; the orders in which they are walked are then those of the rules.
 use Prim.Native.Nat.{ℕ, zero, suc, ◌-◌, ◌≤◌, ◌<◌}
-use Rattle.std.specs.Prelude.{◌≡◌, Bool, false, not, ◌||◌, ◌&&◌, length, get_or}
+use Rattle.std.specs.Prelude.{◌≡◌, Bool, false, ◌||◌, ◌&&◌, length}
 use Rattle.std.proofs.Math.Path.{refl, sym, ap}
 use Rattle.std.proofs.Common.{◌∙◌, arith, length-append}
 use Rattle.std.proofs.Math.Bool.{true, true≢false}
@@ -13,17 +13,14 @@ use Rattle.rules.specs.Line.{has, Distinct, Below}
 use Rattle.rules.proofs.Laws.Line.{both, comes_distinct, distinct_length, has_append}
 use Rattle.rules.specs.State.{Limits, Topology, join_all, any_below, is_number}
 use Rattle.rules.specs.Topology.{nr_nodes, parent_of, children, no_nodes, leaf, upward, above, holds, on_node, cpus_of, visited, nearest_from}
-use Rattle.topology.specs.CpuSet.{max_cpu_id}
 use Rattle.topology.specs.Words.{word}
-use Rattle.topology.specs.Node.{parent, level_type, next, prev, first, end, lesser, has_children, has_cpus, contains_at, first_of, end_of}
+use Rattle.topology.specs.Node.{parent, next, prev, first, end, lesser, has_cpus, contains_at, first_of, end_of}
 use Rattle.topology.specs.Walk.{cpus_at, leaf_cpus, to_root, visited_at, nearest_at}
 use Rattle.represents.proofs.Laws.NumberLists.{those_within, below_same, has_below, any_true, any_none, join_same}
-use Rattle.represents.specs.Topology.{Ring}
 use Rattle.represents.proofs.Laws.Ring.{linked_walk}
-use Rattle.represents.specs.Topology.{Sized}
 use Rattle.represents.specs.Topology.{met_first, TopologySound}
 use Rattle.represents.proofs.Laws.Order.{leaf_list, visited_met}
-use Rattle.represents.specs.Topology.{type_of, Ranged, TopologyRep}
+use Rattle.represents.specs.Topology.{TopologyRep}
 
 -- ---- general
 

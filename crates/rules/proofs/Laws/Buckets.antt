@@ -2,13 +2,13 @@
 use Prim.Native.Nat.{ℕ, zero, suc, ◌+◌, ◌-◌, ◌%◌, ◌≤◌, ◌<◌}
 use Rattle.std.proofs.Math.Path.{◌≡◌, refl, ap}
 use Rattle.std.proofs.Common.{sym, ◌∙◌, inl, inr, get_or-set_other, ltb-true, ltb-false, zero-add, mod-lt, mod-eq_of_lt, add-one, arith}
-use Rattle.std.specs.Prelude.{◌≢◌, ◌⊎◌, length, get_or, set, ltb}
-use mathlib.Core.List.{List, [], ◌∷◌, ◌++◌, tail, append_assoc, append-nil}
+use Rattle.std.specs.Prelude.{◌≢◌, ◌⊎◌, length, set, ltb}
+use mathlib.Core.List.{List, [], ◌∷◌, ◌++◌, append_assoc, append-nil}
 use Rattle.std.proofs.Math.ListN.{length-set}
 use Rattle.std.proofs.Math.Seq.{get_or-set_same}
 use Rattle.std.proofs.Math.Nat.{suc-add, add-suc, add-zero, add-mod_right, mod-mod, suc-mod, mod-eq-sub-mod, mod-add-mod}
 use Rattle.rules.proofs.Laws.Line.{Comes, both}
-use Rattle.rules.specs.Buckets.{Buckets, bucket, around, Found, oldest, scan, join, pop, nothing, found}
+use Rattle.rules.specs.Buckets.{Buckets, bucket, around, oldest, scan, join, pop, nothing, found}
 
 -- ---- counting round
 

@@ -80,11 +80,6 @@ pub realtime_bucket_in : (v : ℕ) → realtime_bucket v < nr_buckets
 unfolding realtime_bucket nr_buckets nr_values width
 realtime_bucket_in v = omega (arith, cut_below v)
 
-pub offset_in : (v : ℕ) → offset v < nr_buckets
-unfolding offset nr_buckets nr_values width
-offset_in zero = omega arith
-offset_in (suc v) = omega arith
-
 pub offset_past : (v : ℕ) → nr_values ≤ v → offset v ≡ 0
 unfolding offset nr_values width
 offset_past zero h = absurd (omega arith)

@@ -16,7 +16,7 @@ use Rattle.rules.specs.Times.{Thread, either, preferred_cpu, effective_priority,
 use Rattle.rules.specs.Queue.{Queue, order, load}
 use Rattle.rules.specs.Puts.{PutOrTake}
 use Rattle.rules.specs.Draw.{next_state, draw}
-use Rattle.rules.specs.State.{at, those_below, join_all, Limits, Topology, Cpu}
+use Rattle.rules.specs.State.{those_below, join_all, Limits, Topology, Cpu}
 use Rattle.rules.specs.Topology.{leaf, children, cpus_of, visits, visited}
 use Rattle.rules.specs.Choice.{Best, none_yet, best, lower, Searched, find_cpu, Extremes, weigh, extremes, Pair, no_pair, pair, pair_of, choose_cpu_balance}
 use Rattle.rules.specs.Schedule.{World, Got, Balancing, Flags, with_cpu, with_thread, with_running, with_draws, with_preempt, set_rebalance, with_rebalance_time, with_ticks, same_cpu}

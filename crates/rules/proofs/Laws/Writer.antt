@@ -1,15 +1,15 @@
 -- Lemmas about Writer: numbers and fields as bytes, read back.
 use Prim.Native.Nat.{ℕ, zero, suc, ◌+◌, ◌*◌, ◌-◌, ◌/◌, ◌%◌, ◌^◌, ◌≤◌, ◌<◌}
-use Rattle.std.specs.Prelude.{◌≡◌, ◌↔◌, Bool, true, false, cond, ◌&&◌, length, take, drop, replicate, eqb, ltb, leb}
+use Rattle.std.specs.Prelude.{◌≡◌, Bool, true, false, cond, ◌&&◌, length, take, drop, replicate, eqb, ltb, leb}
 use Rattle.std.proofs.Math.Path.{refl}
-use Rattle.std.proofs.Common.{sym, ap, ◌∙◌, true≢false, length-append, arith, suc-add, zero-add, eqb-true, ltb-true, lt-ltb, leb-true, le-leb, eq-eqb}
+use Rattle.std.proofs.Common.{sym, ap, ◌∙◌, true≢false, length-append, arith, suc-add, zero-add, eqb-true, ltb-true, lt-ltb}
 use Rattle.std.proofs.Math.Option.{Option, none, some}
 use mathlib.Core.List.{List, [], ◌∷◌, ◌++◌, append_assoc}
 use Rattle.std.proofs.Math.Seq.{take-add}
 use Rattle.std.proofs.Math.Nat.{pow-succ', one-le-pow}
 use Rattle.rules.specs.State.{Limits}
 use Rattle.rules.specs.Requests.{Request, unknown, cut_short, asks, read_operands, operand, past, at_least, operands, nth, sum, widths, widths_or, request}
-use Rattle.rules.specs.Questions.{Question, question, first_no}
+use Rattle.rules.specs.Questions.{question, first_no}
 use Rattle.rules.specs.Writer.{Bytes, little_endian, field_bytes, row, bytes_of, fits, ranges, has_row, in_table, no_misfit, buffer_holds, write_refusal}
 use Rattle.rules.proofs.Laws.Line.{both}
 

@@ -1,4 +1,3 @@
-
 use Rattle.writer_vectors.proofs.number.Given as goal
 
 abbrev pub invariant-loop-left : goal.invariant-loop-left

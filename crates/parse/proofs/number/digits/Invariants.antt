@@ -1,8 +1,7 @@
 use mathlib.Core.Path.{◌≡◌}
-use Rattle.parse.specs.Numbers.{digit, value, digits}
+use Rattle.parse.specs.Numbers.{value, digits}
 use lib.ListN.{length, drop}
 use Prim.Native.Nat.{◌-◌}
-use Rattle.parse.specs.Words.{word}
 use Rattle.parse.proofs.number.digits.Given as goal
 
 abbrev pub invariant-loop-i : goal.invariant-loop-i

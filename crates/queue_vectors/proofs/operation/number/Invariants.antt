@@ -1,4 +1,3 @@
-
 use Rattle.queue_vectors.proofs.operation.number.Given as goal
 
 abbrev pub invariant-loop-left : goal.invariant-loop-left

@@ -1,0 +1,11 @@
+use Rattle.rules.specs.declared.Part.TheVariants as part
+use Rattle.runqueue.specs.RunQueue.{rq_insert_into}
+use Rattle.processor.specs.Parts.{put_stored}
+use Rattle.processor.proofs.rq.insert_idle.Goals as goal
+
+pub returns : goal.returns
+unfolding rq_insert_into
+returns c = (
+  rw (c.insert_idle-put.ensures, c.load_queue-q.ensures),
+  rw (c.store_idle.ensures, c.insert_idle-put.ensures, c.load_queue-q.ensures) (put_stored part.Idle _ _ _),
+)

@@ -1,0 +1,46 @@
+use Rattle.std.proofs.Common.{◌≡◌, ◌∙◌, ◌<◌, ◌-◌, ℕ, Bool, true, false, not, T as Holds, ap, sym, subst}
+use Rattle.outcome.specs.Call.{asked_def}
+use Rattle.stream.specs.Progress.{can_answer, must_wait}
+use Rattle.stream.specs.Feed.{World, world_of_def}
+use Rattle.stream.proofs.Feeding.{Inv, inv_start, inv_next, inv_near, inv_waits, inv_end, stepped, turned}
+use Rattle.stream.proofs.feed.run.Goals as goal
+
+holds_by : (t : Bool) → true ≡ t → Holds t
+holds_by t e = subst (λ (b : Bool). Holds b) e tt
+
+fails_by : (t : Bool) → false ≡ t → Holds (not t)
+fails_by t e = subst (λ (b : Bool). Holds (not b)) e tt
+
+pub loop-state-init : goal.loop-state-init
+loop-state-init c = inv_start _ _ _ _
+
+pub returns-then-must_wait : goal.returns-then-must_wait
+returns-then-must_wait c =
+    inv_waits c.args.n c.args.input.now c.args.n c.args.last
+    (world_of_def c.args.threads.now c.args.cpus.now c.args.nodes.now c.args.output.now c.args.fed)
+    (world_of_def c.loop-state.threads c.loop-state.cpus c.loop-state.nodes c.loop-state.output c.loop-state.f)
+    c.loop-state.invariant (holds_by _ (c.if-must_wait.ensures ∙ ap (must_wait c.args.last) c.asked-reading.ensures))
+
+pub loop-state-smaller : goal.loop-state-smaller
+loop-state-smaller c =
+    let w : World = world_of_def c.loop-state.threads c.loop-state.cpus c.loop-state.nodes c.loop-state.output c.loop-state.f in
+    subst (λ (v : World). c.args.n - v.fed.at < c.args.n - c.loop-state.f.at)
+    (sym (turned c.args.input.now c.args.n w c.asked-reading.result c.asked-reading.ensures c.command_read-a.result _ _ _ c.command_read-a.ensures _ c.answered-g.ensures.1 _ c.answered-g.ensures.0))
+    (inv_near c.args.input.now c.args.n c.args.last w (holds_by _ c.loop-state-test.ensures)
+    (fails_by _ (c.if-must_wait.ensures ∙ ap (must_wait c.args.last) c.asked-reading.ensures)))
+
+pub loop-state-preserved : goal.loop-state-preserved
+loop-state-preserved c =
+    let w₀ : World = world_of_def c.args.threads.now c.args.cpus.now c.args.nodes.now c.args.output.now c.args.fed in
+    let w : World = world_of_def c.loop-state.threads c.loop-state.cpus c.loop-state.nodes c.loop-state.output c.loop-state.f in
+    subst (λ (v : World). Inv c.args.n c.args.input.now c.args.n c.args.last w₀ v)
+    (sym (turned c.args.input.now c.args.n w c.asked-reading.result c.asked-reading.ensures c.command_read-a.result _ _ _ c.command_read-a.ensures _ c.answered-g.ensures.1 _ c.answered-g.ensures.0))
+    (inv_next c.args.n c.args.input.now c.args.n c.args.last w₀ w c.loop-state.invariant (holds_by _ c.loop-state-test.ensures)
+    (fails_by _ (c.if-must_wait.ensures ∙ ap (must_wait c.args.last) c.asked-reading.ensures)))
+
+pub returns : goal.returns
+returns c =
+    inv_end c.args.n c.args.input.now c.args.n c.args.last
+    (world_of_def c.args.threads.now c.args.cpus.now c.args.nodes.now c.args.output.now c.args.fed)
+    (world_of_def c.loop-state.threads c.loop-state.cpus c.loop-state.nodes c.loop-state.output c.loop-state.f)
+    c.loop-state.invariant (fails_by _ c.loop-state-test.ensures)

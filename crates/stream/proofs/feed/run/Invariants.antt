@@ -1,0 +1,12 @@
+use Rattle.std.proofs.Common.{◌-◌}
+use Rattle.stream.proofs.Feeding.{Inv}
+use Rattle.stream.specs.Feed.{world_of_def}
+use Rattle.stream.proofs.feed.run.Given as goal
+
+abbrev pub invariant-loop-state : goal.invariant-loop-state
+invariant-loop-state l =
+    Inv l.n l.input l.n l.last (world_of_def l.initial.threads l.initial.cpus l.initial.nodes l.initial.output l.initial.f)
+    (world_of_def l.threads l.cpus l.nodes l.output l.f)
+
+abbrev pub decreases-loop-state : goal.decreases-loop-state
+decreases-loop-state l = l.n - l.f.at
