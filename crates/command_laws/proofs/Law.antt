@@ -1,5 +1,4 @@
--- WHAT IS PROVED OF ONE CALL. A reader reads all of this file, after represents' State.
--- What the rules keep in every state that calls reach from the start; H: the puts and takes of each CPU's queue so far.
+-- What the rules keep in every state that calls reach from the start (Reachable, in specs/Law): at the start, and by each step.
 use Rattle.std.specs.Prelude.{ℕ, List, ◌++◌}
 use Rattle.rules.specs.Puts.{PutOrTake}
 use Rattle.rules.specs.State.{Limits, State, start}

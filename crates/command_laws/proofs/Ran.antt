@@ -1,13 +1,12 @@
 -- THE COMMANDS THAT A CPU RUNS (hex 12 to 18): over memory that stands for a state that the rules reach, each leaves and answers what the rules say.
 use Prim.Native.Nat.{ℕ, ◌+◌, ◌%◌, ◌^◌, ◌≤◌, ◌<◌}
-use Rattle.std.specs.Prelude.{◌≡◌, Bool, true, List, ltb}
+use Rattle.std.specs.Prelude.{◌≡◌, Bool, true, List}
 use Rattle.std.proofs.Math.Path.{refl, sym, ap, subst}
-use Rattle.std.proofs.Common.{◌∙◌, ltb-false}
+use Rattle.std.proofs.Common.{◌∙◌}
 use Rattle.std.proofs.lemmas.Bool.{false≢true}
 use Rattle.std.proofs.Math.Option.{Option, none, some}
 use native.Mathlib.Omega.{arith}
 use Rattle.rules.specs.declared.Priority.{Priority}
-use Rattle.rules.proofs.Laws.Line.{both}
 use Rattle.rules.specs.Priority.{nr_values, priority, class_at}
 use Rattle.rules.specs.Times.{is_some}
 use Rattle.rules.specs.Queue.{load}
@@ -61,15 +60,10 @@ use Rattle.command_laws.proofs.Numbers.{few_accepted}
 use Rattle.command_laws.specs.Asked.{On}
 use Rattle.command_laws.proofs.Asked.{on_node}
 use Rattle.command_laws.proofs.Plain.{one_more}
-use Rattle.command_laws.proofs.Running.{running_same}
+use Rattle.command_laws.proofs.Running.{running_same, uncut}
 use Rattle.command_laws.specs.Law.{lent}
 use Rattle.command.specs.Lent.{in_memory, in_threads, in_cpus}
 use Rattle.records.specs.Left.{Memory, mem, Left}
-
--- a limit that a set of CPUs can hold is not cut
-uncut : (n : ℕ) → n ≤ max_cpu_id → lesser n max_cpu_id ≡ n
-unfolding lesser
-uncut n h = both (ltb n max_cpu_id) (λ e. rw e) (λ e. rw e (let l : max_cpu_id ≤ n = ltb-false _ _ e in omega arith))
 
 module _ {H : ℕ → List PutOrTake} {ts : List Thread} {cs ns : List (List ℕ)} {a : State} {s : rules.State} (m : StateRep ts cs ns a s) (r : Reachable H s) where
   abbrev Soundly : World → Type 0

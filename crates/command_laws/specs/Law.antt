@@ -1,5 +1,4 @@
 -- WHAT IS PROVED OF ONE CALL. A reader reads all of this file, after represents' State.
--- What the rules keep in every state that calls reach from the start; H: the puts and takes of each CPU's queue so far.
 use Rattle.std.specs.Prelude.{ℕ, ◌≡◌, List}
 use Rattle.rules.specs.Puts.{PutOrTake}
 use Rattle.rules.specs.State.{State}
@@ -14,6 +13,7 @@ use Rattle.records.specs.Left.{Left}
 use Rattle.outcome.specs.declared.answer.Answered.{Answered}
 use Rattle.thread.specs.declared.Thread.{Thread}
 
+-- What the rules keep in every state that calls reach from the start; H: the puts and takes of each CPU's queue so far.
 pub record Reachable (H : ℕ → List PutOrTake) (s : State) : Type 0 where
   pub reached : Reached H s
   pub sealed : Sealed s

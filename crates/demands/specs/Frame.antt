@@ -1,6 +1,6 @@
 -- THE MEMORY THAT THE RULES LEAVE FREE: the parts of the lent memory that stand for nothing in the rules, so that demand 2 does not speak of them. What holds
--- of each after every list of calls from the library's start, obeyed and refused: that it is as found, or what it is written. A reader reads the record and
--- the theorem.
+-- of each after every list of calls from the library's start, obeyed and refused: that it is as found, or what it is written. A reader reads the record and,
+-- in proofs/Frame, the theorem.
 use Rattle.std.specs.Prelude.{ℕ, ◌≤◌, ◌<◌, ◌≡◌, ◌≢◌, ◌⊎◌, List, [], length, get_or}
 use Rattle.thread.specs.Thread.{NONE, blank}
 use Rattle.records.specs.Left.{mem}

@@ -1,3 +1,4 @@
+pub mod Grown
 pub mod Linked
 pub mod Queue
 pub mod QueueRead

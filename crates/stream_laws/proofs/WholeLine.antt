@@ -1,5 +1,5 @@
 -- THE LINE IN THE LENT BUFFER. Document 01, question 11: "has the lent buffer at least 48 bytes? 11 (Bytes past a rendered line keep their content.)" A yes
--- obliges the whole line. A reader reads all of this file but the lemma `line_whole`, after demands' Calls.
+-- obliges the whole line. A reader reads specs/WholeLine, and of this file all but the lemma `line_whole`, after demands' Calls.
 use Rattle.std.specs.Prelude.{ℕ, ◌≤◌, ◌≡◌, List, length}
 use Rattle.std.proofs.Common.{sym, ap, ◌∙◌, le-leb, arith, zero-add}
 use Rattle.std.proofs.lemmas.Bool.{lt-leb}

@@ -22,6 +22,7 @@ use Rattle.topology.specs.CpuSet.{max_cpu_id, bit}
 use Rattle.topology.specs.Words.{word, width, put_word, length_put}
 use Rattle.topology.specs.Node.{parent, level_type, children as children_word, next, prev, first, end, new_node, put_node, new_root, linked, add_child, has_children, contains_at}
 use Rattle.represents.proofs.Laws.NumberLists.{any_true, ins, ins_none}
+use Rattle.represents.specs.Grown.{grown}
 use Rattle.represents.specs.Topology.{Ring}
 use Rattle.represents.proofs.Laws.Ring.{linked_back, linked_back_end, linked_prev, linked_prev_end, linked_ins, linked_end}
 use Rattle.represents.specs.Topology.{Sized}
@@ -177,7 +178,7 @@ module _ (limits : Limits) (rows : List (List ℕ)) (t : Topology) (tree : Topol
   n = nr_nodes limits t
 
   abbrev t' : Topology
-  t' = with_node t p k
+  t' = grown t p k
 
   abbrev q : ℕ
   q = word rows p prev
