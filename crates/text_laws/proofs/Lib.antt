@@ -1,2 +1,3 @@
+pub mod Pin
 pub mod RoundTrip
 pub mod Words

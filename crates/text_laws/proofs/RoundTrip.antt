@@ -20,12 +20,13 @@ use Rattle.request.specs.Fields.{list_of, four, row}
 use Rattle.request.proofs.Table.{by_row}
 use Rattle.request.proofs.ByWidths as by_widths
 use Rattle.request.proofs.ByWidths.{plain_row, row_plain, not_five}
-use Rattle.parse.specs.Words.{skip_blanks, blanks, word, letters, behind, same}
+use Rattle.parse.specs.Words.{skip_blanks, blanks, same}
 use Rattle.parse.specs.Meaning.{command, byte_among, byte_named, is_pin, pin, field, given, ended, fields_from, named_meaning, text_meaning, meaning}
 use Rattle.parse.specs.Meaning as parse
 use Rattle.parse.proofs.Laws.{decimal_read}
 use Rattle.listing.specs.Listing.{numbers, no_pin, shown_fields, listed}
 use Rattle.text_laws.specs.Words.{plain}
+use Rattle.text_laws.proofs.Pin.{pin_missing}
 use Rattle.text_laws.proofs.Words.{decimal_plain, decimal_some, no_comment, word_front, behind_front, skip_none, skip_numbers, not_empty, no_dash}
 
 -- ---- the names of the table
@@ -64,11 +65,6 @@ field_next wide byte i n before v vs h =
 line_ends : (wide : Bool) (byte i : ℕ) (fields : List ℕ) → fields_from wide byte i 0 fields (numbers []) ≡ command byte fields
 unfolding fields_from ended numbers skip_blanks blanks
 line_ends wide byte i fields = refl
-
--- the pin that is missing
-pin_missing : (wide : Bool) (a b c : ℕ) → fields_from wide 0x10 3 1 (a ∷ b ∷ c ∷ 0 ∷ []) (numbers []) ≡ command 0x10 (a ∷ b ∷ c ∷ all_ones_of wide ∷ [])
-unfolding fields_from given field is_pin pin parse.no_pin ended numbers skip_blanks blanks word letters behind
-pin_missing wide a b c = refl
 
 -- ---- all fields
 
