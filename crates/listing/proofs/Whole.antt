@@ -30,7 +30,7 @@ module _ (wide : Bool) (byte : ℕ) (fields : Fields) (b : List ℕ) (at : ℕ) 
   fits = omega (arith, listed_length wide byte fields)
 
   pub listed_next : next ≡ at + length (listed wide byte (list_of fields))
-  listed_next = next_whole b at (listed wide byte (list_of fields)) fits b' next is
+  listed_next = next_whole b at (listed wide byte (list_of fields)) (omega (arith, listed_length wide byte fields)) b' next is
 
   pub listed_whole : b' ≡ take at b ++ listed wide byte (list_of fields) ++ drop (at + length (listed wide byte (list_of fields))) b
-  listed_whole = bytes_whole b at (listed wide byte (list_of fields)) fits b' next is
+  listed_whole = bytes_whole b at (listed wide byte (list_of fields)) (omega (arith, listed_length wide byte fields)) b' next is

@@ -261,7 +261,7 @@ fn store_idle(cpus: &mut [CpuWords], c: u64, q: RunQueue)
     }
 }
 
-#[tactic(auto, using(crate::specs::Parts::put_stored), unfolding(runqueue::specs::RunQueue::rq_insert_into))]
+#[tactic(auto, using(crate::proofs::Parts::put_stored), unfolding(runqueue::specs::RunQueue::rq_insert_into))]
 fn insert_realtime(cpus: &mut [CpuWords], c: u64, a: Arrival) -> u64
     ensures { (result ≡ (rq_insert_realtime (queue_at cpus.old c) a).behind)
         × (cpus.new ≡ queue_stored cpus.old c (rq_insert_realtime (queue_at cpus.old c) a).queue) }
@@ -272,7 +272,7 @@ fn insert_realtime(cpus: &mut [CpuWords], c: u64, a: Arrival) -> u64
     put.behind
 }
 
-#[tactic(auto, using(crate::specs::Parts::put_stored), unfolding(runqueue::specs::RunQueue::rq_insert_into))]
+#[tactic(auto, using(crate::proofs::Parts::put_stored), unfolding(runqueue::specs::RunQueue::rq_insert_into))]
 fn insert_timeshare(cpus: &mut [CpuWords], c: u64, a: Arrival) -> u64
     ensures { (result ≡ (rq_insert_timeshare (queue_at cpus.old c) a).behind)
         × (cpus.new ≡ queue_stored cpus.old c (rq_insert_timeshare (queue_at cpus.old c) a).queue) }
@@ -283,7 +283,7 @@ fn insert_timeshare(cpus: &mut [CpuWords], c: u64, a: Arrival) -> u64
     put.behind
 }
 
-#[tactic(auto, using(crate::specs::Parts::put_stored), unfolding(runqueue::specs::RunQueue::rq_insert_into))]
+#[tactic(auto, using(crate::proofs::Parts::put_stored), unfolding(runqueue::specs::RunQueue::rq_insert_into))]
 fn insert_idle(cpus: &mut [CpuWords], c: u64, a: Arrival) -> u64
     ensures { (result ≡ (rq_insert_idle (queue_at cpus.old c) a).behind)
         × (cpus.new ≡ queue_stored cpus.old c (rq_insert_idle (queue_at cpus.old c) a).queue) }
@@ -361,7 +361,7 @@ fn keeps(cpus: &[CpuWords], c: u64, stealing: bool) -> bool
 }
 
 // Who leaves if a thread is asked of the queue of CPU c.
-#[tactic(auto, using(crate::specs::Parts::front_kept, crate::specs::Parts::front_open))]
+#[tactic(auto, using(crate::proofs::Parts::front_kept, crate::proofs::Parts::front_open))]
 pub fn front(cpus: &[CpuWords], c: u64, stealing: bool) -> Front
     ensures { result ≡ rq_front (queue_at cpus.now c) stealing }
 {
@@ -371,7 +371,7 @@ pub fn front(cpus: &[CpuWords], c: u64, stealing: bool) -> Front
     front_realtime(cpus, c)
 }
 
-#[tactic(auto, using(crate::specs::Parts::left_stored), unfolding(runqueue::specs::RunQueue::rq_taken_from))]
+#[tactic(auto, using(crate::proofs::Parts::left_stored), unfolding(runqueue::specs::RunQueue::rq_taken_from))]
 fn taken_realtime(cpus: &mut [CpuWords], c: u64, bucket: u64, next: u64, pinned: bool)
     ensures { cpus.new ≡ queue_stored cpus.old c (rq_taken_realtime (queue_at cpus.old c) bucket NONE next pinned) }
 {
@@ -380,7 +380,7 @@ fn taken_realtime(cpus: &mut [CpuWords], c: u64, bucket: u64, next: u64, pinned:
     store_realtime(cpus, c, left);
 }
 
-#[tactic(auto, using(crate::specs::Parts::left_stored), unfolding(runqueue::specs::RunQueue::rq_taken_from))]
+#[tactic(auto, using(crate::proofs::Parts::left_stored), unfolding(runqueue::specs::RunQueue::rq_taken_from))]
 fn taken_timeshare(cpus: &mut [CpuWords], c: u64, bucket: u64, next: u64, value: u64, pinned: bool)
     ensures { cpus.new ≡ queue_stored cpus.old c (rq_taken_timeshare (queue_at cpus.old c) bucket NONE next value pinned) }
 {
@@ -389,7 +389,7 @@ fn taken_timeshare(cpus: &mut [CpuWords], c: u64, bucket: u64, next: u64, value:
     store_timeshare(cpus, c, left);
 }
 
-#[tactic(auto, using(crate::specs::Parts::left_stored), unfolding(runqueue::specs::RunQueue::rq_taken_from))]
+#[tactic(auto, using(crate::proofs::Parts::left_stored), unfolding(runqueue::specs::RunQueue::rq_taken_from))]
 fn taken_idle(cpus: &mut [CpuWords], c: u64, bucket: u64, next: u64, pinned: bool)
     ensures { cpus.new ≡ queue_stored cpus.old c (rq_taken_idle (queue_at cpus.old c) bucket NONE next pinned) }
 {
@@ -399,7 +399,7 @@ fn taken_idle(cpus: &mut [CpuWords], c: u64, bucket: u64, next: u64, pinned: boo
 }
 
 // Nobody has left.
-#[tactic(auto, using(crate::specs::Parts::again_stored))]
+#[tactic(auto, using(crate::proofs::Parts::again_stored))]
 fn taken_none(cpus: &mut [CpuWords], c: u64)
     ensures { cpus.new ≡ queue_stored cpus.old c (queue_at cpus.old c) }
 {
@@ -408,7 +408,7 @@ fn taken_none(cpus: &mut [CpuWords], c: u64)
 }
 
 // The thread that `front` answered, the first of its list, has left: its link was `next`, its value when it was put in `value`.
-#[tactic(auto, using(crate::specs::Parts::took_stored), unfolding(runqueue::specs::RunQueue::rq_taken_from, runqueue::specs::RunQueue::rq_taken))]
+#[tactic(auto, using(crate::proofs::Parts::took_stored), unfolding(runqueue::specs::RunQueue::rq_taken_from, runqueue::specs::RunQueue::rq_taken))]
 pub fn taken_front(cpus: &mut [CpuWords], c: u64, front: Front, next: u64, value: u64, pinned: bool)
     ensures { cpus.new ≡ queue_stored cpus.old c (rq_taken (queue_at cpus.old c) front NONE next value pinned) }
 {

@@ -1,11 +1,7 @@
 -- The constant table (src/table.rt) by its rule, and how the code reads it.
-use Rattle.std.specs.Prelude.{◌≡◌, ℕ, zero, suc, ◌+◌, ◌*◌, ◌/◌, ◌%◌, ◌^◌, ◌<◌, true, List, [], ◌∷◌, length, nat_eq, nat_lt, slice_index, slice_index_or, refl}
-use Rattle.std.proofs.Common.{sym, ◌∙◌, add-zero, zero-add, arith, eqb-true, lt-ltb, ltb-false}
-use Rattle.rules.proofs.Laws.Below.{all_below, at_below}
-use Rattle.rules.proofs.Laws.Line.{both}
-use Rattle.rules.proofs.Laws.Effect.{cut_below, offset_past}
-use Rattle.rules.specs.Priority.{nr_values, cut}
-use Rattle.rules.specs.Queue.{nr_buckets, width, realtime_bucket, offset}
+use Rattle.std.specs.Prelude.{◌≡◌, ℕ, zero, suc, ◌+◌, ◌*◌, ◌/◌, ◌%◌, ◌^◌, ◌<◌, List, [], ◌∷◌, length, slice_index}
+use Rattle.rules.specs.Priority.{nr_values}
+use Rattle.rules.specs.Queue.{realtime_bucket, offset}
 
 -- "Realtime bucket and timeshare offset come from a constant table of 256 numbers, two for each value": those of k values from v on
 unfoldable pub two_each : ℕ → ℕ → List ℕ
@@ -21,41 +17,12 @@ pub record ByRule (t : List ℕ) : Type 0 where
   pub buckets : (v : ℕ) → v < nr_values → slice_index t (2 * v) ≡ realtime_bucket v
   pub offsets : (v : ℕ) → v < nr_values → slice_index t (2 * v + 1) ≡ offset v
 
-entries_of : (w k : ℕ) → length (two_each w k) ≡ 2 * k
-unfolding two_each
-entries_of w zero = refl
-entries_of w (suc k) = rw (entries_of (suc w) k) (omega arith)
-
-two_at : (w k v : ℕ) → v < k → (slice_index (two_each w k) (2 * v) ≡ realtime_bucket (w + v)) × (slice_index (two_each w k) (2 * v + 1) ≡ offset (w + v))
-unfolding two_each
-two_at w zero v h = absurd (omega arith)
-two_at w (suc k) zero h = rw (add-zero w) (refl, refl)
-two_at w (suc k) (suc v) h =
-    let i : 2 * suc v ≡ suc (suc (2 * v)) = omega arith in
-    let j : 2 * suc v + 1 ≡ suc (suc (2 * v + 1)) = omega arith in
-    let e : w + suc v ≡ suc w + v = omega arith in
-    rw (j, i, e) (two_at (suc w) k v (omega arith))
-
-pub table_rule : ByRule table
-unfolding table nr_values
-table_rule = record {
-  entries = entries_of 0 128;
-  buckets = λ v h. rw (zero-add v) at (two_at 0 128 v h).0;
-  offsets = λ v h. rw (zero-add v) at (two_at 0 128 v h).1;
-}
-
 -- ---- how the code reads it: sixteen rows of sixteen numbers, a row in one word, four bits to a number
 
 -- the first k numbers of row r: each comes in at the highest four bits (times 2 ^ 60) and moves the others down, so that the first of sixteen ends lowest
 unfoldable pub packed : ℕ → List ℕ → ℕ → ℕ
 packed zero t r = 0
 packed (suc k) t r = packed k t r / 16 + slice_index t (r * 16 + k) % 16 * 1152921504606846976
-
--- it fits a word
-pub packed_below : (k : ℕ) (t : List ℕ) (r : ℕ) → packed k t r < 18446744073709551616
-unfolding packed
-packed_below zero t r = omega arith
-packed_below (suc k) t r = omega (arith, packed_below k t r)
 
 abbrev pub row_word : List ℕ → ℕ → ℕ
 row_word t r = packed 16 t (r % 16)
@@ -65,40 +32,5 @@ unfoldable pub entry : ℕ → ℕ
 entry i = slice_index table (i % 256)
 
 -- number n of the table out of its row's word
-abbrev unpacked : ℕ → ℕ
+abbrev pub unpacked : ℕ → ℕ
 unpacked n = row_word table (n / 16) / 2 ^ (n % 16 * 4) % 16
-
-read_back : all_below 256 (λ n. nat_eq (unpacked n) (slice_index table n)) ≡ true
-unfolding all_below packed table two_each nr_values realtime_bucket cut offset width nr_buckets
-read_back = refl
-
-pub entry_unpacked : (i : ℕ) → row_word table (i / 16) / 2 ^ (i % 16 * 4) % 16 ≡ entry i
-unfolding entry
-entry_unpacked i =
-    let h : i % 256 < 256 = omega arith in
-    let r : i % 256 / 16 % 16 ≡ i / 16 % 16 = omega arith in
-    let d : i % 256 % 16 ≡ i % 16 = omega arith in
-    let e : unpacked (i % 256) ≡ slice_index_or table (i % 256) 0 = eqb-true _ _ (at_below 256 _ read_back (i % 256) h) in
-    rw (r, d) at e
-
--- ---- the two numbers of any value
-
-cut_cut : (v : ℕ) → cut (cut v) ≡ cut v
-unfolding cut
-cut_cut v = rw (lt-ltb (cut v) nr_values (cut_below v))
-
-pub bucket_entry : (v : ℕ) → entry (2 * cut v) ≡ realtime_bucket v
-unfolding entry realtime_bucket nr_values
-bucket_entry v = let e : 2 * cut v % 256 ≡ 2 * cut v = omega (arith, cut_below v) in rw (e, table_rule.buckets (cut v) (cut_below v), cut_cut v)
-
-offset_127 : offset 127 ≡ 0
-unfolding offset nr_values width
-offset_127 = refl
-
-offset_cut : (v : ℕ) → offset (cut v) ≡ offset v
-unfolding cut
-offset_cut v = both (nat_lt v nr_values) (λ p. rw p) (λ p. rw p (offset_127 ∙ sym (offset_past v (ltb-false v nr_values p))))
-
-pub offset_entry : (v : ℕ) → entry (2 * cut v + 1) ≡ offset v
-unfolding entry nr_values
-offset_entry v = let e : (2 * cut v + 1) % 256 ≡ 2 * cut v + 1 = omega (arith, cut_below v) in rw (e, table_rule.offsets (cut v) (cut_below v)) (offset_cut v)

@@ -17,7 +17,7 @@ pub fn table() -> [u64; 256]
 }
 
 // Row r modulo 16 of a table, its first number in the lowest four bits.
-#[tactic(auto, using(crate::specs::Table::packed_below), unfolding(crate::specs::Table::packed))]
+#[tactic(auto, using(crate::proofs::TableRule::packed_below), unfolding(crate::specs::Table::packed))]
 fn packed(table: &[u64; 256], r: u64) -> u64
     ensures { result ≡ row_word table.now r }
 {
@@ -56,7 +56,7 @@ fn row(r: u64) -> u64
 }
 
 // Number i modulo 256 of the table.
-#[tactic(auto, using(crate::specs::Table::entry_unpacked))]
+#[tactic(auto, using(crate::proofs::TableRule::entry_unpacked))]
 pub fn entry(i: u64) -> u64
     ensures { result ≡ entry i }
 {

@@ -22,7 +22,7 @@ pub struct PriorityPut {
     pub behind: u64,
 }
 
-#[tactic(auto, using(crate::specs::Table::bucket_entry, rules::proofs::Laws::Effect::cut_below), unfolding(rules::specs::Priority::nr_values))]
+#[tactic(auto, using(crate::proofs::TableRule::bucket_entry, rules::proofs::Laws::Effect::cut_below), unfolding(rules::specs::Priority::nr_values))]
 pub fn realtime_bucket(value: u64) -> u64
     ensures { result ≡ realtime_bucket value }
 {

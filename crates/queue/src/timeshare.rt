@@ -26,7 +26,7 @@ pub struct TimesharePut {
     pub behind: u64,
 }
 
-#[tactic(auto, using(crate::specs::Table::offset_entry, rules::proofs::Laws::Effect::cut_below), unfolding(rules::specs::Priority::nr_values))]
+#[tactic(auto, using(crate::proofs::TableRule::offset_entry, rules::proofs::Laws::Effect::cut_below), unfolding(rules::specs::Priority::nr_values))]
 pub fn offset(value: u64) -> u64
     ensures { result ≡ offset value }
 {

@@ -166,7 +166,7 @@ pub fn take(threads: &mut [Thread], cpus: &mut [CpuWords], c: u64, stealing: boo
 }
 
 // The insert index of CPU c's queue moves on.
-#[tactic(auto, using(processor::specs::Parts::clock_stored), unfolding(crate::specs::Rq::clock_def))]
+#[tactic(auto, using(processor::proofs::Parts::clock_stored), unfolding(crate::specs::Rq::clock_def))]
 pub fn clock(cpus: &mut [CpuWords], c: u64)
     ensures { BecomesOne (clock_def c) cpus }
 {
@@ -176,7 +176,7 @@ pub fn clock(cpus: &mut [CpuWords], c: u64)
 }
 
 // CPU c has its hard tick: how many ticks passed since the last.
-#[tactic(auto, using(processor::specs::Parts::hardtick_stored), unfolding(crate::specs::Rq::hardtick_def))]
+#[tactic(auto, using(processor::proofs::Parts::hardtick_stored), unfolding(crate::specs::Rq::hardtick_def))]
 pub fn hardtick(cpus: &mut [CpuWords], c: u64, tick: u64) -> u64
     ensures { LeavesOne (hardtick_def c tick) result cpus }
 {

@@ -160,7 +160,7 @@ same_buffer true k n b l e = both (ltb n (length b))
     (λ h. rw (e, h))
 
 module _ (wide : Bool) (byte : ℕ) (fs b : List ℕ) where
-  refused_unknown : rules.has_row (widths (limits_of wide) byte) ≡ false
+  pub refused_unknown : rules.has_row (widths (limits_of wide) byte) ≡ false
       → (rules.refused 1 ≡ rules.write_answer (limits_of wide) byte fs (length b)) × (b ≡ rules.buffer_with (limits_of wide) byte fs b)
   unfolding rules.write_answer rules.buffer_with
   refused_unknown h =
@@ -193,11 +193,7 @@ module _ (wide : Bool) (byte : ℕ) (fs b : List ℕ) where
       k.1 ∙ (same_buffer (no_misfit wide byte fs) _ n b (sets b 0 (bytes_of (limits_of wide) byte fs)) long ∙ rw refusal_so refl),
     )
 
-large_row : (l : Limits) (byte : ℕ) → 256 ≤ byte → rules.has_row (widths l byte) ≡ false
+pub large_row : (l : Limits) (byte : ℕ) → 256 ≤ byte → rules.has_row (widths l byte) ≡ false
 large_row l byte h = both (rules.has_row (widths l byte))
     (λ e. absurd (omega (arith, ltb-true byte 256 (by_row (λ b. ltb b 256) (λ b. true) byte l e refl))))
     (λ e. e)
-
-pub large_answer : (wide : Bool) (byte : ℕ) (fs b : List ℕ) → 256 ≤ byte
-    → (rules.refused 1 ≡ rules.write_answer (limits_of wide) byte fs (length b)) × (b ≡ rules.buffer_with (limits_of wide) byte fs b)
-large_answer wide byte fs b h = refused_unknown wide byte fs b (large_row (limits_of wide) byte h)

@@ -1,6 +1,6 @@
 use Rattle.lines.specs.Lines.{refusal_number}
 use Rattle.writer.specs.Writer.{written_of}
-use Rattle.writer.proofs.Rows.{large_answer}
+use Rattle.writer.proofs.Large.{large_answer}
 use Rattle.writer.proofs.write_command.Goals as goal
 
 pub returns : goal.returns

@@ -1,6 +1,6 @@
 use Rattle.rules.specs.declared.Part.TheVariants as part
 use Rattle.runqueue.specs.RunQueue.{rq_insert_into}
-use Rattle.processor.specs.Parts.{put_stored}
+use Rattle.processor.proofs.Parts.{put_stored}
 use Rattle.processor.proofs.rq.insert_realtime.Goals as goal
 
 pub returns : goal.returns

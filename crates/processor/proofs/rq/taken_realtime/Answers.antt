@@ -1,6 +1,6 @@
 use Rattle.rules.specs.declared.Part.TheVariants as part
 use Rattle.runqueue.specs.RunQueue.{rq_taken_from}
-use Rattle.processor.specs.Parts.{left_stored}
+use Rattle.processor.proofs.Parts.{left_stored}
 use Rattle.processor.proofs.rq.taken_realtime.Goals as goal
 
 pub returns : goal.returns
