@@ -1,5 +1,5 @@
 -- What passes over C for an answer: numbers and Booleans for each case of its enums.
-use Rattle.std.specs.Prelude.{◌≡◌, refl, true, false, cond, ℕ, List, length}
+use Rattle.std.specs.Prelude.{true, false, cond, ℕ, List, length}
 use Rattle.rules.specs.Writer as rules
 use Rattle.lines.specs.Lines.{refusal_number}
 use Rattle.lines.specs.declared.Shown.{Shown}
@@ -15,7 +15,7 @@ use Rattle.command.specs.Lent.{Lent}
 use Rattle.command.specs.Command.{command_def}
 use Rattle.stream.specs.Start.{start_def}
 use Rattle.outcome.specs.declared.answer.Answered.{Answered}
-use Rattle.outcome.specs.Call.{refusal_back, refusal_again}
+use Rattle.outcome.specs.Call.{refusal_back}
 use Rattle.stream.specs.declared.start.Started.{Started}
 use Rattle.stream.specs.declared.start.Started.TheVariants as started
 use Rattle.scheduler.specs.declared.numbers.Column.{Column}
@@ -82,24 +82,6 @@ written_of (render.Refused r) = refused_with (refusal_number r)
 unfoldable pub wrote_of : rules.Written → Written
 wrote_of (rules.bytes n) = record { refusal = 0; bytes = n }
 wrote_of (rules.refused k) = refused_with k
-
--- ---- the line of a row is the line of the answer
-
-shown_again : (s : Shown) → shown_in (column_of s) ≡ s
-unfolding shown_in column_of
-shown_again (shown.Number n) = refl
-shown_again shown.Dash = refl
-
-running_again : (r : Running) → running_in (runs_of r) ≡ r
-unfolding running_in runs_of
-running_again (running.Thread x) = refl
-running_again running.Idle = refl
-running_again running.Dash = refl
-
-pub answer_again : (a : Answer) → answer_in (row_of a) ≡ a
-unfolding answer_in row_of
-answer_again a =
-    rw (refusal_again a.refusal, shown_again a.cpu, running_again a.running, shown_again a.load, shown_again a.wakeups) refl
 
 -- ---- what the two calls leave
 
