@@ -1,4 +1,4 @@
-// Answers as numbers and Booleans, which C takes: an enum does not pass over C. `answer-again` of specs/Numbers: none is lost.
+// Answers as numbers and Booleans, which C takes: an enum does not pass over C. `answer_again` of specs/Numbers: none is lost.
 ghost use Rattle.std.specs.Prelude.{◌≡◌};
 ghost use Rattle.outcome.specs.Call.{refusal_back};
 ghost use Rattle.scheduler.specs.Numbers.{column_of, shown_in, runs_of, running_in, row_of, answer_in, step_of, no_state, begun_of, refused_with, written_of, wrote_of};
