@@ -1,5 +1,5 @@
 -- ONCE SEALED, A CPU IS ALWAYS FOUND: after every list of calls with the seal among them, `select_cpu` on a declared CPU finds a CPU, in every world that a command
--- may come to. So the rules' clauses for "none found" (`scheduled-on` in Commands, `reinserted` in Schedule) are never taken.
+-- may come to. So the rules' clauses for "none found" (`scheduled_on` in Commands, `reinserted` in Schedule) are never taken.
 use Rattle.std.specs.Prelude.{ℕ, ◌<◌, ◌≡◌, refl, true, List}
 use Rattle.std.proofs.Common.{ap}
 use Rattle.std.proofs.lemmas.Bool.{false≢true}

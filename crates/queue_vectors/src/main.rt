@@ -1,5 +1,5 @@
 // The stored operations on four run queues (stdin; oracle/vectors/README.md), each put to lent thread records and CPU words by the functions of crate
-// lent; the answers are written as those of the original rq.rs and timeshare.rs are stored (stdout). 16 bytes to an operation, 48 to an answer.
+// records; the answers are written as those of the original rq.rs and timeshare.rs are stored (stdout). 16 bytes to an operation, 48 to an answer.
 #![tactic(auto)]
 
 mod answer;

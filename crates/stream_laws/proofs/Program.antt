@@ -34,7 +34,7 @@ module _ (h : LentState) (ready : Ready h) (calls : List Call) (c : Call) (to_co
   pub room_to_read : room_left r c ≡ true → (after r c).fed.phase ≢ ENDED → length (after r c).left_over + 4088 ≤ 4096
   room_to_read e n = omega (arith, few_left (next_settled h ready calls c to_come p enough e) n)
 
-  -- So the call at the end of the input, with these bytes alone, writes the end line; feed-ended says that the output is then whole.
+  -- So the call at the end of the input, with these bytes alone, writes the end line; feed_ended says that the output is then whole.
   pub ended_at_last : c.last ≡ true → length (in_hand r c) ≤ 8 → (after r c).fed.phase ≡ ENDED
   ended_at_last l few_bytes =
       both (room_left r c) (λ e. next_ends h ready calls c to_come p enough e l)
