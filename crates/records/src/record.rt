@@ -10,18 +10,18 @@ fn index(i: u64) -> usize
     i as usize
 }
 
-fn read(threads: &[Thread], i: usize) -> Thread
-    requires { i < length threads.now }
-    ensures { result ≡ get_or threads.now i blank }
+fn read(threads: &[Thread], k: usize) -> Thread
+    requires { k < length threads.now }
+    ensures { result ≡ get_or threads.now k blank }
 {
-    threads[i]
+    threads[k]
 }
 
-fn write(threads: &mut [Thread], i: usize, t: Thread)
-    requires { i < length threads.old }
-    ensures { threads.new ≡ set threads.old i t }
+fn write(threads: &mut [Thread], k: usize, t: Thread)
+    requires { k < length threads.old }
+    ensures { threads.new ≡ set threads.old k t }
 {
-    threads[i] = t;
+    threads[k] = t;
 }
 
 pub fn get(threads: &[Thread], i: u64) -> Thread
