@@ -1,3 +1,4 @@
+use native.Mathlib.Omega.{arith}
 use Rattle.lines.specs.Lines.{refusal_number}
 use Rattle.writer.specs.Writer.{written_of}
 use Rattle.writer.proofs.Large.{large_answer}
@@ -5,4 +6,4 @@ use Rattle.writer.proofs.write_command.Goals as goal
 
 pub returns : goal.returns
 unfolding written_of refusal_number
-returns c = large_answer _ _ _ _ c.if-byte-lt256.false
+returns c = large_answer _ _ _ _ (omega arith)
