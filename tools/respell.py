@@ -1,7 +1,7 @@
 #!/usr/bin/env python3
 """Turns the repository's own names in specs/, proofs/ and clauses to snake case, and its types to camel case.
 
-    tools/respell.py [ROOT]   rewrites the files under ROOT/crates in place; run once, after /opt/rattle/port/port.py
+    tools/respell.py [ROOT]   rewrites the files under ROOT/crates in place; run once, after the kit's port/port.py
 
 Own names are those that a file of specs/ or a file directly under proofs/ declares. A name with a dash becomes one with an underscore; one that begins with a
 capital and is not of capitals alone is a type, and its parts are joined. A lower-case name of a type (TYPES) gets a capital. What a file imports from outside the
