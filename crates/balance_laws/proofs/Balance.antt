@@ -1,6 +1,6 @@
 -- `balance`: TWICE THE CHOICES UNTIL ONE MOVES A THREAD, AND THE MOVE, ARE THE RULES' TURNS.
 use Prim.Native.Nat.{ℕ, zero, suc, ◌+◌, ◌≤◌, ◌<◌}
-use Rattle.std.specs.Prelude.{◌≡◌, ◌⊎◌, Bool, false, ◌&&◌, ◌||◌, List, ltb}
+use Rattle.std.specs.Prelude.{◌≡◌, ◌⊎◌, Bool, false, ◌&&◌, ◌||◌, List, ltb, is_some}
 use Rattle.std.proofs.Math.Path.{refl, ap, subst}
 use Rattle.std.proofs.Common.{sym, ◌∙◌, inl, true≢false, arith}
 use Rattle.std.proofs.Math.Logic.{inr}
@@ -43,7 +43,7 @@ going_on : (B : Balancing) → going B ≡ true → (B.goes_on ≡ true) × (B.s
 unfolding going
 going_on B e = (and_left B.goes_on _ e, ltb-true B.steps 20 (and_right B.goes_on _ e))
 
-done_moves : (b : step.Balancing) → b.moves ≡ true → is_done b ≡ true
+done_moves : (b : step.Balancing) → is_some b.moves ≡ true → is_done b ≡ true
 unfolding is_done
 done_moves b e = ap (λ (t : Bool). t || (not b.goes_on || leb 20 b.steps)) e
 
@@ -76,7 +76,7 @@ module _ (limits : Limits) (topology : Topology) (tick us : ℕ) (known : ℕ �
     unfolding moved
     met_moved m = record { shows = m.shows; safe = m.safe; words = m.words; allowed = m.allowed; steps = m.steps; goes_on = m.goes_on; counted = m.counted; few = m.few }
 
-    done_shown : {ts : List Thread} {cs : List (List ℕ)} {n : ℕ} {b : step.Balancing} {B : Balancing} → BalanceRep ts cs n b B → b.moves ≡ false → is_done b ≡ not (going B)
+    done_shown : {ts : List Thread} {cs : List (List ℕ)} {n : ℕ} {b : step.Balancing} {B : Balancing} → BalanceRep ts cs n b B → is_some b.moves ≡ false → is_done b ≡ not (going B)
     unfolding is_done going
     done_shown {b = b} {B = B} m stays =
         ap (λ (t : Bool). t || (not b.goes_on || leb 20 b.steps)) stays ∙ ap (λ (t : Bool). not t || leb 20 b.steps) m.goes_on
@@ -89,7 +89,7 @@ module _ (limits : Limits) (topology : Topology) (tick us : ℕ) (known : ℕ �
       pub same : left B ≡ left after
       pub ends : (going after ≡ false) ⊎ (far ≤ after.steps)
 
-    came_still : {ts : List Thread} {cs : List (List ℕ)} {n : ℕ} {b : step.Balancing} {B : Balancing} (far : ℕ) → BalanceRep ts cs n b B → b.moves ≡ false → going B ≡ false
+    came_still : {ts : List Thread} {cs : List (List ℕ)} {n : ℕ} {b : step.Balancing} {B : Balancing} (far : ℕ) → BalanceRep ts cs n b B → is_some b.moves ≡ false → going B ≡ false
         → BalanceAfter ts n (record { balancing = b; cpus = cs }) B far
     came_still {ts} {cs} {n} {b} {B} far m stays e = record {
       after = B;
@@ -99,7 +99,7 @@ module _ (limits : Limits) (topology : Topology) (tick us : ℕ) (known : ℕ �
     }
 
     pub found_law : (fuel : ℕ) (ts : List Thread) (cs : List (List ℕ)) (n : ℕ) (b : step.Balancing) (B : Balancing) (far : ℕ) → (going B ≡ true → 20 ≤ fuel + B.steps) → (going B ≡ true → far ≤ B.steps + 11)
-        → b.moves ≡ false → BalanceRep ts cs n b B → BalanceAfter ts n (find_move fuel cs nodes us limits.cpus b) B far
+        → is_some b.moves ≡ false → BalanceRep ts cs n b B → BalanceAfter ts n (find_move fuel cs nodes us limits.cpus b) B far
     found_law zero ts cs n b B far enough most stays m =
         both (going B)
         (λ g. absurd (omega (arith, enough g, (going_on B g).1)))
@@ -110,7 +110,7 @@ module _ (limits : Limits) (topology : Topology) (tick us : ℕ) (known : ℕ �
         let s : Balanced = balance_step_def cs nodes us limits.cpus b in
         let st = step_law limits topology tick us known numbered small early H us_in active base room nodes tree m stays (m.goes_on ∙ (going_on B g).0) (going_on B g).1 in
         subst (λ (r : Balanced). BalanceAfter ts n r B far) (sym (found_goes fuel cs nodes us limits.cpus b (done_shown m stays ∙ ap not g)))
-        (both s.balancing.moves
+        (both (is_some s.balancing.moves)
         (λ t. subst (λ (r : Balanced). BalanceAfter ts n r B far) (sym (found_stops fuel s.cpus nodes us limits.cpus s.balancing (done_moves s.balancing t)))
         (record { after = next B; meets = st.meets; same = rest_next limits topology tick us B g; ends = inr (omega (arith, most g, st.far t)) }))
         (λ t.

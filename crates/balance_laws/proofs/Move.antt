@@ -1,21 +1,21 @@
 -- ONE CHOICE OF `balance`, and the move that it comes to: memory that meets the rules' balancing meets it again after the rules' step.
 use Prim.Native.Nat.{ℕ, ◌+◌, ◌≤◌, ◌<◌}
-use Rattle.std.specs.Prelude.{◌≡◌, Bool, false, eqb, ltb}
+use Rattle.std.specs.Prelude.{◌≡◌, Bool, false, eqb, ltb, Option, None, Some, is_none, unwrap_or, is_some}
 use Rattle.std.proofs.Math.Path.{refl, sym, ap, subst}
 use Rattle.std.proofs.Common.{◌∙◌, true≢false, eqb-true, arith}
 use Rattle.std.proofs.Math.Bool.{true, cond, not}
-use Rattle.std.proofs.Math.Option.{Option, none, some}
 use mathlib.Core.List.{List, ◌∷◌}
 use Rattle.std.proofs.lemmas.Bool.{eqb-false}
+use Rattle.rules.specs.declared.choice.Pair.{Pair}
+use Rattle.rules.specs.declared.choice.Chosen.{Chosen}
 use Rattle.rules.specs.Line.{has}
 use Rattle.rules.proofs.Laws.Line.{both}
-use Rattle.rules.specs.Times.{is_some}
 use Rattle.rules.specs.Queue.{order, load, Next, nobody, next_in, asked, leave}
 use Rattle.rules.specs.Puts.{PutOrTake}
 use Rattle.rules.proofs.Laws.Kept.{asked_head}
 use Rattle.rules.specs.State.{at, Limits, Topology}
 use Rattle.rules.specs.Topology.{cpus_of}
-use Rattle.rules.specs.Choice.{Pair, no_pair, pair, Chosen, choose_cpu_balance}
+use Rattle.rules.specs.Choice.{pair_at, choose_cpu_balance}
 use Rattle.rules.specs.Schedule as sched
 use Rattle.rules.specs.Schedule.{World, Got, Balancing, with_cpu, with_thread, with_draws, set_rebalance, pinned_in}
 use Rattle.rules.proofs.Laws.Sound.{at_here, at_there, Sound, New, Taken, not_true_is, same_cpu_changed, sound_same, at_keeps}
@@ -27,29 +27,26 @@ use Rattle.thread.specs.Thread.{NONE}
 use Rattle.queue.specs.Num.{sum, sum_exact}
 use Rattle.runqueue.specs.declared.rq.RunQueue.{RunQueue}
 use Rattle.runqueue.specs.declared.rq.Front.{Front}
-use Rattle.runqueue.specs.declared.rq.Front.TheVariants as front
-use Rattle.runqueue.specs.RunQueue.{rq_front}
+use Rattle.runqueue.specs.RunQueue.{front_at, rq_front}
 use Rattle.processor.specs.Words.{word, put_word}
 use Rattle.processor.specs.Queue.{queue_at}
 use Rattle.processor.specs.Cpu as cpu
 use Rattle.processor.specs.Word.{LOAD, MUST_REBALANCE, RAND_STATE}
-use Rattle.records.specs.declared.rq.Taken as lent
-use Rattle.records.specs.declared.rq.Taken.TheVariants as taken
 use Rattle.records.specs.Rq.{took_from_def, take_def}
 use Rattle.represents.specs.World.{Small, WorldRep, most_tick}
 use Rattle.represents.proofs.Laws.Frames.{beside_put, in_rows, shows_must_rebalance, shows_draws, at_again}
-use Rattle.represents.proofs.Laws.PutTake.{active_with, as_taken, TakeShows}
+use Rattle.represents.proofs.Laws.PutTake.{active_with, TakeShows}
 use Rattle.represents.proofs.Laws.Numbers.{word_load, load_shown, current_load_shown}
 use Rattle.topology.specs.CpuSet as cpus
 use Rattle.topology.specs.CpuSet.{Sixteen, sixteen_remove, remove_same, remove_other}
 use Rattle.represents.specs.Topology.{TopologyRep}
 use Rattle.choice_laws.proofs.Memory.{balance_memory}
 use Rattle.sched_words.specs.declared.balance.Balancing as step
-use Rattle.sched_words.specs.Balance.{Balanced, passed, stopped, without, moving, is_somebody, hands_out, outcome, pair_step, pair_of_def, chosen_at, balance_step_def}
+use Rattle.sched_words.specs.Balance.{Balanced, passed, stopped, without, moving, hands_out, outcome, pair_step, pair_of_def, chosen_at, balance_step_def}
 use Rattle.records.specs.Left.{Memory, mem, Left}
 use Rattle.sched_words.specs.declared.context.Context.{Context}
-use Rattle.sched_queues.specs.Queues.{is_nobody, thread_of, schedule_thread_on_cpu_def, moved_for_def, take_from}
-use Rattle.sched_ticks.specs.Balance.{received, move_one_def}
+use Rattle.sched_queues.specs.Queues.{schedule_thread_on_cpu_def, moved_for_def, take_from}
+use Rattle.sched_ticks.specs.Balance.{received, move_made, move_one_def}
 use Rattle.sched_laws.proofs.Frames.{from_wakeups, put_one}
 use Rattle.sched_laws.specs.Hardtick.{context}
 use Rattle.sched_laws.proofs.Queues.{nobody_moved, shows_scheduled, counts_scheduled, from_handed, shows_taken_from}
@@ -59,41 +56,43 @@ use Rattle.balance_laws.proofs.Pairs.{chosen_in}
 
 -- ---- what a take answers
 
-somebody_answers : (ts : List Thread) (cs : List (List ℕ)) (c : ℕ) (f : Front) → is_somebody f ≡ not (is_nobody (took_from_def c f (mem ts cs)).answer)
-unfolding is_somebody is_nobody took_from_def
-somebody_answers ts cs c front.Nothing = refl
-somebody_answers ts cs c (front.At p b x) = refl
-
-nobody_left : (ts : List Thread) (cs : List (List ℕ)) (c : ℕ) (f : Front) → (took_from_def c f (mem ts cs)).answer ≡ taken.Nobody → ((took_from_def c f (mem ts cs)).memory.threads ≡ ts) × ((took_from_def c f (mem ts cs)).memory.cpus ≡ cs)
+somebody_answers : (ts : List Thread) (cs : List (List ℕ)) (c : ℕ) (f : Option Front) → is_some f ≡ is_some (took_from_def c f (mem ts cs)).answer
 unfolding took_from_def
-nobody_left ts cs c front.Nothing e = (refl, refl)
-nobody_left ts cs c (front.At p b x) e = let z : ◌≡◌ {A = ℕ} 0 1 = cc in absurd (omega arith)
+somebody_answers ts cs c None = refl
+somebody_answers ts cs c (Some f) = refl
 
-somebody_is : (o : Option ℕ) → not (is_nobody (as_taken o)) ≡ is_some o
-unfolding is_nobody as_taken is_some
-somebody_is none = refl
-somebody_is (some x) = refl
+nobody_left : (ts : List Thread) (cs : List (List ℕ)) (c : ℕ) (f : Option Front) → (took_from_def c f (mem ts cs)).answer ≡ None → ((took_from_def c f (mem ts cs)).memory.threads ≡ ts) × ((took_from_def c f (mem ts cs)).memory.cpus ≡ cs)
+unfolding took_from_def
+nobody_left ts cs c None e = (refl, refl)
+nobody_left ts cs c (Some f) e = let z : ◌≡◌ {A = ℕ} 0 1 = cc in absurd (omega arith)
 
-moved_answer : (r : ℕ) (g : Left lent.Taken Memory) → (moved_for_def r g).answer ≡ g.answer
+somebody_is : (o : Option ℕ) → not (is_none o) ≡ is_some o
+somebody_is None = refl
+somebody_is (Some x) = refl
+
+moved_answer : (r : ℕ) (g : Left (Option ℕ) Memory) → (moved_for_def r g).answer ≡ g.answer
 unfolding moved_for_def
-moved_answer r g = both (is_nobody g.answer) (λ e. rw e) (λ e. rw e)
+moved_answer r g = both (is_none g.answer) (λ e. rw e) (λ e. rw e)
 
 -- ---- a move
 
-pub move_none : (ts : List Thread) (cs : List (List ℕ)) (k : Context) (b : step.Balancing) (n : ℕ) → b.moves ≡ false → move_one_def k b n (mem ts cs) ≡ record { answer = n; memory = mem ts cs }
-unfolding move_one_def
-move_none ts cs k b n e =
-    ap (λ (t : Bool). cond (not t) (record { answer = n; memory = mem ts cs }) (received k b.recipient n (take_from b.donor b.recipient (mem ts cs)))) e
+move_made_none : (k : Context) (o : Option Pair) (n : ℕ) (m : Memory) → is_some o ≡ false → move_made k o n m ≡ record { answer = n; memory = m }
+unfolding move_made
+move_made_none k None n m e = refl
+move_made_none k (Some p) n m e = absurd (true≢false e)
 
-move_some : (ts : List Thread) (cs : List (List ℕ)) (k : Context) (b : step.Balancing) (n : ℕ) → b.moves ≡ true → move_one_def k b n (mem ts cs) ≡ received k b.recipient n (take_from b.donor b.recipient (mem ts cs))
-unfolding move_one_def
-move_some ts cs k b n e =
-    ap (λ (t : Bool). cond (not t) (record { answer = n; memory = mem ts cs }) (received k b.recipient n (take_from b.donor b.recipient (mem ts cs)))) e
+pub move_none : (ts : List Thread) (cs : List (List ℕ)) (k : Context) (b : step.Balancing) (n : ℕ) → is_some b.moves ≡ false → move_one_def k b n (mem ts cs) ≡ record { answer = n; memory = mem ts cs }
+move_none ts cs k b n e = move_made_none k b.moves n (mem ts cs) e
 
-received_some : (k : Context) (r n : ℕ) (g : Left lent.Taken Memory) (x : ℕ) → g.answer ≡ taken.Thread x → received k r n g ≡ schedule_thread_on_cpu_def k r x n g.memory
-unfolding received is_nobody thread_of
+move_some : (ts : List Thread) (cs : List (List ℕ)) (k : Context) (b : step.Balancing) (donor recipient n : ℕ)
+    → move_one_def k (moving b donor recipient) n (mem ts cs) ≡ received k recipient n (take_from donor recipient (mem ts cs))
+unfolding move_made moving
+move_some ts cs k b donor recipient n = refl
+
+received_some : (k : Context) (r n : ℕ) (g : Left (Option ℕ) Memory) (x : ℕ) → g.answer ≡ Some x → received k r n g ≡ schedule_thread_on_cpu_def k r x n g.memory
+unfolding received
 received_some k r n g x e =
-    ap (λ (a : lent.Taken). cond (is_nobody a) (record { answer = n; memory = g.memory }) (schedule_thread_on_cpu_def k r (thread_of a) n g.memory)) e
+    ap (λ (a : Option ℕ). cond (is_none a) (record { answer = n; memory = g.memory }) (schedule_thread_on_cpu_def k r (unwrap_or a NONE) n g.memory)) e
 
 -- us: the CPU that runs the command; base: the wake-ups counted before, which leave room for those of two moves
 module _ (limits : Limits) (topology : Topology) (tick us : ℕ) (known : ℕ → Bool) (numbered : (x : ℕ) → known x ≡ true → x < limits.threads) (small : Small limits)
@@ -110,7 +109,7 @@ module _ (limits : Limits) (topology : Topology) (tick us : ℕ) (known : ℕ �
   -- ---- the rules
 
   handed_waited : (w : World) (c : ℕ) (s : Bool) (x : ℕ) → OK w → (n : Next) → asked (pinned_in w) (w.cpus c).queue s ≡ n
-      → (sched.handed_out limits topology tick us w c s n).got ≡ some x → waits w c x ≡ true
+      → (sched.handed_out limits topology tick us w c s n).got ≡ Some x → waits w c x ≡ true
   unfolding sched.handed_out
   handed_waited w c s x d nobody a e = cc
   handed_waited w c s x d (next_in p j y) a e =
@@ -120,20 +119,20 @@ module _ (limits : Limits) (topology : Topology) (tick us : ℕ) (known : ℕ �
 
   moved_got : (r : ℕ) (o : Option ℕ) (w : World) → (sched.moved_for limits topology tick us r o w).got ≡ o
   unfolding sched.moved_for
-  moved_got r none w = refl
-  moved_got r (some x) w = refl
+  moved_got r None w = refl
+  moved_got r (Some x) w = refl
 
   -- the move of the rules, by what is taken
   abbrev taken_from : World → ℕ → ℕ → Got
   taken_from w donor recipient = sched.take_a_thread_from_cpu limits topology tick us w donor recipient
 
-  rules_some : (w : World) (allowed : ℕ → Bool) (n donor recipient x : ℕ) → (taken_from w donor recipient).got ≡ some x
+  rules_some : (w : World) (allowed : ℕ → Bool) (n donor recipient x : ℕ) → (taken_from w donor recipient).got ≡ Some x
       → sched.move_one limits topology tick us w allowed n donor recipient
       ≡ record { world = sched.schedule_thread_on_cpu limits topology tick us (taken_from w donor recipient).world recipient x; allowed = at allowed recipient false; steps = n + 11; goes_on = true }
   unfolding sched.move_one sched.received
   rules_some w allowed n donor recipient x e = ap (sched.received limits topology tick us (taken_from w donor recipient).world (at allowed recipient false) n recipient) e
 
-  rules_none : (w : World) (allowed : ℕ → Bool) (n donor recipient : ℕ) → (taken_from w donor recipient).got ≡ none
+  rules_none : (w : World) (allowed : ℕ → Bool) (n donor recipient : ℕ) → (taken_from w donor recipient).got ≡ None
       → sched.move_one limits topology tick us w allowed n donor recipient
       ≡ record { world = (taken_from w donor recipient).world; allowed = at allowed recipient false; steps = n + 1; goes_on = true }
   unfolding sched.move_one sched.received
@@ -146,10 +145,10 @@ module _ (limits : Limits) (topology : Topology) (tick us : ℕ) (known : ℕ �
 
   module _ {ts : List Thread} {cs : List (List ℕ)} {w : World} (s : WorldRep limits topology known active ts cs w) (safe : OK w) (donor recipient : ℕ) (donor_in : donor < limits.cpus)
       (recipient_in : recipient < limits.cpus) where
-    abbrev d : Left lent.Taken Memory
+    abbrev d : Left (Option ℕ) Memory
     d = take_from donor recipient (mem ts cs)
 
-    abbrev front_there : Front
+    abbrev front_there : Option Front
     front_there = rq_front (queue_at cs donor) (not (eqb recipient donor))
 
     abbrev g : Got
@@ -162,35 +161,34 @@ module _ (limits : Limits) (topology : Topology) (tick us : ℕ) (known : ℕ �
     taken_safe = from_handed limits topology tick us known numbered small early us_in H nobody_but w donor recipient safe
 
     -- the answer of the queue's own take
-    own_answer : (took_from_def donor front_there (mem ts cs)).answer ≡ as_taken g.got
+    own_answer : (took_from_def donor front_there (mem ts cs)).answer ≡ g.got
     unfolding take_from take_def
     own_answer = sym (moved_answer recipient (take_def donor (not (eqb recipient donor)) (mem ts cs))) ∙ taken_shows.answer
 
     hands_shown : hands_out cs donor recipient ≡ is_some g.got
     unfolding hands_out
-    hands_shown = somebody_answers ts cs donor front_there ∙ ap (λ (a : lent.Taken). not (is_nobody a)) own_answer ∙ somebody_is g.got
+    hands_shown = somebody_answers ts cs donor front_there ∙ ap (λ (a : Option ℕ). is_some a) own_answer
 
     left_shows : (o : Option ℕ) → g.got ≡ o → WorldRep limits topology known (active_with active o) d.memory.threads d.memory.cpus g.world
     left_shows o e = subst (λ (o : Option ℕ). WorldRep limits topology known (active_with active o) d.memory.threads d.memory.cpus g.world) e taken_shows.left
 
     -- nobody was handed out: only the rules' log has changed
-    none_shows : g.got ≡ none → WorldRep limits topology known active ts cs g.world
-    unfolding take_from take_def active_with as_taken
+    none_shows : g.got ≡ None → WorldRep limits topology known active ts cs g.world
+    unfolding take_from take_def active_with
     none_shows e =
-        let a : (took_from_def donor front_there (mem ts cs)).answer ≡ taken.Nobody = own_answer ∙ ap as_taken e in
+        let a : (took_from_def donor front_there (mem ts cs)).answer ≡ None = own_answer ∙ e in
         let l = nobody_left ts cs donor front_there a in
-        let k = subst (λ (t : Left lent.Taken Memory). WorldRep limits topology known active t.memory.threads t.memory.cpus g.world) (nobody_moved recipient (took_from_def donor front_there (mem ts cs)) a) (left_shows none e) in
+        let k = subst (λ (t : Left (Option ℕ) Memory). WorldRep limits topology known active t.memory.threads t.memory.cpus g.world) (nobody_moved recipient (took_from_def donor front_there (mem ts cs)) a) (left_shows None e) in
         subst (λ (r : List (List ℕ)). WorldRep limits topology known active ts r g.world) l.1
         (subst (λ (r : List Thread). WorldRep limits topology known active r (took_from_def donor front_there (mem ts cs)).memory.cpus g.world) l.0 k)
 
-    module _ (x : ℕ) (e : g.got ≡ some x) where
-      answered : d.answer ≡ taken.Thread x
-      unfolding as_taken
-      answered = taken_shows.answer ∙ ap as_taken e
+    module _ (x : ℕ) (e : g.got ≡ Some x) where
+      answered : d.answer ≡ Some x
+      answered = taken_shows.answer ∙ e
 
       moved_shows : WorldRep limits topology known (at active x true) d.memory.threads d.memory.cpus g.world
       unfolding active_with
-      moved_shows = left_shows (some x) e
+      moved_shows = left_shows (Some x) e
 
       moved_new : New limits known nobody_but g.world recipient x
       moved_new = record {
@@ -235,13 +233,13 @@ module _ (limits : Limits) (topology : Topology) (tick us : ℕ) (known : ℕ �
   abbrev Stepped : List Thread → ℕ → Balanced → ℕ → Balancing → Type 0
   Stepped ts n s before B = SteppedAt limits topology tick us known numbered small early H us_in active base room ts n s before B
 
-  still : {ts : List Thread} {n : ℕ} (s : Balanced) (before : ℕ) (B : Balancing) → s.balancing.moves ≡ false → Meets ts s.cpus n s.balancing B → Stepped ts n s before B
+  still : {ts : List Thread} {n : ℕ} (s : Balanced) (before : ℕ) (B : Balancing) → is_some s.balancing.moves ≡ false → Meets ts s.cpus n s.balancing B → Stepped ts n s before B
   still {ts} {n} s before B e m = record {
     meets = subst (λ (u : Left ℕ Memory). Meets u.memory.threads u.memory.cpus u.answer s.balancing B) (sym (move_none ts s.cpus k s.balancing n e)) m;
     far = λ t. absurd (true≢false (sym t ∙ e));
   }
 
-  module _ {ts : List Thread} {cs : List (List ℕ)} {n : ℕ} {b : step.Balancing} {B : Balancing} (m : Meets ts cs n b B) (stays : b.moves ≡ false) (on : b.goes_on ≡ true) (under : B.steps < 20) where
+  module _ {ts : List Thread} {cs : List (List ℕ)} {n : ℕ} {b : step.Balancing} {B : Balancing} (m : Meets ts cs n b B) (stays : is_some b.moves ≡ false) (on : b.goes_on ≡ true) (under : B.steps < 20) where
     abbrev w : World
     w = B.world
 
@@ -281,14 +279,14 @@ module _ (limits : Limits) (topology : Topology) (tick us : ℕ) (known : ℕ �
       hands_now : hands_out cs donor recipient ≡ is_some got.got
       unfolding hands_out
       hands_now =
-          ap (λ (q : RunQueue). is_somebody (rq_front q (not (eqb recipient donor)))) (sym ((beside_put cs donor 77 1 (in_rows m.shows donor donor_in) (omega arith) (omega arith)).queue donor))
+          ap (λ (q : RunQueue). is_some (rq_front q (not (eqb recipient donor)))) (sym ((beside_put cs donor 77 1 (in_rows m.shows donor donor_in) (omega arith) (omega arith)).queue donor))
           ∙ hands_shown marked_shows marked_safe donor recipient donor_in recipient_in
 
       abbrev moved_B : Balancing
       moved_B = sched.move_one limits topology tick us v B.allowed B.steps donor recipient
 
       -- nobody is handed out
-      move_nobody : got.got ≡ none → Stepped ts n (record { balancing = without b recipient; cpus = marked }) B.steps moved_B
+      move_nobody : got.got ≡ None → Stepped ts n (record { balancing = without b recipient; cpus = marked }) B.steps moved_B
       unfolding without
       move_nobody e =
           let r : moved_B ≡ record { world = got.world; allowed = at B.allowed recipient false; steps = B.steps + 1; goes_on = true } = rules_none v B.allowed B.steps donor recipient e in
@@ -305,7 +303,7 @@ module _ (limits : Limits) (topology : Topology) (tick us : ℕ) (known : ℕ �
           }))
 
       -- a thread moves
-      move_somebody : (x : ℕ) → got.got ≡ some x → Stepped ts n (record { balancing = moving b donor recipient; cpus = marked }) B.steps moved_B
+      move_somebody : (x : ℕ) → got.got ≡ Some x → Stepped ts n (record { balancing = moving b donor recipient; cpus = marked }) B.steps moved_B
       unfolding moving
       move_somebody x e =
           let r : moved_B ≡ record {
@@ -315,7 +313,7 @@ module _ (limits : Limits) (topology : Topology) (tick us : ℕ) (known : ℕ �
             goes_on = true;
           } = rules_some v B.allowed B.steps donor recipient x e in
           let t : move_one_def k (moving b donor recipient) n (mem ts marked) ≡ left marked_shows marked_safe donor recipient donor_in recipient_in x e n =
-          move_some ts marked k (moving b donor recipient) n refl ∙ received_some k recipient n (take_from donor recipient (mem ts marked)) x (answered marked_shows marked_safe donor recipient donor_in recipient_in x e) in
+          move_some ts marked k b donor recipient n ∙ received_some k recipient n (take_from donor recipient (mem ts marked)) x (answered marked_shows marked_safe donor recipient donor_in recipient_in x e) in
           record {
             meets = subst (λ (u : Left ℕ Memory). Meets u.memory.threads u.memory.cpus u.answer (moving b donor recipient) moved_B) (sym t)
                 (subst (λ (C : Balancing). Meets (left marked_shows marked_safe donor recipient donor_in recipient_in x e n).memory.threads (left marked_shows marked_safe donor recipient donor_in recipient_in x e n).memory.cpus
@@ -333,14 +331,13 @@ module _ (limits : Limits) (topology : Topology) (tick us : ℕ) (known : ℕ �
           }
 
       move_law : (o : Option ℕ) → got.got ≡ o → Stepped ts n (record { balancing = cond (is_some o) (moving b donor recipient) (without b recipient); cpus = marked }) B.steps moved_B
-      unfolding is_some
-      move_law none e = move_nobody e
-      move_law (some x) e = move_somebody x e
+      move_law None e = move_nobody e
+      move_law (Some x) e = move_somebody x e
 
       abbrev passed_B : (ℕ → Bool) → Balancing
       passed_B allowed = record { world = v; allowed = allowed; steps = B.steps + 1; goes_on = true }
 
-      kept_going : (b' : step.Balancing) (allowed : ℕ → Bool) → b'.moves ≡ false → b'.steps ≡ sum b.steps 1 → b'.goes_on ≡ true → Sixteen b'.allowed
+      kept_going : (b' : step.Balancing) (allowed : ℕ → Bool) → is_some b'.moves ≡ false → b'.steps ≡ sum b.steps 1 → b'.goes_on ≡ true → Sixteen b'.allowed
           → ((c : ℕ) → c < limits.cpus → cpus.contains b'.allowed c ≡ allowed c) → Stepped ts n (record { balancing = b'; cpus = marked }) B.steps (passed_B allowed)
       kept_going b' allowed z i o f a =
           still (record { balancing = b'; cpus = marked }) B.steps (passed_B allowed) z
@@ -393,18 +390,18 @@ module _ (limits : Limits) (topology : Topology) (tick us : ℕ) (known : ℕ �
           (λ e. rw e (move_law got.got refl))
           (λ e. rw e none_waits)
 
-      donor_law : Stepped ts n (pair_step cs b donor recipient) B.steps (sched.balance_pair limits topology tick us w B.allowed B.steps (pair donor recipient))
+      donor_law : Stepped ts n (pair_step cs b donor recipient) B.steps (sched.balance_pair limits topology tick us w B.allowed B.steps (pair_at donor recipient))
       unfolding sched.balance_pair
       donor_law =
-          subst (λ (s : Balanced). Stepped ts n s B.steps (sched.balance_pair limits topology tick us w B.allowed B.steps (pair donor recipient))) (sym pair_is)
+          subst (λ (s : Balanced). Stepped ts n s B.steps (sched.balance_pair limits topology tick us w B.allowed B.steps (pair_at donor recipient))) (sym pair_is)
           (both (eqb (sched.current_load (w.cpus donor)) 0) (λ e. rw e stop_law) (λ e. rw e on_law))
 
-    pair_law : (p : Pair) → PairUnder limits.cpus p → Stepped ts n (pair_of_def cs b p) B.steps (sched.balance_pair limits topology tick us w B.allowed B.steps p)
+    pair_law : (p : Option Pair) → PairUnder limits.cpus p → Stepped ts n (pair_of_def cs b p) B.steps (sched.balance_pair limits topology tick us w B.allowed B.steps p)
     unfolding pair_of_def passed sched.balance_pair PairUnder
-    pair_law no_pair h =
+    pair_law None h =
         still (record { balancing = passed b; cpus = cs }) B.steps (record { world = w; allowed = B.allowed; steps = B.steps + 1; goes_on = true }) stays
         (record { shows = m.shows; safe = m.safe; words = m.words; allowed = m.allowed; steps = one_more; goes_on = on; counted = m.counted; few = omega (arith, m.few) })
-    pair_law (pair donor recipient) h = donor_law donor recipient h.0 h.1
+    pair_law (Some p) h = donor_law p.donor p.recipient h.0 h.1
 
   -- the draws of a choice
   drawn_meets : {ts : List Thread} {cs : List (List ℕ)} {n : ℕ} {b : step.Balancing} {B : Balancing} → Meets ts cs n b B → (d : ℕ)
@@ -423,7 +420,7 @@ module _ (limits : Limits) (topology : Topology) (tick us : ℕ) (known : ℕ �
 
   module _ (nodes : List (List ℕ)) (tree : TopologyRep limits nodes topology) where
     -- ONE CHOICE AND THE MOVE THAT IT COMES TO ARE ONE STEP OF THE RULES
-    pub step_law : {ts : List Thread} {cs : List (List ℕ)} {n : ℕ} {b : step.Balancing} {B : Balancing} → Meets ts cs n b B → b.moves ≡ false → b.goes_on ≡ true → B.steps < 20
+    pub step_law : {ts : List Thread} {cs : List (List ℕ)} {n : ℕ} {b : step.Balancing} {B : Balancing} → Meets ts cs n b B → is_some b.moves ≡ false → b.goes_on ≡ true → B.steps < 20
         → Stepped ts n (balance_step_def cs nodes us limits.cpus b) B.steps (sched.balance_step limits topology tick us B)
     unfolding balance_step_def chosen_at sched.balance_step
     step_law {ts} {cs} {n} {b} {B} m stays on under =

@@ -1,16 +1,16 @@
 -- The turns of the rules' `balance`: twenty are enough, wherever one begins to count.
 use Prim.Native.Nat.{ℕ, zero, suc, ◌+◌, ◌≤◌, ◌<◌}
-use Rattle.std.specs.Prelude.{◌≡◌, Bool, true, false, ◌&&◌, eqb}
+use Rattle.std.specs.Prelude.{◌≡◌, Bool, true, false, ◌&&◌, eqb, Option, None, Some}
 use Rattle.std.proofs.Math.Path.{refl, ap}
 use Rattle.std.proofs.Common.{sym, ◌∙◌, le-ltb}
 use Rattle.std.proofs.lemmas.Bool.{false≢true}
-use Rattle.std.proofs.Math.Option.{Option, none, some}
 use Rattle.std.proofs.Math.Dec.{ltb}
 use native.Mathlib.Omega.{arith}
+use Rattle.rules.specs.declared.choice.Pair.{Pair}
 use Rattle.rules.proofs.Laws.Line.{both}
 use Rattle.rules.specs.Queue.{load}
 use Rattle.rules.specs.State.{Limits, Topology}
-use Rattle.rules.specs.Choice.{Pair, no_pair, pair}
+use Rattle.rules.specs.Choice.{pair_at}
 use Rattle.rules.specs.Schedule as sched
 use Rattle.rules.specs.Schedule.{World, Balancing, current_load}
 use Rattle.balance_laws.specs.Turns.{going}
@@ -28,17 +28,17 @@ module _ (limits : Limits) (topology : Topology) (tick us : ℕ) where
 
   received_more : (w : World) (allowed : ℕ → Bool) (n recipient : ℕ) (o : Option ℕ) → n < (sched.received limits topology tick us w allowed n recipient o).steps
   unfolding sched.received
-  received_more w allowed n recipient none = omega arith
-  received_more w allowed n recipient (some x) = omega arith
+  received_more w allowed n recipient None = omega arith
+  received_more w allowed n recipient (Some x) = omega arith
 
-  pair_more : (w : World) (allowed : ℕ → Bool) (n : ℕ) (p : Pair) → (sched.balance_pair limits topology tick us w allowed n p).goes_on ≡ true
+  pair_more : (w : World) (allowed : ℕ → Bool) (n : ℕ) (p : Option Pair) → (sched.balance_pair limits topology tick us w allowed n p).goes_on ≡ true
       → n < (sched.balance_pair limits topology tick us w allowed n p).steps
   unfolding sched.balance_pair sched.move_one
-  pair_more w allowed n no_pair = λ h. omega arith
-  pair_more w allowed n (pair donor recipient) =
-      both (eqb (current_load (w.cpus donor)) 0)
+  pair_more w allowed n None = λ h. omega arith
+  pair_more w allowed n (Some p) =
+      both (eqb (current_load (w.cpus p.donor)) 0)
       (λ e. rw e (λ h. absurd (false≢true h)))
-      (λ e. rw e (both (ltb 0 (load (w.cpus donor).queue)) (λ f. rw f (λ h. received_more _ _ n recipient _)) (λ f. rw f (λ h. omega arith))))
+      (λ e. rw e (both (ltb 0 (load (w.cpus p.donor).queue)) (λ f. rw f (λ h. received_more _ _ n p.recipient _)) (λ f. rw f (λ h. omega arith))))
 
   -- a turn that does not end it is a step at least
   pub step_more : (b : Balancing) → (step b).goes_on ≡ true → b.steps < (step b).steps

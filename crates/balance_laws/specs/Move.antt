@@ -1,6 +1,6 @@
 -- ONE CHOICE OF `balance`, and the move that it comes to: what memory says where it meets the rules' balancing, before and after.
 use Prim.Native.Nat.{ℕ, ◌+◌, ◌*◌, ◌≤◌, ◌<◌}
-use Rattle.std.specs.Prelude.{◌≡◌, Bool, true, List}
+use Rattle.std.specs.Prelude.{◌≡◌, Bool, true, List, is_some}
 use Rattle.rules.specs.Puts.{PutOrTake}
 use Rattle.rules.specs.State.{Limits, Topology}
 use Rattle.rules.specs.Schedule.{Balancing}
@@ -38,4 +38,4 @@ module _ (limits : Limits) (topology : Topology) (tick us : ℕ) (known : ℕ �
   -- after a choice and the move that it comes to; a choice that moves a thread is eleven steps
   pub record Stepped (ts : List Thread) (n : ℕ) (s : Balanced) (before : ℕ) (B : Balancing) : Type 0 where
     pub meets : Meets (move_one_def k s.balancing n (mem ts s.cpus)).memory.threads (move_one_def k s.balancing n (mem ts s.cpus)).memory.cpus (move_one_def k s.balancing n (mem ts s.cpus)).answer s.balancing B
-    pub far : s.balancing.moves ≡ true → before + 11 ≤ B.steps
+    pub far : is_some s.balancing.moves ≡ true → before + 11 ≤ B.steps

@@ -9,19 +9,9 @@ ghost use Rattle.blocks.specs.Block.{kept_count, kept_bytes};
 pub fn keep(input: &mut [u8], from: usize, n: usize) -> usize
     ensures { (result ≡ kept_count input.old from n) × (input.new ≡ kept_bytes input.old from n) }
 {
-    if input.len() < n {
+    if input.len() < n || n <= from {
         return 0;
     }
-    if n <= from {
-        return 0;
-    }
-    let count = n - from;
-    let mut i: usize = 0;
-    while i < count {
-        let j = from + i;
-        let byte = input[j];
-        input[i] = byte;
-        i += 1;
-    }
-    count
+    input.copy_within(from..n, 0);
+    n - from
 }

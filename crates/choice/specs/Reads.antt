@@ -1,11 +1,7 @@
 -- What the choice reads of the CPUs' words.
-use Rattle.std.specs.Prelude.{ℕ, ◌%◌, ◌^◌, ◌≡◌, refl, Bool, false, List}
-use Rattle.std.proofs.Math.Option.{Option, none, some}
+use Rattle.std.specs.Prelude.{ℕ, ◌%◌, ◌^◌, Bool, false, List, Option, None, Some}
 use Rattle.rules.specs.declared.Priority.{Priority}
 use Rattle.rules.specs.Priority.{less}
-use Rattle.thread.specs.declared.time.OptionCpu.{OptionCpu}
-use Rattle.thread.specs.declared.time.OptionCpu.TheVariants as cpu
-use Rattle.thread.specs.Reads.{named}
 use Rattle.processor.specs.Words.{word}
 use Rattle.processor.specs.Cpu.{current_load, current_priority}
 use Rattle.processor.specs.Word.{LOAD, MOVABLE, RAND_STATE}
@@ -31,24 +27,8 @@ movable_at cpus c = word cpus c MOVABLE
 
 -- the CPU passes over a thread of this priority, if one is given
 unfoldable pub skips_at : List (List ℕ) → Option Priority → ℕ → Bool
-skips_at cpus none c = false
-skips_at cpus (some p) c = less p (priority_at cpus c)
-
--- ---- a CPU or none, as the code answers it
-
-unfoldable pub as_cpu : Option ℕ → OptionCpu
-as_cpu none = cpu.None
-as_cpu (some c) = cpu.Some c
-
-pub as_named : (c : OptionCpu) → as_cpu (named c) ≡ c
-unfolding as_cpu named
-as_named cpu.None = refl
-as_named (cpu.Some c) = refl
-
-pub named_as : (c : Option ℕ) → named (as_cpu c) ≡ c
-unfolding as_cpu named
-named_as none = refl
-named_as (some c) = refl
+skips_at cpus None c = false
+skips_at cpus (Some p) c = less p (priority_at cpus c)
 
 -- the word of the draw state
 abbrev pub draw_word : ℕ

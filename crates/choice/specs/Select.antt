@@ -1,9 +1,10 @@
 -- `select_cpu` over the CPUs' and nodes' words, step by step as the Rust has it.
-use Rattle.std.specs.Prelude.{ℕ, Bool, false, cond, not, ◌&&◌, ◌||◌, List, eqb}
-use Rattle.std.proofs.Math.Option.{Option, none, some}
+use Rattle.std.specs.Prelude.{ℕ, Bool, false, cond, not, ◌&&◌, ◌||◌, List, eqb, Option, None, Some}
+use Rattle.rules.specs.declared.choice.Searched.{Searched}
+use Rattle.rules.specs.declared.choice.Best.{Best}
 use Rattle.rules.specs.declared.Priority.{Priority}
 use Rattle.rules.specs.Priority.{less}
-use Rattle.rules.specs.Choice.{Best, none_yet, best, Searched, find_cpu}
+use Rattle.rules.specs.Choice.{find_cpu}
 use Rattle.rules.specs.Schedule.{same_cpu}
 use Rattle.topology.specs.Walk.{visited_at}
 use Rattle.processor.specs.Words.{word, put_word}
@@ -15,16 +16,16 @@ unfoldable pub runs_at_once : List (List ℕ) → Priority → Option ℕ → �
 runs_at_once cpus p avoid c = not (same_cpu c avoid) && (eqb (queue_load_at cpus c) 0 || less (priority_at cpus c) p)
 
 unfoldable pub at_once : List (List ℕ) → Priority → Option ℕ → Option ℕ → Bool
-at_once cpus p avoid none = false
-at_once cpus p avoid (some c) = runs_at_once cpus p avoid c
+at_once cpus p avoid None = false
+at_once cpus p avoid (Some c) = runs_at_once cpus p avoid c
 
-unfoldable pub cpu_found : Best → Option ℕ
-cpu_found none_yet = none
-cpu_found (best s c) = some c
+unfoldable pub cpu_found : Option Best → Option ℕ
+cpu_found None = None
+cpu_found (Some b) = Some b.cpu
 
-unfoldable pub accepted : Option ℕ → Best → Bool
-accepted avoid none_yet = false
-accepted avoid (best s c) = not (same_cpu c avoid)
+unfoldable pub accepted : Option ℕ → Option Best → Bool
+accepted avoid None = false
+accepted avoid (Some b) = not (same_cpu b.cpu avoid)
 
 -- `find_cpu_from_topo` with a priority or none
 unfoldable pub search_from : List (List ℕ) → List (List ℕ) → ℕ → ℕ → Option Priority → ℕ → Searched
@@ -32,10 +33,10 @@ search_from cpus nodes us limit p draws = find_cpu us (skips_at cpus p) (weight_
 
 -- 2: the least loaded that will run the thread at once, if it is not to be avoided; else 3: the least loaded of all
 unfoldable pub search_again : List (List ℕ) → List (List ℕ) → ℕ → ℕ → Option ℕ → Searched → Searched
-search_again cpus nodes us limit avoid f = cond (accepted avoid f.found) f (search_from cpus nodes us limit none f.draws)
+search_again cpus nodes us limit avoid f = cond (accepted avoid f.found) f (search_from cpus nodes us limit None f.draws)
 
 unfoldable pub search_twice : List (List ℕ) → List (List ℕ) → ℕ → ℕ → Priority → Option ℕ → ℕ → Searched
-search_twice cpus nodes us limit p avoid draws = search_again cpus nodes us limit avoid (search_from cpus nodes us limit (some p) draws)
+search_twice cpus nodes us limit p avoid draws = search_again cpus nodes us limit avoid (search_from cpus nodes us limit (Some p) draws)
 
 -- the CPU chosen
 unfoldable pub select_cpu : List (List ℕ) → List (List ℕ) → ℕ → ℕ → Option ℕ → Priority → Option ℕ → Option ℕ

@@ -1,35 +1,30 @@
 -- The first CPU that passes a test, over the numbers of a node and over nodes.
-use Rattle.std.specs.Prelude.{ℕ, ◌+◌, ◌-◌, ◌≤◌, ◌<◌, ◌≡◌, Bool, cond, ◌&&◌, eqb}
+use Rattle.std.specs.Prelude.{ℕ, ◌+◌, ◌-◌, ◌≤◌, ◌<◌, ◌≡◌, Bool, cond, ◌&&◌, eqb, Option, None, Some, is_some}
 use Rattle.std.proofs.Math.Path.{refl}
 use Rattle.std.proofs.Common.{sym, ap, ◌∙◌}
 use Rattle.std.proofs.Math.Bool.{true, false}
-use Rattle.std.proofs.Math.Option.{Option, none, some}
 use mathlib.Core.List.{List, [], ◌∷◌, ◌++◌}
 use Rattle.rules.specs.State.{join_all}
 use Rattle.rules.proofs.Laws.Line.{both}
-use Rattle.rules.specs.Times.{is_some}
 use Rattle.rules.specs.Choice.{first_that}
-use Rattle.thread.specs.declared.time.OptionCpu.{OptionCpu}
-use Rattle.thread.specs.Reads.{named}
 use Rattle.topology.specs.Words.{word}
 use Rattle.topology.specs.Walk.{those_from, to_root, those_turn, those_end, root_turn}
-use Rattle.choice.specs.Reads.{as_cpu, named_as}
 
 module _ (donor : ℕ → Bool) where
   -- one turn of the loop over the numbers of a node
   pub first_turn : (test : ℕ → Bool) (c to : ℕ) → c < to
-      → first_that donor (those_from test c (to - c)) ≡ cond (test c && donor c) (some c) (first_that donor (those_from test (c + 1) (to - (c + 1))))
+      → first_that donor (those_from test c (to - c)) ≡ cond (test c && donor c) (Some c) (first_that donor (those_from test (c + 1) (to - (c + 1))))
   unfolding first_that
   first_turn test c to h =
       rw (those_turn test c to h)
       (both (test c) (λ p. rw p (both (donor c) (λ s. rw s) (λ s. rw s))) (λ p. rw p))
 
-  pub first_end : (test : ℕ → Bool) (c to : ℕ) → to ≤ c → first_that donor (those_from test c (to - c)) ≡ none
+  pub first_end : (test : ℕ → Bool) (c to : ℕ) → to ≤ c → first_that donor (those_from test c (to - c)) ≡ None
   unfolding first_that
   first_end test c to h = rw (those_end test c to h)
 
   first_found : (a b : List ℕ) → is_some (first_that donor a) ≡ true → first_that donor (a ++ b) ≡ first_that donor a
-  unfolding first_that is_some
+  unfolding first_that
   first_found [] b e = absurd_of e
     where
       absurd_of : {x y : Option ℕ} → false ≡ true → x ≡ y
@@ -37,7 +32,7 @@ module _ (donor : ℕ → Bool) where
   first_found (c ∷ a) b e = both (donor c) (λ s. rw s) (λ s. rw s (first_found a b (rw s at e)))
 
   first_not : (a b : List ℕ) → is_some (first_that donor a) ≡ false → first_that donor (a ++ b) ≡ first_that donor b
-  unfolding first_that is_some
+  unfolding first_that
   first_not [] b e = refl
   first_not (c ∷ a) b e = both (donor c) (λ s. absurd_of (rw s at e)) (λ s. rw s (first_not a b (rw s at e)))
     where
@@ -51,12 +46,12 @@ module _ (donor : ℕ → Bool) where
   first_here rows cpus w k n h e = rw (root_turn rows w k n h) (first_found (cpus n) _ e)
 
   pub first_on : (rows : List (List ℕ)) (cpus : ℕ → List ℕ) (w k n : ℕ) → 0 < k → is_some (first_that donor (cpus n)) ≡ false
-      → first_that donor (join_all cpus (to_root rows w k n)) ≡ cond (eqb n 0) none (first_that donor (join_all cpus (to_root rows w (k - 1) (word rows n w))))
+      → first_that donor (join_all cpus (to_root rows w k n)) ≡ cond (eqb n 0) None (first_that donor (join_all cpus (to_root rows w (k - 1) (word rows n w))))
   unfolding join_all first_that
   first_on rows cpus w k n h e =
       rw (root_turn rows w k n h, first_not (cpus n) (join_all cpus (cond (eqb n 0) [] (to_root rows w (k - 1) (word rows n w)))) e)
       (both (eqb n 0) (λ z. rw z) (λ z. rw z))
 
 -- what was found on a node, from the code's answer
-pub found_so : (found : OptionCpu) (x : Option ℕ) (r t : Bool) → found ≡ as_cpu x → r ≡ is_some (named found) → r ≡ t → is_some x ≡ t
-found_so found x r t e s u = ap is_some (sym (named_as x)) ∙ ap (λ (o : OptionCpu). is_some (named o)) (sym e) ∙ sym s ∙ u
+pub found_so : (found : Option ℕ) (x : Option ℕ) (r t : Bool) → found ≡ x → r ≡ is_some found → r ≡ t → is_some x ≡ t
+found_so found x r t e s u = ap is_some (sym e) ∙ sym s ∙ u

@@ -6,79 +6,55 @@ ghost use Rattle.topology.specs.CpuSet as set;
 ghost use Rattle.topology.specs.Node.{contains_at};
 ghost use Rattle.topology.specs.Walk.{those_from, cpus_at};
 ghost use Rattle.choice.specs.Reads.{weight_at};
-ghost use Rattle.choice.specs.Found.{best_in};
-ghost use Rattle.choice.specs.Balance.{extremes_in, pair_in, chosen_in, raised, unraised};
+ghost use Rattle.choice.specs.Balance.{raised, unraised};
 
-use crate::find::{Best, lower};
+use crate::find::lower;
 use crate::reads::score;
 use processor::cpu::current_load;
 use processor::random::next_state;
 use processor::words::CpuWords;
+use rules::choice::{Best, Chosen, Extremes, Pair};
 use topology::cpuset::CpuSet;
 use topology::node::{contains, end, first};
 use topology::words::NodeWords;
 
-// The highest score, and the lowest of the CPUs that did not raise the highest.
-#[derive(Clone, Copy)]
-pub struct Extremes {
-    pub highest: u64,
-    pub highest_score: u64,
-    pub lowest: Best,
-    pub draws: u64,
-}
-
-#[derive(Clone, Copy)]
-pub enum Pair {
-    Nothing,
-    Cpus { donor: u64, recipient: u64 },
-}
-
-// A donor and a recipient, or nothing, and the draw state after the draws.
-#[derive(Clone, Copy)]
-pub struct Chosen {
-    pub found: Pair,
-    pub draws: u64,
-}
-
 // CPU 0 has the highest score, 0, at first.
-#[tactic(auto, unfolding(crate::specs::Balance::extremes_in, crate::specs::Balance::unraised, crate::specs::Found::best_in))]
+#[tactic(auto, unfolding(crate::specs::Balance::unraised))]
 pub fn start(draws: u64) -> Extremes
-    ensures { extremes_in result ≡ unraised draws }
+    ensures { result ≡ unraised draws }
 {
     Extremes {
         highest: 0,
         highest_score: 0,
-        lowest: Best::Nothing,
+        lowest: None,
         draws,
     }
 }
 
 // A CPU is tested for the lowest only if it did not raise the highest.
-#[tactic(auto, unfolding(crate::specs::Balance::extremes_in, rules::specs::Choice::weigh))]
+#[tactic(auto, unfolding(rules::specs::Choice::weigh))]
 pub fn weigh(e: Extremes, s: u64, c: u64, draws: u64) -> Extremes
-    ensures { extremes_in result ≡ rule.weigh (extremes_in e) s c draws }
+    ensures { result ≡ rule.weigh e s c draws }
 {
-    let found = e.lowest;
     if e.highest_score < s {
-        return Extremes {
+        Extremes {
             highest: c,
             highest_score: s,
-            lowest: found,
             draws,
-        };
-    }
-    let lowest = lower(found, s, c);
-    Extremes {
-        highest: e.highest,
-        highest_score: e.highest_score,
-        lowest,
-        draws,
+            ..e
+        }
+    } else {
+        Extremes {
+            lowest: lower(e.lowest, s, c),
+            draws,
+            ..e
+        }
     }
 }
 
-#[tactic(auto, unfolding(crate::specs::Balance::raised, crate::specs::Reads::weight_at, crate::specs::Balance::extremes_in))]
+#[tactic(auto, unfolding(crate::specs::Balance::raised, crate::specs::Reads::weight_at))]
 pub fn raise(cpus: &[CpuWords], us: u64, c: u64, e: Extremes) -> Extremes
-    ensures { extremes_in result ≡ raised us (weight_at cpus.now) c (extremes_in e) }
+    ensures { result ≡ raised us (weight_at cpus.now) c e }
 {
     let draws = next_state(us, e.draws);
     let s = score(current_load(cpus, c), draws);
@@ -89,10 +65,7 @@ pub fn raise(cpus: &[CpuWords], us: u64, c: u64, e: Extremes) -> Extremes
 fn counts(nodes: &[NodeWords], allowed: CpuSet, n: u64, c: u64) -> bool
     ensures { result ≡ (contains_at nodes.now n c && set.contains allowed c) }
 {
-    if contains(nodes, n, c) {
-        return allowed.contains(c);
-    }
-    false
+    contains(nodes, n, c) && allowed.contains(c)
 }
 
 #[tactic(auto, using(crate::specs::Balance::extremes_end, crate::specs::Balance::extremes_no, crate::specs::Balance::extremes_yes))]
@@ -106,45 +79,33 @@ pub fn balance_range(
     to: u64,
     so_far: Extremes,
 ) -> Extremes
-    ensures { extremes_in result
-        ≡ extremes us (set.contains allowed) (weight_at cpus.now) (those_from (contains_at nodes.now n) from (to - from)) (extremes_in so_far) }
+    ensures { result
+        ≡ extremes us (set.contains allowed) (weight_at cpus.now) (those_from (contains_at nodes.now n) from (to - from)) so_far }
 {
     let mut e = so_far;
-    let mut c = from;
-    while c < to {
+    for c in from..to {
         if counts(nodes, allowed, n, c) {
             e = raise(cpus, us, c, e);
         }
-        c += 1;
     }
     e
 }
 
-#[tactic(auto, unfolding(crate::specs::Balance::pair_in, rules::specs::Choice::pair_of))]
-pub fn pair_unless(highest: u64, c: u64) -> Pair
-    ensures { pair_in result ≡ rule.pair_of highest (rule.best 0 c) }
-{
-    if c == highest {
-        return Pair::Nothing;
-    }
-    Pair::Cpus {
-        donor: highest,
-        recipient: c,
-    }
-}
-
-#[tactic(auto, unfolding(crate::specs::Balance::pair_in, rules::specs::Choice::pair_of, crate::specs::Found::best_in))]
-pub fn pair_of(highest: u64, lowest: Best) -> Pair
-    ensures { pair_in result ≡ rule.pair_of highest (best_in lowest) }
+#[tactic(auto, unfolding(rules::specs::Choice::pair_of))]
+pub fn pair_of(highest: u64, lowest: Option<Best>) -> Option<Pair>
+    ensures { result ≡ rule.pair_of highest lowest }
 {
     match lowest {
-        Best::Nothing => Pair::Nothing,
-        Best::Cpu { score: _, cpu } => pair_unless(highest, cpu),
+        Some(best) if best.cpu != highest => Some(Pair {
+            donor: highest,
+            recipient: best.cpu,
+        }),
+        _ => None,
     }
 }
 
 // Over the CPUs of the root that are allowed, ascending: one draw for each.
-#[tactic(auto, unfolding(crate::specs::Balance::chosen_in, rules::specs::Choice::choose_cpu_balance, topology::specs::Walk::cpus_at, crate::specs::Balance::unraised, crate::specs::Balance::extremes_in, crate::specs::Balance::finished))]
+#[tactic(auto, unfolding(rules::specs::Choice::choose_cpu_balance, topology::specs::Walk::cpus_at, crate::specs::Balance::unraised, crate::specs::Balance::finished))]
 pub fn choose_cpu_balance(
     cpus: &[CpuWords],
     nodes: &[NodeWords],
@@ -153,17 +114,14 @@ pub fn choose_cpu_balance(
     allowed: CpuSet,
     draws: u64,
 ) -> Chosen
-    ensures { chosen_in result
+    ensures { result
         ≡ choose_cpu_balance us (set.contains allowed) (weight_at cpus.now) (cpus_at nodes.now limit 0) draws }
 {
     let from = first(nodes, 0);
     let to = end(nodes, 0, limit);
-    let s = start(draws);
-    let e = balance_range(cpus, nodes, us, allowed, 0, from, to, s);
-    let lowest = e.lowest;
-    let found = pair_of(e.highest, lowest);
+    let e = balance_range(cpus, nodes, us, allowed, 0, from, to, start(draws));
     Chosen {
-        found,
+        found: pair_of(e.highest, e.lowest),
         draws: e.draws,
     }
 }

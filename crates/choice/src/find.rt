@@ -3,76 +3,47 @@ ghost use Rattle.std.specs.Prelude.{◌≡◌, ◌-◌};
 ghost use Rattle.rules.specs.Choice.{lower, find_cpu};
 ghost use Rattle.topology.specs.Node.{contains_at};
 ghost use Rattle.topology.specs.Walk.{those_from, leaf_cpus, visited_at};
-ghost use Rattle.thread.specs.Reads.{held};
 ghost use Rattle.choice.specs.Reads.{weight_at, skips_at};
-ghost use Rattle.choice.specs.Found.{best_in, searched_in, weighed, considered, begun};
+ghost use Rattle.choice.specs.Found.{weighed, considered, begun};
 
 use crate::reads::{score, skips};
 use processor::cpu::current_load;
 use processor::random::next_state;
 use processor::words::CpuWords;
-use thread::priority::OptionPriority;
+use rules::Priority;
+use rules::choice::{Best, Searched};
 use topology::node::{NEXT, contains, end, first, has_children};
 use topology::words::{NodeWords, word};
 
-// The CPU found so far, with its score.
-#[derive(Clone, Copy)]
-pub enum Best {
-    Nothing,
-    Cpu { score: u64, cpu: u64 },
-}
-
-// What a search found, and the draw state after its draws.
-#[derive(Clone, Copy)]
-pub struct Searched {
-    pub found: Best,
-    pub draws: u64,
-}
-
-#[tactic(auto, unfolding(crate::specs::Found::searched_in, crate::specs::Found::begun, crate::specs::Found::best_in))]
+#[tactic(auto, unfolding(crate::specs::Found::begun))]
 pub fn begin(draws: u64) -> Searched
-    ensures { searched_in result ≡ begun draws }
+    ensures { result ≡ begun draws }
 {
-    Searched {
-        found: Best::Nothing,
-        draws,
-    }
+    Searched { found: None, draws }
 }
 
 // The first of equals wins.
-#[tactic(auto, unfolding(crate::specs::Found::best_in, rules::specs::Choice::lower))]
-pub fn lower_of(least: u64, found: u64, score: u64, cpu: u64) -> Best
-    ensures { best_in result ≡ lower (best_in (Best.Cpu least found)) score cpu }
-{
-    if score < least {
-        return Best::Cpu { score, cpu };
-    }
-    Best::Cpu {
-        score: least,
-        cpu: found,
-    }
-}
-
-#[tactic(auto, unfolding(crate::specs::Found::best_in, rules::specs::Choice::lower))]
-pub fn lower(found: Best, score: u64, cpu: u64) -> Best
-    ensures { best_in result ≡ lower (best_in found) score cpu }
+#[tactic(auto, unfolding(rules::specs::Choice::lower))]
+pub fn lower(found: Option<Best>, score: u64, cpu: u64) -> Option<Best>
+    ensures { result ≡ lower found score cpu }
 {
     match found {
-        Best::Nothing => Best::Cpu { score, cpu },
-        Best::Cpu { score: s, cpu: c } => lower_of(s, c, score, cpu),
+        Some(best) if best.score <= score => found,
+        _ => Some(Best { score, cpu }),
     }
 }
 
 // A CPU that is not skipped: one draw, and its score beside the lowest so far.
-#[tactic(auto, unfolding(crate::specs::Found::searched_in, crate::specs::Found::weighed, crate::specs::Reads::weight_at))]
+#[tactic(auto, unfolding(crate::specs::Found::weighed, crate::specs::Reads::weight_at))]
 pub fn weigh(cpus: &[CpuWords], us: u64, c: u64, so_far: Searched) -> Searched
-    ensures { searched_in result ≡ weighed us (weight_at cpus.now) c (searched_in so_far) }
+    ensures { result ≡ weighed us (weight_at cpus.now) c so_far }
 {
     let draws = next_state(us, so_far.draws);
     let s = score(current_load(cpus, c), draws);
-    let found = so_far.found;
-    let best = lower(found, s, c);
-    Searched { found: best, draws }
+    Searched {
+        found: lower(so_far.found, s, c),
+        draws,
+    }
 }
 
 // One number of a leaf's range: weighed if it is a CPU of the leaf and is not skipped.
@@ -81,21 +52,19 @@ pub fn consider(
     cpus: &[CpuWords],
     nodes: &[NodeWords],
     us: u64,
-    pri: OptionPriority,
+    pri: Option<Priority>,
     n: u64,
     c: u64,
     so_far: Searched,
 ) -> Searched
-    ensures { searched_in result
-        ≡ considered us (skips_at cpus.now (held pri)) (weight_at cpus.now) (contains_at nodes.now n) c (searched_in so_far) }
+    ensures { result
+        ≡ considered us (skips_at cpus.now pri) (weight_at cpus.now) (contains_at nodes.now n) c so_far }
 {
-    if contains(nodes, n, c) {
-        if skips(cpus, pri, c) {
-            return so_far;
-        }
-        return weigh(cpus, us, c, so_far);
+    if contains(nodes, n, c) && !skips(cpus, pri, c) {
+        weigh(cpus, us, c, so_far)
+    } else {
+        so_far
     }
-    so_far
 }
 
 // The CPUs of a node from one number to below another, ascending.
@@ -104,21 +73,19 @@ pub fn search_range(
     cpus: &[CpuWords],
     nodes: &[NodeWords],
     us: u64,
-    pri: OptionPriority,
+    pri: Option<Priority>,
     n: u64,
     from: u64,
     to: u64,
     so_far: Searched,
 ) -> Searched
-    ensures { searched_in result
-        ≡ find_cpu us (skips_at cpus.now (held pri)) (weight_at cpus.now) (those_from (contains_at nodes.now n) from (to - from))
-        (searched_in so_far) }
+    ensures { result
+        ≡ find_cpu us (skips_at cpus.now pri) (weight_at cpus.now) (those_from (contains_at nodes.now n) from (to - from))
+        (so_far) }
 {
     let mut f = so_far;
-    let mut c = from;
-    while c < to {
+    for c in from..to {
         f = consider(cpus, nodes, us, pri, n, c, f);
-        c += 1;
     }
     f
 }
@@ -130,12 +97,12 @@ pub fn search_leaf(
     nodes: &[NodeWords],
     us: u64,
     limit: u64,
-    pri: OptionPriority,
+    pri: Option<Priority>,
     n: u64,
     so_far: Searched,
 ) -> Searched
-    ensures { searched_in result
-        ≡ find_cpu us (skips_at cpus.now (held pri)) (weight_at cpus.now) (leaf_cpus nodes.now limit n) (searched_in so_far) }
+    ensures { result
+        ≡ find_cpu us (skips_at cpus.now pri) (weight_at cpus.now) (leaf_cpus nodes.now limit n) so_far }
 {
     if has_children(nodes, n) {
         return so_far;
@@ -152,22 +119,20 @@ pub fn find_cpu_from_topo(
     nodes: &[NodeWords],
     us: u64,
     limit: u64,
-    pri: OptionPriority,
+    pri: Option<Priority>,
     draws: u64,
 ) -> Searched
-    ensures { searched_in result
-        ≡ find_cpu us (skips_at cpus.now (held pri)) (weight_at cpus.now) (visited_at nodes.now limit) (begun draws) }
+    ensures { result
+        ≡ find_cpu us (skips_at cpus.now pri) (weight_at cpus.now) (visited_at nodes.now limit) (begun draws) }
 {
     let mut f = begin(draws);
     let mut n = word(nodes, 0, NEXT);
-    let mut fuel = nodes.len();
-    while 0 < fuel {
+    for _i in 0..nodes.len() {
         f = search_leaf(cpus, nodes, us, limit, pri, n, f);
         if n == 0 {
             return f;
         }
         n = word(nodes, n, NEXT);
-        fuel -= 1;
     }
     f
 }

@@ -2,13 +2,13 @@
 ghost use Rattle.std.specs.Prelude.{◌≡◌, ◌%◌, ◌^◌};
 ghost use Rattle.rules.specs.Choice as choice;
 ghost use Rattle.rules.specs.Draw.{draw};
-ghost use Rattle.thread.specs.Reads.{held};
 ghost use Rattle.choice.specs.Reads.{skips_at, movable_at, queue_load_at};
 
 use processor::cpu::current_priority;
 use processor::random::draw;
 use processor::words::{CpuWords, LOAD, MOVABLE, word};
-use thread::priority::{OptionPriority, less};
+use rules::Priority;
+use thread::priority::less;
 
 // 256 times the load, modulo 2^64, less the draw modulo 128, not below 0. The product of the last 56 bits is the wrapping one.
 #[tactic(auto, unfolding(rules::specs::Choice::score))]
@@ -16,22 +16,15 @@ pub fn score(load: u64, state: u64) -> u64
     ensures { result ≡ choice.score (load % 2 ^ 56) (draw state) }
 {
     let whole = load % 72057594037927936 * 256;
-    let jitter = draw(state) % 128;
-    if jitter < whole {
-        return whole - jitter;
-    }
-    0
+    whole.saturating_sub(draw(state) % 128)
 }
 
 // Is the CPU skipped in a search for a thread of this priority, if one is given?
-#[tactic(auto, unfolding(crate::specs::Reads::skips_at, thread::specs::Reads::held))]
-pub fn skips(cpus: &[CpuWords], pri: OptionPriority, c: u64) -> bool
-    ensures { result ≡ skips_at cpus.now (held pri) c }
+#[tactic(auto, unfolding(crate::specs::Reads::skips_at))]
+pub fn skips(cpus: &[CpuWords], pri: Option<Priority>, c: u64) -> bool
+    ensures { result ≡ skips_at cpus.now pri c }
 {
-    match pri {
-        OptionPriority::Some(p) => less(p, current_priority(cpus, c)),
-        OptionPriority::None => false,
-    }
+    pri.is_some_and(|p| less(p, current_priority(cpus, c)))
 }
 
 // How many wait in its queue, and how many of them are not pinned.

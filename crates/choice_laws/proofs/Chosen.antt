@@ -1,12 +1,14 @@
 -- On words that are a tree of nodes and show the CPUs of a world, each choice is the choice of the rules.
 use Prim.Native.Nat.{ℕ, zero, suc, ◌<◌}
-use Rattle.std.specs.Prelude.{◌≡◌, Bool, true, cond, eqb}
+use Rattle.std.specs.Prelude.{◌≡◌, Bool, true, cond, eqb, Option, None, Some}
 use Rattle.std.proofs.Math.Path.{refl, ap}
 use Rattle.std.proofs.Common.{sym, ◌∙◌, mod-eq_of_lt, eq-eqb}
 use Rattle.std.proofs.lemmas.Bool.{false≢true}
 use Rattle.std.proofs.Math.Bool.{or-true}
-use Rattle.std.proofs.Math.Option.{Option, none, some}
 use mathlib.Core.List.{List, [], ◌∷◌}
+use Rattle.rules.specs.declared.choice.Searched.{Searched}
+use Rattle.rules.specs.declared.choice.Extremes.{Extremes}
+use Rattle.rules.specs.declared.choice.Best.{Best}
 use Rattle.rules.specs.declared.Priority.{Priority}
 use Rattle.rules.specs.Line.{has}
 use Rattle.rules.proofs.Laws.Line.{both, has_append}
@@ -16,7 +18,7 @@ use Rattle.rules.specs.Queue.{load}
 use Rattle.rules.specs.State.{at, Limits, Topology, Cpu, join_all}
 use Rattle.rules.specs.Topology.{nr_nodes, children, leaf, cpus_of, visits, visited, nearest_from, nearest, above}
 use Rattle.rules.specs.Choice as rule
-use Rattle.rules.specs.Choice.{Best, none_yet, best, Searched, find_cpu, first_that, may_steal_from, Extremes, extremes, choose_cpu_balance}
+use Rattle.rules.specs.Choice.{best_at, find_cpu, first_that, may_steal_from, extremes, choose_cpu_balance}
 use Rattle.rules.specs.Schedule as sched
 use Rattle.rules.specs.Schedule.{World, Got, with_cpu, with_draws, current_load, current_priority, movable_on, same_cpu, skips, cpu_of}
 use Rattle.rules.proofs.Laws.Sound.{at_keeps, at_here}
@@ -82,8 +84,8 @@ module _ (limits : Limits) (t : Topology) where
 
   nearest_below : (o : Option ℕ) (c : ℕ) → has c (nearest_from limits t o) ≡ true → c < limits.cpus
   unfolding nearest_from has
-  nearest_below none c h = absurd (false≢true h)
-  nearest_below (some m) c h = join_from (c < limits.cpus) c (cpus_of limits t) (above limits t m) (λ x q. cpus_below x c q) h
+  nearest_below None c h = absurd (false≢true h)
+  nearest_below (Some m) c h = join_from (c < limits.cpus) c (cpus_of limits t) (above limits t m) (λ x q. cpus_below x c q) h
 
 -- ---- the laws
 
@@ -95,8 +97,8 @@ module _ (limits : Limits) (t : Topology) (tick us : ℕ) (cpus nodes : List (Li
 
     skipped : (p : Option Priority) (c : ℕ) → c < limits.cpus → skips_at cpus p c ≡ skips limits t tick us w p c
     unfolding skips_at skips
-    skipped none c h = refl
-    skipped (some p) c h = ap (less p) (shows.priorities c h)
+    skipped None c h = refl
+    skipped (Some p) c h = ap (less p) (shows.priorities c h)
 
     -- THE SEARCH OF THE TREE
     pub find_law : (p : Option Priority) (draws : ℕ)
@@ -112,14 +114,14 @@ module _ (limits : Limits) (t : Topology) (tick us : ℕ) (cpus nodes : List (Li
     unfolding may_steal_from
     may c h = rw (shows.loads c h, shows.movables c h)
 
-    pub steal_law : (m : ℕ) → t.placed us ≡ some m
+    pub steal_law : (m : ℕ) → t.placed us ≡ Some m
         → first_that (may_steal_from us (load_at cpus) (movable_at cpus)) (nearest_at nodes limits.cpus m) ≡ sched.choose_cpu_steal_via_topo limits t tick us w
     unfolding sched.choose_cpu_steal_via_topo nearest
     steal_law m e =
         rw e
         (ap (first_that (may_steal_from us (load_at cpus) (movable_at cpus))) (nearest_same limits nodes t tree m (tree.sound.placed_there us m e).1.0)
-        ∙ first_same (may_steal_from us (load_at cpus) (movable_at cpus)) (may_steal_from us (λ c. current_load (w.cpus c)) (movable_on w)) (nearest_from limits t (some m))
-        (λ c q. may c (nearest_below limits t (some m) c q)))
+        ∙ first_same (may_steal_from us (load_at cpus) (movable_at cpus)) (may_steal_from us (λ c. current_load (w.cpus c)) (movable_on w)) (nearest_from limits t (Some m))
+        (λ c q. may c (nearest_below limits t (Some m) c q)))
 
     -- BALANCING
     pub balance_law : (allowed allowed' : ℕ → Bool) (draws : ℕ) → ((c : ℕ) → c < limits.cpus → allowed c ≡ allowed' c)
@@ -127,7 +129,7 @@ module _ (limits : Limits) (t : Topology) (tick us : ℕ) (cpus nodes : List (Li
     unfolding choose_cpu_balance
     balance_law allowed allowed' draws h =
         ap (λ (e : Extremes). record { found = rule.pair_of e.highest e.lowest; draws = e.draws })
-        (ap (λ (l : List ℕ). extremes us allowed (weight_at cpus) l (record { highest = 0; highest_score = 0; lowest = none_yet; draws = draws })) (cpus_same limits nodes t tree 0 tree.sound.root)
+        (ap (λ (l : List ℕ). extremes us allowed (weight_at cpus) l (record { highest = 0; highest_score = 0; lowest = None; draws = draws })) (cpus_same limits nodes t tree 0 tree.sound.root)
         ∙ extremes_same us allowed allowed' (weight_at cpus) (λ c. current_load (w.cpus c)) (cpus_of limits t 0) _
         (λ c q. let b : c < limits.cpus = cpus_below limits t 0 c q in (h c b, weights c b)))
 
@@ -185,10 +187,10 @@ reads_drawn limits cpus us w d s = record {
 }
 
 module _ (limits : Limits) (t : Topology) (tick us : ℕ) (cpus nodes : List (List ℕ)) (tree : TopologyRep limits nodes t) where
-  got_found : (b : Best) → cpu_of limits t tick us b ≡ cpu_found b
+  got_found : (b : Option Best) → cpu_of limits t tick us b ≡ cpu_found b
   unfolding cpu_of cpu_found
-  got_found none_yet = refl
-  got_found (best s c) = refl
+  got_found None = refl
+  got_found (Some b) = refl
 
   -- what the search finds, and the draw state that it leaves
   unfoldable pub searched : World → Searched → Got
@@ -210,19 +212,19 @@ module _ (limits : Limits) (t : Topology) (tick us : ℕ) (cpus nodes : List (Li
     p = effective_priority (w.threads x)
 
     -- 1
-    pub preferred_law : (o : Option ℕ) → ((c : ℕ) → o ≡ some c → c < limits.cpus) → sched.preferred limits t tick us w x avoid o ≡ cond (at_once cpus p avoid o) o none
+    pub preferred_law : (o : Option ℕ) → ((c : ℕ) → o ≡ Some c → c < limits.cpus) → sched.preferred limits t tick us w x avoid o ≡ cond (at_once cpus p avoid o) o None
     unfolding sched.preferred at_once runs_at_once
-    preferred_law none h = refl
-    preferred_law (some c) h = rw (shows.waiting c (h c refl), shows.priorities c (h c refl))
+    preferred_law None h = refl
+    preferred_law (Some c) h = rw (shows.waiting c (h c refl), shows.priorities c (h c refl))
 
     pub taken : (o : Option ℕ) → at_once cpus p avoid o ≡ true → sched.select_from limits t tick us w x avoid o ≡ record { got = o; world = w }
     unfolding sched.select_from at_once
-    taken none e = absurd (false≢true e)
-    taken (some c) e = refl
+    taken None e = absurd (false≢true e)
+    taken (Some c) e = refl
 
     -- 3: the search without a priority, after draws
-    pub second : (d : ℕ) → sched.find_cpu_from_topo limits t tick us (drawn us w d) none ≡ searched w (search_from cpus nodes us limits.cpus none d)
+    pub second : (d : ℕ) → sched.find_cpu_from_topo limits t tick us (drawn us w d) None ≡ searched w (search_from cpus nodes us limits.cpus None d)
     unfolding searched
     second d =
-        find_got (drawn us w d) (reads_drawn limits cpus us w d shows) none d (ap (λ (c : Cpu). c.draw_state) (drawn_at us w d) ∙ unfold with_draws in refl)
-        ∙ (λ i. record { got = cpu_found (search_from cpus nodes us limits.cpus none d).found; world = drawn_again us w d (search_from cpus nodes us limits.cpus none d).draws i })
+        find_got (drawn us w d) (reads_drawn limits cpus us w d shows) None d (ap (λ (c : Cpu). c.draw_state) (drawn_at us w d) ∙ unfold with_draws in refl)
+        ∙ (λ i. record { got = cpu_found (search_from cpus nodes us limits.cpus None d).found; world = drawn_again us w d (search_from cpus nodes us limits.cpus None d).draws i })

@@ -1,8 +1,7 @@
 -- On lent memory that shows a world of the rules: what a choice reads of it, and what it leaves.
-use Rattle.std.specs.Prelude.{ℕ, ◌<◌, ◌≡◌, Bool, List}
+use Rattle.std.specs.Prelude.{ℕ, ◌<◌, ◌≡◌, Bool, List, Some}
 use Rattle.std.proofs.Math.Path.{ap}
 use Rattle.std.proofs.Common.{◌∙◌, arith}
-use Rattle.std.proofs.Math.Option.{some}
 use Rattle.rules.specs.State.{Limits, Topology}
 use Rattle.rules.specs.Topology.{cpus_of}
 use Rattle.rules.specs.Choice.{may_steal_from, first_that, choose_cpu_balance}
@@ -43,7 +42,7 @@ module _ {limits : Limits} {topology : Topology} {known active : ℕ → Bool} {
     shows_drawn d = shows_draws shows us us_in d
 
     -- THE CPU FROM WHICH THE RULES STEAL, from the node on which CPU us was put
-    pub steal_memory : (nodes : List (List ℕ)) → TopologyRep limits nodes topology → (tick m : ℕ) → topology.placed us ≡ some m
+    pub steal_memory : (nodes : List (List ℕ)) → TopologyRep limits nodes topology → (tick m : ℕ) → topology.placed us ≡ Some m
         → first_that (may_steal_from us (load_at cs) (movable_at cs)) (nearest_at nodes limits.cpus (word cs us PLACED)) ≡ sched.choose_cpu_steal_via_topo limits topology tick us w
     unfolding number_or_none
     steal_memory nodes tree tick m e =

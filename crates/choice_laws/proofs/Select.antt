@@ -1,13 +1,14 @@
 -- `select_cpu`: the CPU for a thread, over words and over lent memory, is the choice of the rules.
-use Rattle.std.specs.Prelude.{ℕ, ◌<◌, ◌≡◌, refl, Bool, List, cond}
+use Rattle.std.specs.Prelude.{ℕ, ◌<◌, ◌≡◌, refl, Bool, List, cond, Option, None, Some}
 use Rattle.std.proofs.Math.Path.{ap}
 use Rattle.std.proofs.Common.{sym, ◌∙◌}
-use Rattle.std.proofs.Math.Option.{Option, none, some}
+use Rattle.rules.specs.declared.choice.Searched.{Searched}
+use Rattle.rules.specs.declared.choice.Best.{Best}
 use Rattle.rules.proofs.Laws.Line.{both}
 use Rattle.rules.specs.declared.Priority.{Priority}
 use Rattle.rules.specs.Times.{effective_priority, preferred_cpu}
 use Rattle.rules.specs.State.{Limits, Topology}
-use Rattle.rules.specs.Choice.{Best, none_yet, best, Searched}
+use Rattle.rules.specs.Choice.{best_at}
 use Rattle.rules.specs.Schedule as sched
 use Rattle.rules.specs.Schedule.{World, Got, same_cpu}
 use Rattle.thread.specs.declared.Thread.{Thread}
@@ -26,20 +27,20 @@ module _ (limits : Limits) (t : Topology) (tick us : ℕ) (cpus nodes : List (Li
     p = effective_priority (w.threads x)
 
     -- 2, else 3
-    again : (b : Best) (d : ℕ) → sched.found_or_any limits t tick us (drawn us w d) avoid (cpu_found b) ≡ searched limits t tick us cpus nodes tree w (search_again cpus nodes us limits.cpus avoid (record { found = b; draws = d }))
+    again : (b : Option Best) (d : ℕ) → sched.found_or_any limits t tick us (drawn us w d) avoid (cpu_found b) ≡ searched limits t tick us cpus nodes tree w (search_again cpus nodes us limits.cpus avoid (record { found = b; draws = d }))
     unfolding sched.found_or_any cpu_found search_again accepted
-    again none_yet d = second limits t tick us cpus nodes tree w shows state x avoid d
-    again (best s c) d = both (same_cpu c avoid) (λ e. rw e (second limits t tick us cpus nodes tree w shows state x avoid d)) (λ e. rw e (unfold searched in unfold cpu_found in refl))
+    again None d = second limits t tick us cpus nodes tree w shows state x avoid d
+    again (Some b) d = both (same_cpu b.cpu avoid) (λ e. rw e (second limits t tick us cpus nodes tree w shows state x avoid d)) (λ e. rw e (unfold searched in unfold cpu_found in refl))
 
-    not_taken : sched.select_from limits t tick us w x avoid none ≡ searched limits t tick us cpus nodes tree w (search_twice cpus nodes us limits.cpus p avoid (word cpus us draw_word))
+    not_taken : sched.select_from limits t tick us w x avoid None ≡ searched limits t tick us cpus nodes tree w (search_twice cpus nodes us limits.cpus p avoid (word cpus us draw_word))
     unfolding sched.select_from search_twice
     not_taken =
-        let f : Searched = search_from cpus nodes us limits.cpus (some p) (word cpus us draw_word) in
-        ap (λ (g : Got). sched.found_or_any limits t tick us g.world avoid g.got) (find_got limits t tick us cpus nodes tree w shows (some p) (word cpus us draw_word) (sym state))
+        let f : Searched = search_from cpus nodes us limits.cpus (Some p) (word cpus us draw_word) in
+        ap (λ (g : Got). sched.found_or_any limits t tick us g.world avoid g.got) (find_got limits t tick us cpus nodes tree w shows (Some p) (word cpus us draw_word) (sym state))
         ∙ (unfold searched in again f.found f.draws)
 
     -- THE CPU FOR A THREAD, AND THE DRAW STATE THAT IS LEFT
-    pub select_law : ((c : ℕ) → preferred_cpu (w.threads x) ≡ some c → c < limits.cpus)
+    pub select_law : ((c : ℕ) → preferred_cpu (w.threads x) ≡ Some c → c < limits.cpus)
         → sched.select_cpu limits t tick us w x avoid
         ≡ record {
           got = select_cpu cpus nodes us limits.cpus (preferred_cpu (w.threads x)) p avoid;
@@ -56,7 +57,7 @@ module _ {limits : Limits} {topology : Topology} {known active : ℕ → Bool} {
     (small : Small limits) where
   module _ (us : ℕ) (us_in : us < limits.cpus) where
     -- `select_cpu`: THE CPU THAT THE RULES CHOOSE, AND MEMORY THAT SHOWS THE WORLD AFTER IT
-    pub select_memory : (nodes : List (List ℕ)) → TopologyRep limits nodes topology → (tick x : ℕ) (avoid : Option ℕ) → ((c : ℕ) → preferred_cpu (w.threads x) ≡ some c → c < limits.cpus)
+    pub select_memory : (nodes : List (List ℕ)) → TopologyRep limits nodes topology → (tick x : ℕ) (avoid : Option ℕ) → ((c : ℕ) → preferred_cpu (w.threads x) ≡ Some c → c < limits.cpus)
         → ((sched.select_cpu limits topology tick us w x avoid).got ≡ select_cpu cs nodes us limits.cpus (preferred_cpu (w.threads x)) (effective_priority (w.threads x)) avoid)
         × WorldRep limits topology known active ts (after_select cs nodes us limits.cpus (preferred_cpu (w.threads x)) (effective_priority (w.threads x)) avoid)
         (sched.select_cpu limits topology tick us w x avoid).world

@@ -28,5 +28,8 @@ in_threads w l = record { answer = l.answer; memory = record { threads = l.memor
 abbrev pub in_cpus : {A : Type 0} → Lent → Left A Words → Left A Lent
 in_cpus w l = record { answer = l.answer; memory = record { threads = w.threads; cpus = l.memory; nodes = w.nodes } }
 
+abbrev pub in_nodes : {A : Type 0} → Lent → Left A Words → Left A Lent
+in_nodes w l = record { answer = l.answer; memory = record { threads = w.threads; cpus = w.cpus; nodes = l.memory } }
+
 abbrev pub kept : {A : Type 0} → Lent → A → Left A Lent
 kept w r = record { answer = r; memory = w }

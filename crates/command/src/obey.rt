@@ -1,20 +1,20 @@
 // The commands after the seal, and the command of any bytes.
 ghost use Rattle.std.specs.Prelude.{◌≡◌, length};
+ghost use Rattle.rules.specs.Lines.{used};
+ghost use Rattle.request.specs.Request.{request_of, reading_of};
 ghost use Rattle.records.specs.Left.{Leaves, LeavesOne, LeavesOver};
 ghost use Rattle.command.specs.Lent.{LeavesAll};
-ghost use Rattle.outcome.specs.Answer.{changed, ran};
-ghost use Rattle.outcome.specs.Call.{ticked};
-ghost use Rattle.command.specs.Command.{thread_in, declare_thread_command, schedule_thread_command, schedule_command, hardtick_command, stattick_command, resched_command, maybe_preempt_command, donate_command, remove_donation_command, set_critical_command, obey_def, answered_def, command_def};
+ghost use Rattle.command.specs.Command.{declare_thread_command, schedule_thread_command, schedule_command, hardtick_command, stattick_command, resched_command, maybe_preempt_command, donate_command, remove_donation_command, set_critical_command, obey_def, answered_def, command_def};
 
 use outcome::answer::{Answered, changed, ran, refuses};
 use outcome::call::{
-    Call, asked, call_of, context_of, flags_in, is_refused, judged, priority_in, ticked,
+    asked, context_of, flags_in, judged, pin_number, priority_in, thread_named, ticked,
 };
-use outcome::prepare::prepare;
+use outcome::prepare::{add_node, declare_cpu, place_cpu, seal, set_shortest};
 use processor::words::CpuWords;
 use questions::state::State;
 use records::record::{get, set};
-use request::Reading;
+use request::{Reading, Request};
 use sched::preempt::schedule_maybe_preempt;
 use sched::schedule::schedule;
 use sched_queues::donate::{donate_priority, remove_donated_priority};
@@ -23,46 +23,21 @@ use sched_ticks::ticks::{schedule_hardtick, schedule_resched};
 use thread::Thread;
 use topology::words::NodeWords;
 
-// Commands whose byte is below this one come before the seal.
-const FIRST_AFTER_SEAL: u64 = 0x10;
-
-// A command that shows nothing.
-fn done(state: State, call: Call) -> Answered
-    ensures { result ≡ changed state call.used }
-{
-    changed(state, call.used)
-}
-
-// A command whose line shows its operand.
-fn ran_on(cpus: &[CpuWords], state: State, call: Call, wakeups: u64) -> Answered
-    ensures { result ≡ ran cpus.now state call.cpu wakeups call.used }
-{
-    ran(cpus, state, call.cpu, wakeups, call.used)
-}
-
-// The record of a thread as it is declared.
-fn thread_in(call: Call) -> Thread
-    ensures { result ≡ thread_in call }
-{
-    let priority = priority_in(call);
-    Thread::new(priority, call.pin)
-}
-
-fn set_tick(state: State, call: Call) -> Answered
-    ensures { result ≡ changed (ticked state call.number) call.used }
-{
-    let state = ticked(state, call.number);
-    changed(state, call.used)
-}
-
 #[tactic(auto, unfolding(crate::specs::Command::declare_thread_command))]
-pub fn declare_thread(threads: &mut [Thread], state: State, call: Call) -> Answered
-    ensures { LeavesOne (declare_thread_command state call) result threads }
+pub fn declare_thread(
+    threads: &mut [Thread],
+    state: State,
+    thread: u64,
+    class: u64,
+    value: u64,
+    pin: Option<u64>,
+    used: usize,
+) -> Answered
+    ensures { LeavesOne (declare_thread_command state thread class value pin used) result threads }
 {
-    let x = call.thread;
-    let t = thread_in(call);
-    set(threads, x, t);
-    done(state, call)
+    let declared = Thread::new(priority_in(class, value), pin_number(pin));
+    set(threads, thread, declared);
+    changed(state, used)
 }
 
 // The line shows the CPU chosen.
@@ -72,17 +47,15 @@ pub fn schedule_thread(
     cpus: &mut [CpuWords],
     nodes: &[NodeWords],
     state: State,
-    call: Call,
+    cpu: u64,
+    thread: u64,
+    used: usize,
 ) -> Answered
-    ensures { LeavesOver (schedule_thread_command state call) result threads cpus nodes }
+    ensures { LeavesOver (schedule_thread_command state cpu thread used) result threads cpus nodes }
 {
-    let k = context_of(state, call);
-    let x = call.thread;
-    let used = call.used;
-    let chosen = sched::schedule::schedule_thread(threads, cpus, nodes, k, x);
-    let c = chosen.cpu;
-    let w = chosen.wakeups;
-    ran(cpus, state, c, w, used)
+    let k = context_of(state, cpu);
+    let chosen = sched::schedule::schedule_thread(threads, cpus, nodes, k, thread);
+    ran(cpus, state, chosen.cpu, chosen.wakeups, used)
 }
 
 #[tactic(auto, unfolding(crate::specs::Command::schedule_command))]
@@ -91,23 +64,30 @@ pub fn schedule_on(
     cpus: &mut [CpuWords],
     nodes: &[NodeWords],
     state: State,
-    call: Call,
+    cpu: u64,
+    flags: u64,
+    used: usize,
 ) -> Answered
-    ensures { LeavesOver (schedule_command state call) result threads cpus nodes }
+    ensures { LeavesOver (schedule_command state cpu flags used) result threads cpus nodes }
 {
-    let k = context_of(state, call);
-    let flags = flags_in(call);
-    let w = schedule(threads, cpus, nodes, k, flags, 0);
-    ran_on(cpus, state, call, w)
+    let k = context_of(state, cpu);
+    let wakeups = schedule(threads, cpus, nodes, k, flags_in(flags), 0);
+    ran(cpus, state, cpu, wakeups, used)
 }
 
 #[tactic(auto, unfolding(crate::specs::Command::hardtick_command))]
-pub fn hardtick(threads: &mut [Thread], cpus: &mut [CpuWords], state: State, call: Call) -> Answered
-    ensures { Leaves (hardtick_command state call) result threads cpus }
+pub fn hardtick(
+    threads: &mut [Thread],
+    cpus: &mut [CpuWords],
+    state: State,
+    cpu: u64,
+    used: usize,
+) -> Answered
+    ensures { Leaves (hardtick_command state cpu used) result threads cpus }
 {
-    let k = context_of(state, call);
+    let k = context_of(state, cpu);
     schedule_hardtick(threads, cpus, k);
-    ran_on(cpus, state, call, 0)
+    ran(cpus, state, cpu, 0, used)
 }
 
 #[tactic(auto, unfolding(crate::specs::Command::stattick_command))]
@@ -116,23 +96,29 @@ pub fn stattick(
     cpus: &mut [CpuWords],
     nodes: &[NodeWords],
     state: State,
-    call: Call,
+    cpu: u64,
+    nanoseconds: u64,
+    used: usize,
 ) -> Answered
-    ensures { LeavesOver (stattick_command state call) result threads cpus nodes }
+    ensures { LeavesOver (stattick_command state cpu nanoseconds used) result threads cpus nodes }
 {
-    let k = context_of(state, call);
-    let dt = call.number;
-    let w = schedule_stattick(threads, cpus, nodes, k, dt, 0);
-    ran_on(cpus, state, call, w)
+    let k = context_of(state, cpu);
+    let wakeups = schedule_stattick(threads, cpus, nodes, k, nanoseconds, 0);
+    ran(cpus, state, cpu, wakeups, used)
 }
 
 #[tactic(auto, unfolding(crate::specs::Command::resched_command))]
-pub fn resched(threads: &[Thread], cpus: &mut [CpuWords], state: State, call: Call) -> Answered
-    ensures { LeavesOne (resched_command state call threads.now) result cpus }
+pub fn resched(
+    threads: &[Thread],
+    cpus: &mut [CpuWords],
+    state: State,
+    cpu: u64,
+    used: usize,
+) -> Answered
+    ensures { LeavesOne (resched_command state cpu used threads.now) result cpus }
 {
-    let us = call.cpu;
-    schedule_resched(threads, cpus, us);
-    ran_on(cpus, state, call, 0)
+    schedule_resched(threads, cpus, cpu);
+    ran(cpus, state, cpu, 0, used)
 }
 
 #[tactic(auto, unfolding(crate::specs::Command::maybe_preempt_command))]
@@ -141,95 +127,116 @@ pub fn maybe_preempt(
     cpus: &mut [CpuWords],
     nodes: &[NodeWords],
     state: State,
-    call: Call,
+    cpu: u64,
+    used: usize,
 ) -> Answered
-    ensures { LeavesOver (maybe_preempt_command state call) result threads cpus nodes }
+    ensures { LeavesOver (maybe_preempt_command state cpu used) result threads cpus nodes }
 {
-    let k = context_of(state, call);
-    let w = schedule_maybe_preempt(threads, cpus, nodes, k, 0);
-    ran_on(cpus, state, call, w)
+    let k = context_of(state, cpu);
+    let wakeups = schedule_maybe_preempt(threads, cpus, nodes, k, 0);
+    ran(cpus, state, cpu, wakeups, used)
 }
 
 #[tactic(auto, unfolding(crate::specs::Command::donate_command))]
-pub fn donate(threads: &mut [Thread], cpus: &[CpuWords], state: State, call: Call) -> Answered
-    ensures { LeavesOne (donate_command state call cpus.now) result threads }
+pub fn donate(
+    threads: &mut [Thread],
+    cpus: &[CpuWords],
+    state: State,
+    cpu: u64,
+    thread: u64,
+    class: u64,
+    value: u64,
+    used: usize,
+) -> Answered
+    ensures { LeavesOne (donate_command state cpu thread class value used cpus.now) result threads }
 {
-    let us = call.cpu;
-    let x = call.thread;
-    let pri = priority_in(call);
-    let w = donate_priority(threads, cpus, us, x, pri, 0);
-    ran_on(cpus, state, call, w)
+    let priority = priority_in(class, value);
+    let wakeups = donate_priority(threads, cpus, cpu, thread, priority, 0);
+    ran(cpus, state, cpu, wakeups, used)
 }
 
 #[tactic(auto, unfolding(crate::specs::Command::remove_donation_command))]
-pub fn remove_donation(threads: &mut [Thread], state: State, call: Call) -> Answered
-    ensures { LeavesOne (remove_donation_command state call) result threads }
+pub fn remove_donation(threads: &mut [Thread], state: State, thread: u64, used: usize) -> Answered
+    ensures { LeavesOne (remove_donation_command state thread used) result threads }
 {
-    let x = call.thread;
-    remove_donated_priority(threads, x);
-    done(state, call)
+    remove_donated_priority(threads, thread);
+    changed(state, used)
 }
 
 #[tactic(auto, unfolding(crate::specs::Command::set_critical_command))]
-pub fn set_critical(threads: &mut [Thread], state: State, call: Call) -> Answered
-    ensures { LeavesOne (set_critical_command state call) result threads }
+pub fn set_critical(
+    threads: &mut [Thread],
+    state: State,
+    thread: u64,
+    mark: u64,
+    used: usize,
+) -> Answered
+    ensures { LeavesOne (set_critical_command state thread mark used) result threads }
 {
-    let x = call.thread;
-    let mark = call.number;
-    sched_queues::donate::set_critical(threads, x, mark);
-    done(state, call)
+    sched_queues::donate::set_critical(threads, thread, mark);
+    changed(state, used)
 }
 
 // The case of the command.
-#[tactic(auto, unfolding(crate::specs::Command::obey_def))]
+#[tactic(auto, unfolding(crate::specs::Command::obey_def, request::specs::Request::request_of))]
 pub fn obey(
     threads: &mut [Thread],
     cpus: &mut [CpuWords],
     nodes: &mut [NodeWords],
     state: State,
-    call: Call,
+    request: Request,
+    used: usize,
 ) -> Answered
-    ensures { LeavesAll (obey_def state call) result threads cpus nodes }
+    ensures { LeavesAll (obey_def state (request_of request) used) result threads cpus nodes }
 {
-    let kind = call.kind;
-    if kind < FIRST_AFTER_SEAL {
-        return prepare(cpus, nodes, state, call);
+    match request {
+        Request::DeclareCpu { cpu } => declare_cpu(cpus, state, cpu, used),
+        Request::AddNode { parent, kind } => add_node(nodes, state, parent, kind, used),
+        Request::PlaceCpu { node, cpu } => place_cpu(cpus, nodes, state, node, cpu, used),
+        Request::Seal => seal(state, used),
+        Request::SetShortest { ticks } => set_shortest(state, ticks, used),
+        Request::DeclareThread {
+            thread,
+            class,
+            value,
+            pin,
+        } => declare_thread(threads, state, thread, class, value, pin, used),
+        Request::SetTick { tick } => changed(ticked(state, tick), used),
+        Request::ScheduleThread { cpu, thread } => {
+            schedule_thread(threads, cpus, nodes, state, cpu, thread, used)
+        }
+        Request::Schedule { cpu, flags } => {
+            schedule_on(threads, cpus, nodes, state, cpu, flags, used)
+        }
+        Request::Hardtick { cpu } => hardtick(threads, cpus, state, cpu, used),
+        Request::Stattick { cpu, nanoseconds } => {
+            stattick(threads, cpus, nodes, state, cpu, nanoseconds, used)
+        }
+        Request::Resched { cpu } => resched(threads, cpus, state, cpu, used),
+        Request::MaybePreempt { cpu } => maybe_preempt(threads, cpus, nodes, state, cpu, used),
+        Request::Donate {
+            cpu,
+            thread,
+            class,
+            value,
+        } => donate(threads, cpus, state, cpu, thread, class, value, used),
+        Request::RemoveDonation { thread } => remove_donation(threads, state, thread, used),
+        Request::SetCritical { thread, mark } => set_critical(threads, state, thread, mark, used),
     }
-    if kind == 0x10 {
-        return declare_thread(threads, state, call);
+}
+
+// How many bytes what was read takes.
+#[tactic(auto, unfolding(rules::specs::Lines::used, request::specs::Request::reading_of))]
+fn taken(reading: Reading) -> usize
+    ensures { result ≡ used (reading_of reading) }
+{
+    match reading {
+        Ok(asked) => asked.used,
+        Err(_) => 0,
     }
-    if kind == 0x11 {
-        return set_tick(state, call);
-    }
-    if kind == 0x12 {
-        return schedule_thread(threads, cpus, nodes, state, call);
-    }
-    if kind == 0x13 {
-        return schedule_on(threads, cpus, nodes, state, call);
-    }
-    if kind == 0x14 {
-        return hardtick(threads, cpus, state, call);
-    }
-    if kind == 0x15 {
-        return stattick(threads, cpus, nodes, state, call);
-    }
-    if kind == 0x16 {
-        return resched(threads, cpus, state, call);
-    }
-    if kind == 0x17 {
-        return maybe_preempt(threads, cpus, nodes, state, call);
-    }
-    if kind == 0x18 {
-        return donate(threads, cpus, state, call);
-    }
-    if kind == 0x19 {
-        return remove_donation(threads, state, call);
-    }
-    set_critical(threads, state, call)
 }
 
 // The command that was read. "A no gives the number, changes nothing."
-#[tactic(auto, unfolding(crate::specs::Command::answered_def))]
 pub fn command_read(
     threads: &mut [Thread],
     cpus: &mut [CpuWords],
@@ -239,15 +246,12 @@ pub fn command_read(
 ) -> Answered
     ensures { LeavesAll (answered_def state reading) result threads cpus nodes }
 {
-    let call = call_of(reading);
-    let x = call.thread;
-    let used = call.used;
+    let x = thread_named(reading);
     let t = get(threads, x);
-    let refusal = judged(cpus, nodes, state, t, reading);
-    if is_refused(refusal) {
-        return refuses(state, refusal, used);
+    match judged(cpus, nodes, state, t, reading) {
+        Ok(asked) => obey(threads, cpus, nodes, state, asked.request, asked.used),
+        Err(refusal) => refuses(state, refusal, taken(reading)),
     }
-    obey(threads, cpus, nodes, state, call)
 }
 
 // The command that the bytes ask for.
@@ -261,8 +265,6 @@ pub fn command(
 ) -> Answered
     ensures { LeavesAll (command_def (length bytes.now) 0 state bytes.now) result threads cpus nodes }
 {
-    let n = bytes.len();
-    let wide = state.wide;
-    let reading = asked(bytes, n, 0, wide);
+    let reading = asked(bytes, bytes.len(), 0, state.wide);
     command_read(threads, cpus, nodes, state, reading)
 }

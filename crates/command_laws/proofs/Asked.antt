@@ -1,9 +1,7 @@
 -- What questions 3 and 4 answered yes give of a command that a CPU runs: the CPU is one of the CPUs, on a node.
-use Rattle.std.specs.Prelude.{ℕ, ◌<◌, ◌≡◌, true, List, ◌∷◌, ltb}
+use Rattle.std.specs.Prelude.{ℕ, ◌<◌, ◌≡◌, true, List, ◌∷◌, ltb, Option, None, Some, is_some}
 use Rattle.std.proofs.Math.Path.{refl}
 use Rattle.std.proofs.lemmas.Bool.{false≢true}
-use Rattle.std.proofs.Math.Option.{Option, none, some}
-use Rattle.rules.specs.Times.{is_some}
 use Rattle.rules.specs.State.{State}
 use Rattle.rules.specs.Questions.{Question, question, first_no, sealed_now, declared, cpu_declared}
 use Rattle.rules.proofs.Laws.Effect.{and_right}
@@ -12,9 +10,8 @@ use Rattle.sched_laws.specs.Sealed.{Sealed}
 use Rattle.command_laws.specs.Asked.{On}
 
 on_some : (s : State) (c : ℕ) (o : Option ℕ) → s.topology.placed c ≡ o → is_some o ≡ true → c < s.limits.cpus → On s c
-unfolding is_some
-on_some s c none e i h = absurd (false≢true i)
-on_some s c (some n) e i h = record { near = h; node = n; put_on = e }
+on_some s c None e i h = absurd (false≢true i)
+on_some s c (Some n) e i h = record { near = h; node = n; put_on = e }
 
 pub on_node : (s : State) (c : ℕ) (l : List Question) → Sealed s → first_no (sealed_now s ∷ cpu_declared s c ∷ l) ≡ 0 → On s c × (first_no l ≡ 0)
 unfolding sealed_now cpu_declared

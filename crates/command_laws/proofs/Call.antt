@@ -1,9 +1,8 @@
 -- ONE CALL, by the rules' reading of its bytes: refused or obeyed.
 use Prim.Native.Nat.{ℕ, suc, ◌≤◌}
-use Rattle.std.specs.Prelude.{◌≡◌, ◌≢◌, false, cond, not, List, eqb, take, drop, get_or}
+use Rattle.std.specs.Prelude.{◌≡◌, ◌≢◌, false, cond, not, List, eqb, take, drop, get_or, Option, None, Some}
 use Rattle.std.proofs.Math.Path.{refl, ap, subst}
 use Rattle.std.proofs.Common.{sym, ◌∙◌, arith}
-use Rattle.std.proofs.Math.Option.{Option, none, some}
 use borrow.Author.Tests.{eqb-true, eqb-false}
 use Rattle.rules.proofs.Laws.Line.{both}
 use Rattle.rules.specs.Puts.{PutOrTake}
@@ -15,17 +14,15 @@ use Rattle.rules.specs.Commands.{obeys, answered}
 use Rattle.rules.specs.Lines.{used}
 use Rattle.thread.specs.declared.Thread.{Thread}
 use Rattle.thread.specs.Thread.{blank}
-use Rattle.request.specs.Request.{limits_of, pin_option, request_of, reading_of}
+use Rattle.request.specs.Request.{limits_of, request_of, reading_of}
 use Rattle.lines.specs.declared.Refusal.{Refusal}
-use Rattle.lines.specs.Lines.{refusal_number, shown_option, running_option, answer_of}
+use Rattle.lines.specs.Lines.{question_number, refusal_number, answer_of}
 use Rattle.questions.specs.declared.state.State.{State}
 use Rattle.questions.specs.Questions.{refusal_in}
-use Rattle.outcome.specs.declared.call.Call.{Call}
 use Rattle.outcome.specs.Answer.{nothing_shown, refuses}
-use Rattle.outcome.specs.Call.{pin_back, request_back, reading_back, refusal_back, call_of, call_read}
+use Rattle.outcome.specs.Call.{request_back, reading_back, refusal_back, thread_named, thread_in}
 use Rattle.command.specs.Command.{obey_def, answered_def, command_def}
 use Rattle.represents.specs.State.{StateRep}
-use Rattle.question_laws.specs.Answers.{thread_named, thread_in}
 use Rattle.question_laws.proofs.Refusals.{refusal_same}
 use Rattle.command_laws.specs.Law.{Reachable, AsRuled}
 use Rattle.command_laws.proofs.Numbers.{refusal_most}
@@ -36,11 +33,6 @@ use Rattle.command.specs.Lent.{Lent, kept}
 use Rattle.records.specs.Left.{Left}
 use Rattle.outcome.specs.declared.answer.Answered.{Answered}
 
-pin_there : (p : Option ℕ) → pin_option (pin_back p) ≡ p
-unfolding pin_option pin_back
-pin_there none = refl
-pin_there (some c) = refl
-
 request_there : (r : Request) → request_of (request_back r) ≡ r
 unfolding request_of request_back
 request_there (declare_cpu c) = refl
@@ -48,7 +40,7 @@ request_there (add_node p k) = refl
 request_there (place_cpu n c) = refl
 request_there seal = refl
 request_there (set_shortest n) = refl
-request_there (declare_thread x k v p) = ap (declare_thread x k v) (pin_there p)
+request_there (declare_thread x k v p) = refl
 request_there (set_tick t) = refl
 request_there (schedule_thread c x) = refl
 request_there (schedule c f) = refl
@@ -66,11 +58,11 @@ reading_there unknown = refl
 reading_there cut_short = refl
 reading_there (asks r used) = ap (λ (q : Request). asks q used) (request_there r)
 
-number_or : (n k : ℕ) (x y : Refusal) → refusal_number x ≡ k → k ≤ n → (suc k ≤ n → refusal_number y ≡ n) → refusal_number (cond (eqb n k) x y) ≡ n
+number_or : (n k : ℕ) (x y : Option Refusal) → refusal_number x ≡ k → k ≤ n → (suc k ≤ n → refusal_number y ≡ n) → refusal_number (cond (eqb n k) x y) ≡ n
 number_or n k x y e l h = both (eqb n k) (λ t. rw t (e ∙ sym (eqb-true n k t))) (λ t. let q : n ≢ k = eqb-false n k t in rw t (h (omega (arith, q))))
 
 pub number_there : (n : ℕ) → n ≤ 10 → refusal_number (refusal_back n) ≡ n
-unfolding refusal_back refusal_number
+unfolding refusal_back refusal_number question_number
 number_there n l =
     number_or n 0 _ _ refl (omega arith)
     (λ a. number_or n 1 _ _ refl a
@@ -84,89 +76,80 @@ number_there n l =
     (λ i. number_or n 9 _ _ refl i
     (λ j. number_or n 10 _ _ refl j (λ k. absurd (omega arith))))))))))))
 
--- ---- the numbers of a call
-
-pub call_numbers : (r : Reading) → ((call_read r).used ≡ used r) × (thread_in r ≡ (call_read r).thread)
-unfolding call_read call_of used thread_in thread_named
-call_numbers unknown = (refl, refl)
-call_numbers cut_short = (refl, refl)
-call_numbers (asks (declare_cpu c) n) = (refl, refl)
-call_numbers (asks (add_node p k) n) = (refl, refl)
-call_numbers (asks (place_cpu i c) n) = (refl, refl)
-call_numbers (asks seal n) = (refl, refl)
-call_numbers (asks (set_shortest k) n) = (refl, refl)
-call_numbers (asks (declare_thread x k v p) n) = (refl, refl)
-call_numbers (asks (set_tick t) n) = (refl, refl)
-call_numbers (asks (schedule_thread c x) n) = (refl, refl)
-call_numbers (asks (schedule c f) n) = (refl, refl)
-call_numbers (asks (hardtick c) n) = (refl, refl)
-call_numbers (asks (stattick c i) n) = (refl, refl)
-call_numbers (asks (resched c) n) = (refl, refl)
-call_numbers (asks (maybe_preempt c) n) = (refl, refl)
-call_numbers (asks (donate c x k v) n) = (refl, refl)
-call_numbers (asks (remove_donation x) n) = (refl, refl)
-call_numbers (asks (set_critical x k) n) = (refl, refl)
-
 -- ---- a call by the rules' reading of its bytes, and by the number of its refusal
 
 module _ (ts : List Thread) (cs ns : List (List ℕ)) (a : State) where
-  unfoldable pub numbered_call : Call → ℕ → Left Answered Lent
-  numbered_call k n =
-      cond (not (eqb (refusal_number (refusal_back n)) 0)) (kept (lent ts cs ns) (refuses a (refusal_back n) k.used)) (obey_def a k (lent ts cs ns))
+  unfoldable pub numbered_call : Request → ℕ → ℕ → Left Answered Lent
+  numbered_call r used n =
+      cond (not (eqb (refusal_number (refusal_back n)) 0)) (kept (lent ts cs ns) (refuses a (refusal_back n) used)) (obey_def a r used (lent ts cs ns))
+
+  -- bytes that are no command are refused, and none is taken
+  unfoldable pub unread_call : ℕ → Left Answered Lent
+  unread_call n = kept (lent ts cs ns) (refuses a (refusal_back n) 0)
 
   unfoldable pub read_call : Reading → Left Answered Lent
-  read_call r = numbered_call (call_read r) (refusal_in cs ns a (get_or ts (call_read r).thread blank) r)
+  read_call unknown = unread_call 1
+  read_call cut_short = unread_call 2
+  read_call (asks r used) = numbered_call r used (refusal_in cs ns a (get_or ts (thread_named r) blank) (asks r used))
+
+  reading_call : (r : Reading) → answered_def a (reading_back r) (lent ts cs ns) ≡ read_call r
+  unfolding answered_def read_call unread_call numbered_call reading_back reading_of thread_in refusal_in
+  reading_call unknown = refl
+  reading_call cut_short = refl
+  reading_call (asks r used) = ap (λ (q : Request). numbered_call q used (refusal_in cs ns a (get_or ts (thread_named q) blank) (asks q used))) (request_there r)
 
   pub command_read : (bytes : List ℕ) (n at : ℕ) → command_def n at a bytes (lent ts cs ns) ≡ read_call (read (limits_of a.wide) (drop at (take n bytes)))
-  unfolding answered_def command_def read_call numbered_call
-  command_read bytes n at = ap read_call (reading_there (read (limits_of a.wide) (drop at (take n bytes))))
+  unfolding command_def
+  command_read bytes n at = reading_call (read (limits_of a.wide) (drop at (take n bytes)))
 
-  numbered_used : (k : Call) (n : ℕ) → (numbered_call k n).answer.used ≡ k.used
+  numbered_used : (r : Request) (k n : ℕ) → (numbered_call r k n).answer.used ≡ k
   unfolding numbered_call refuses
-  numbered_used k n = both (eqb (refusal_number (refusal_back n)) 0) (λ t. rw t (obey_obeyed ts cs ns a k).used) (λ t. rw t)
+  numbered_used r k n = both (eqb (refusal_number (refusal_back n)) 0) (λ t. rw t (obey_obeyed ts cs ns a r k).used) (λ t. rw t)
 
   pub read_used : (r : Reading) → (read_call r).answer.used ≡ used r
-  unfolding read_call
-  read_used r = numbered_used (call_read r) _ ∙ (call_numbers r).0
+  unfolding read_call unread_call refuses used
+  read_used unknown = refl
+  read_used cut_short = refl
+  read_used (asks r k) = numbered_used r k _
 
-  numbered_refused : (k : Call) (n : ℕ) → refusal_number (numbered_call k n).answer.answer.refusal ≢ 0
-      → ((numbered_call k n).memory.threads ≡ ts) × ((numbered_call k n).memory.cpus ≡ cs) × ((numbered_call k n).memory.nodes ≡ ns) × ((numbered_call k n).answer.state ≡ a)
+  numbered_refused : (r : Request) (k n : ℕ) → refusal_number (numbered_call r k n).answer.answer.refusal ≢ 0
+      → ((numbered_call r k n).memory.threads ≡ ts) × ((numbered_call r k n).memory.cpus ≡ cs) × ((numbered_call r k n).memory.nodes ≡ ns) × ((numbered_call r k n).answer.state ≡ a)
   unfolding numbered_call refuses
-  numbered_refused k n h =
-      both (eqb (refusal_number (refusal_back n)) 0) (λ t. absurd (h (rw t (obey_obeyed ts cs ns a k).number))) (λ t. rw t (refl, refl, refl, refl))
+  numbered_refused r k n h =
+      both (eqb (refusal_number (refusal_back n)) 0) (λ t. absurd (h (rw t (obey_obeyed ts cs ns a r k).number))) (λ t. rw t (refl, refl, refl, refl))
 
   pub read_refused : (r : Reading) → refusal_number (read_call r).answer.answer.refusal ≢ 0
       → ((read_call r).memory.threads ≡ ts) × ((read_call r).memory.cpus ≡ cs) × ((read_call r).memory.nodes ≡ ns) × ((read_call r).answer.state ≡ a)
-  unfolding read_call
-  read_refused r h = numbered_refused (call_read r) _ h
+  unfolding read_call unread_call refuses
+  read_refused unknown h = (refl, refl, refl, refl)
+  read_refused cut_short h = (refl, refl, refl, refl)
+  read_refused (asks r k) h = numbered_refused r k _ h
 
 module _ {H : ℕ → List PutOrTake} {ts : List Thread} {cs ns : List (List ℕ)} {a : State} {s : rules.State} (m : StateRep ts cs ns a s) (h : Reachable H s) where
-  refused_law : (k : Call) (n : ℕ) → n ≤ 10 → eqb n 0 ≡ false → AsRuled (numbered_call ts cs ns a k n) (ruled.refuses s n)
-  unfolding numbered_call refuses nothing_shown ruled.refuses ruled.nothing_shown answer_of shown_option running_option
-  refused_law k n l e = rw (number_there n l, e) (record { stands = m; answer = ap ruled.nothing_shown (number_there n l) })
+  refused_law : (r : Request) (used n : ℕ) → n ≤ 10 → eqb n 0 ≡ false → AsRuled (numbered_call ts cs ns a r used n) (ruled.refuses s n)
+  unfolding numbered_call refuses nothing_shown ruled.refuses ruled.nothing_shown answer_of
+  refused_law r used n l e = rw (number_there n l, e) (record { stands = m; answer = ap ruled.nothing_shown (number_there n l) })
 
-  obeyed_law : (r : Request) (used : ℕ) → rules_ask.refusal s (asks r used) ≡ 0 → AsRuled (numbered_call ts cs ns a (call_of r used) 0) (obeys s r)
+  unread_law : (n : ℕ) → n ≤ 10 → AsRuled (unread_call ts cs ns a n) (ruled.refuses s n)
+  unfolding unread_call refuses nothing_shown ruled.refuses ruled.nothing_shown answer_of
+  unread_law n l = record { stands = m; answer = ap ruled.nothing_shown (number_there n l) }
+
+  obeyed_law : (r : Request) (used : ℕ) → rules_ask.refusal s (asks r used) ≡ 0 → AsRuled (numbered_call ts cs ns a r used 0) (obeys s r)
   unfolding numbered_call refusal_back refusal_number
   obeyed_law r used e = obey_law m h r used e
 
-  asked_law : (r : Request) (used : ℕ) → AsRuled (numbered_call ts cs ns a (call_of r used) (rules_ask.refusal s (asks r used))) (answered s (asks r used))
+  asked_law : (r : Request) (used : ℕ) → AsRuled (numbered_call ts cs ns a r used (rules_ask.refusal s (asks r used))) (answered s (asks r used))
   unfolding answered
   asked_law r used =
       let n : ℕ = rules_ask.refusal s (asks r used) in
       both (eqb n 0)
       (λ t. let z : n ≡ 0 = eqb-true n 0 t in
-      subst (λ (k : ℕ). AsRuled (numbered_call ts cs ns a (call_of r used) k) (cond (eqb k 0) (obeys s r) (ruled.refuses s k))) (sym z) (obeyed_law r used z))
-      (λ t. rw t (refused_law (call_of r used) n (refusal_most s (asks r used)) t))
-
-  numbered_law : (r : Reading) → AsRuled (numbered_call ts cs ns a (call_read r) (rules_ask.refusal s r)) (answered s r)
-  unfolding answered rules_ask.refusal call_read
-  numbered_law unknown = refused_law _ 1 (omega arith) refl
-  numbered_law cut_short = refused_law _ 2 (omega arith) refl
-  numbered_law (asks r used) = asked_law r used
+      subst (λ (k : ℕ). AsRuled (numbered_call ts cs ns a r used k) (cond (eqb k 0) (obeys s r) (ruled.refuses s k))) (sym z) (obeyed_law r used z))
+      (λ t. rw t (refused_law r used n (refusal_most s (asks r used)) t))
 
   pub read_law : (r : Reading) → AsRuled (read_call ts cs ns a r) (answered s r)
-  unfolding read_call
-  read_law r =
-      let e : refusal_in cs ns a (get_or ts (call_read r).thread blank) r ≡ rules_ask.refusal s r =
-      ap (λ (x : ℕ). refusal_in cs ns a (get_or ts x blank) r) (sym (call_numbers r).1) ∙ refusal_same m h.reached r in
-      subst (λ (n : ℕ). AsRuled (numbered_call ts cs ns a (call_read r) n) (answered s r)) (sym e) (numbered_law r)
+  unfolding read_call answered thread_in
+  read_law unknown = unread_law 1 (omega arith)
+  read_law cut_short = unread_law 2 (omega arith)
+  read_law (asks r used) =
+      subst (λ (n : ℕ). AsRuled (numbered_call ts cs ns a r used n) (answered s (asks r used))) (sym (refusal_same m h.reached (asks r used))) (asked_law r used)

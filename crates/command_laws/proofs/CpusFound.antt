@@ -1,17 +1,17 @@
 -- THE CPUS THAT ARE FOUND over words: each search finds one below its limit, or none.
-use Rattle.std.specs.Prelude.{ℕ, zero, suc, ◌+◌, ◌-◌, ◌≤◌, ◌<◌, Bool, List, [], ◌∷◌, length, eqb, ltb}
+use Rattle.std.specs.Prelude.{ℕ, zero, suc, ◌+◌, ◌-◌, ◌≤◌, ◌<◌, Bool, List, [], ◌∷◌, length, eqb, ltb, Option, None, Some}
 use Rattle.std.proofs.Common.{sym, subst, arith}
-use Rattle.std.proofs.Math.Option.{Option, none, some}
+use Rattle.rules.specs.declared.choice.Searched.{Searched}
+use Rattle.rules.specs.declared.choice.Extremes.{Extremes}
+use Rattle.rules.specs.declared.choice.Best.{Best}
 use Rattle.rules.specs.declared.Priority.{Priority}
 use Rattle.rules.proofs.Laws.Line.{both}
 use Rattle.rules.specs.Line.{Below}
-use Rattle.rules.specs.Choice.{Best, none_yet, best, lower, Searched, find_cpu, first_that, may_steal_from, Extremes, weigh, extremes, pair_of, choose_cpu_balance}
+use Rattle.rules.specs.Choice.{best_at, lower, find_cpu, first_that, may_steal_from, weigh, extremes, pair_of, choose_cpu_balance}
 use Rattle.rules.specs.Waits.{Under}
 use Rattle.rules.proofs.Laws.Steps.{join_in_all}
 use Rattle.thread.specs.declared.Thread.{Thread}
-use Rattle.thread.specs.declared.time.OptionCpu.{OptionCpu}
-use Rattle.thread.specs.declared.time.OptionCpu.TheVariants as cpu
-use Rattle.thread.specs.Reads.{named, cpu_in}
+use Rattle.thread.specs.Reads.{cpu_in}
 use Rattle.thread.specs.Time.{preferred_last, preferred_of, preferred_cpu}
 use Rattle.processor.specs.Words.{word}
 use Rattle.processor.specs.Word.{PLACED}
@@ -19,7 +19,7 @@ use Rattle.topology.specs.Words as node
 use Rattle.topology.specs.Node.{parent, next, lesser, has_children, contains_at, first_of, end_of}
 use Rattle.topology.specs.Walk.{those_from, cpus_at, leaf_cpus, to_root, visited_at, nearest_at}
 use Rattle.represents.proofs.Laws.Topology.{lesser_most}
-use Rattle.choice.specs.Reads.{load_at, movable_at, named_as, draw_word}
+use Rattle.choice.specs.Reads.{load_at, movable_at, draw_word}
 use Rattle.choice.specs.Found.{begun}
 use Rattle.choice.specs.Select.{at_once, cpu_found, accepted, search_from, search_again, search_twice, select_cpu}
 use Rattle.sched_words.specs.Choose.{preferred_of_def, select_for, steal_from_def}
@@ -55,10 +55,10 @@ nearest_near rows limit m = join_in_all limit (cpus_at rows limit) (to_root rows
 
 -- ---- select
 
-lower_near : (n : ℕ) (b : Best) (s c : ℕ) → Under n (cpu_found b) → c < n → Under n (cpu_found (lower b s c))
+lower_near : (n : ℕ) (b : Option Best) (s c : ℕ) → Under n (cpu_found b) → c < n → Under n (cpu_found (lower b s c))
 unfolding lower cpu_found Under
-lower_near n none_yet s c u h = h
-lower_near n (best t d) s c u h = both (ltb s t) (λ e. rw e h) (λ e. rw e u)
+lower_near n None s c u h = h
+lower_near n (Some b) s c u h = both (ltb s b.score) (λ e. rw e h) (λ e. rw e u)
 
 find_near : (n us : ℕ) (skip : ℕ → Bool) (load : ℕ → ℕ) (l : List ℕ) (f : Searched) → Below n l → Under n (cpu_found f.found) → Under n (cpu_found (find_cpu us skip load l f).found)
 unfolding find_cpu Below
@@ -75,27 +75,27 @@ search_near cs ns us limit p draws = find_near limit us _ _ (visited_at ns limit
 twice_near : (cs ns : List (List ℕ)) (us limit : ℕ) (p : Priority) (avoid : Option ℕ) (draws : ℕ) → Under limit (cpu_found (search_twice cs ns us limit p avoid draws).found)
 unfolding search_twice search_again
 twice_near cs ns us limit p avoid draws =
-    both (accepted avoid (search_from cs ns us limit (some p) draws).found)
-    (λ e. rw e (search_near cs ns us limit (some p) draws))
-    (λ e. rw e (search_near cs ns us limit none (search_from cs ns us limit (some p) draws).draws))
+    both (accepted avoid (search_from cs ns us limit (Some p) draws).found)
+    (λ e. rw e (search_near cs ns us limit (Some p) draws))
+    (λ e. rw e (search_near cs ns us limit None (search_from cs ns us limit (Some p) draws).draws))
 
 select_near : (cs ns : List (List ℕ)) (us limit : ℕ) (preferred : Option ℕ) (p : Priority) (avoid : Option ℕ) → Under limit preferred → Under limit (select_cpu cs ns us limit preferred p avoid)
 unfolding select_cpu
 select_near cs ns us limit preferred p avoid u =
     both (at_once cs p avoid preferred) (λ e. rw e u) (λ e. rw e (twice_near cs ns us limit p avoid (word cs us draw_word)))
 
-preferred_near : (n : ℕ) (p l : OptionCpu) → Under n (named p) → Under n (named l) → Under n (named (preferred_of_def (preferred_of p l)))
-unfolding preferred_of preferred_last preferred_of_def named Under
-preferred_near n (cpu.Some c) l u v = u
-preferred_near n cpu.None (cpu.Some d) u v = v
-preferred_near n cpu.None cpu.None u v = tt
+preferred_near : (n : ℕ) (p l : Option ℕ) → Under n p → Under n l → Under n (preferred_of_def (preferred_of p l))
+unfolding preferred_of preferred_last preferred_of_def Under
+preferred_near n (Some c) l u v = u
+preferred_near n None (Some d) u v = v
+preferred_near n None None u v = tt
 
 -- the CPU selected for a thread whose pin and last CPU are below the limit
-pub selected_near : (cs ns : List (List ℕ)) (us limit : ℕ) (t : Thread) (avoid : OptionCpu) → Under limit (named (cpu_in t.pinned_cpu)) → Under limit (named (cpu_in t.last_cpu))
-    → Under limit (named (select_for cs ns us limit t avoid))
+pub selected_near : (cs ns : List (List ℕ)) (us limit : ℕ) (t : Thread) (avoid : Option ℕ) → Under limit (cpu_in t.pinned_cpu) → Under limit (cpu_in t.last_cpu)
+    → Under limit (select_for cs ns us limit t avoid)
 unfolding select_for preferred_cpu
 selected_near cs ns us limit t avoid p l =
-    subst (Under limit) (sym (named_as _)) (select_near cs ns us limit _ _ (named avoid) (preferred_near limit (cpu_in t.pinned_cpu) (cpu_in t.last_cpu) p l))
+    (select_near cs ns us limit _ _ avoid (preferred_near limit (cpu_in t.pinned_cpu) (cpu_in t.last_cpu) p l))
 
 -- ---- steal
 
@@ -104,10 +104,9 @@ unfolding first_that Below Under
 first_near n test [] b = tt
 first_near n test (c ∷ l) b = both (test c) (λ e. rw e b.0) (λ e. rw e (first_near n test l b.1))
 
-pub steal_near : (cs ns : List (List ℕ)) (us limit : ℕ) → Under limit (named (steal_from_def cs ns us limit))
+pub steal_near : (cs ns : List (List ℕ)) (us limit : ℕ) → Under limit (steal_from_def cs ns us limit)
 unfolding steal_from_def
 steal_near cs ns us limit =
-    subst (Under limit) (sym (named_as _))
     (first_near limit (may_steal_from us (load_at cs) (movable_at cs)) (nearest_at ns limit (word cs us PLACED)) (nearest_near ns limit (word cs us PLACED)))
 
 weigh_near : (n : ℕ) (e : Extremes) (s c d : ℕ) → c < n → ExtremesNear n e → ExtremesNear n (weigh e s c d)
@@ -125,10 +124,10 @@ extremes_near n us allowed load (c ∷ l) e b k =
     (λ t. rw t (extremes_near n us allowed load l _ b.1 (weigh_near n e _ c _ b.0 k)))
     (λ t. rw t (extremes_near n us allowed load l e b.1 k))
 
-pair_near : (n h : ℕ) (b : Best) → h < n → Under n (cpu_found b) → PairNear n (pair_of h b)
+pair_near : (n h : ℕ) (b : Option Best) → h < n → Under n (cpu_found b) → PairNear n (pair_of h b)
 unfolding pair_of cpu_found Under PairNear
-pair_near n h none_yet l u = tt
-pair_near n h (best s c) l u = both (eqb c h) (λ e. rw e tt) (λ e. rw e (l, u))
+pair_near n h None l u = tt
+pair_near n h (Some b) l u = both (eqb b.cpu h) (λ e. rw e tt) (λ e. rw e (l, u))
 
 pub choice_near : (us : ℕ) (allowed : ℕ → Bool) (load : ℕ → ℕ) (ns : List (List ℕ)) (limit m draws : ℕ) → 0 < limit
     → PairNear limit (choose_cpu_balance us allowed load (cpus_at ns limit m) draws).found

@@ -1,5 +1,5 @@
 -- THE THREAD NUMBERS IN A RUN QUEUE: each is below 1,024 or none, and every operation of the queue keeps that.
-use Rattle.std.specs.Prelude.{ℕ, zero, suc, ◌+◌, ◌%◌, ◌≡◌, refl, Bool, true, false, List, length, get_or, set, replicate, eqb, ltb}
+use Rattle.std.specs.Prelude.{ℕ, zero, suc, ◌+◌, ◌%◌, ◌≡◌, refl, Bool, true, false, List, length, get_or, set, replicate, eqb, ltb, Option, None, Some}
 use Rattle.std.proofs.Common.{sym, ap, subst, ◌∙◌, arith, length-set, get_or-set_same, get_or-set_other, eqb-true, ltb-true, ltb-false}
 use Rattle.std.proofs.lemmas.List.{get_or-replicate, length-replicate}
 use Rattle.std.proofs.Math.ListN.{get_or-eq_default}
@@ -12,17 +12,15 @@ use Rattle.rules.specs.Queue.{nr_buckets, class_bucket, part_of}
 use Rattle.thread.specs.Thread.{NONE}
 use Rattle.queue.specs.declared.lists.Lists.{Lists}
 use Rattle.queue.specs.declared.lists.Found.{Found}
-use Rattle.queue.specs.declared.lists.Found.TheVariants as found
 use Rattle.queue.specs.declared.pq.PriorityQueue.{PriorityQueue}
 use Rattle.queue.specs.declared.timeshare.TimeshareQueue.{TimeshareQueue}
-use Rattle.queue.specs.Lists.{no_lists_def, push_back, unlinked, scan_heads, first_from}
+use Rattle.queue.specs.Lists.{found_at, no_lists_def, push_back, unlinked, scan_heads, first_from}
 use Rattle.queue.specs.PriorityQueue.{no_priority, pq_insert, pq_front, pq_taken}
 use Rattle.queue.specs.Timeshare.{no_timeshare, ts_bucket, slot, ts_insert, ts_front, ts_taken, ts_step, ts_advance}
 use Rattle.runqueue.specs.declared.rq.RunQueue.{RunQueue}
 use Rattle.runqueue.specs.declared.rq.Arrival.{Arrival}
 use Rattle.runqueue.specs.declared.rq.Front.{Front}
-use Rattle.runqueue.specs.declared.rq.Front.TheVariants as front
-use Rattle.runqueue.specs.RunQueue.{no_run_queue, with_realtime, with_timeshare, with_idle, advertising, counted, uncounted, rq_insert_realtime, rq_insert_timeshare, rq_insert_idle, rq_insert_into, rq_insert, first_in_def, rq_front_idle, rq_front_timeshare, rq_front_realtime, rq_front, rq_taken_realtime, rq_recalc, rq_taken_timeshare, rq_taken_idle, rq_taken_from, rq_taken, rq_clock, rq_hardtick}
+use Rattle.runqueue.specs.RunQueue.{front_at, no_run_queue, with_realtime, with_timeshare, with_idle, advertising, counted, uncounted, rq_insert_realtime, rq_insert_timeshare, rq_insert_idle, rq_insert_into, rq_insert, first_in_def, rq_front_idle, rq_front_timeshare, rq_front_realtime, rq_front, rq_taken_realtime, rq_recalc, rq_taken_timeshare, rq_taken_idle, rq_taken_from, rq_taken, rq_clock, rq_hardtick}
 use Rattle.processor.proofs.Laws.Queue.{Eights}
 use Rattle.command_laws.specs.Links.{FoundLink, FrontLink, Link, ListsInRange, QueueInRange}
 
@@ -34,7 +32,7 @@ links_set l i v h k b =
     (λ m. rw (set_out l i v (ltb-false _ _ m)) (h b)))
     (λ e. rw (get_or-set_other l i b v 0 (eqb-false b i e)) (h b))
 
-pub neat_push : (l : Lists) (b t : ℕ) → ListsInRange l → Link t → ListsInRange (push_back l b t).lists × Link (push_back l b t).behind
+pub neat_push : (l : Lists) (b t : ℕ) → ListsInRange l → Link t → ListsInRange (push_back l b t).queue × Link (push_back l b t).behind
 unfolding push_back
 neat_push l b t n k =
     both (eqb (get_or l.heads (b % nr_buckets) 0) NONE)
@@ -94,10 +92,10 @@ ts_link : (t : TimeshareQueue) → ListsInRange t.queues → FoundLink (ts_front
 unfolding ts_front FoundLink
 ts_link t n = both (eqb t.count 0) (λ e. rw e tt) (λ e. rw e (first_link t.queues t.take_idx n))
 
-in_link : (p : Part) (f : Found) (later : Front) → FoundLink f → FrontLink later → FrontLink (first_in_def p f later)
+in_link : (p : Part) (f : Option Found) (later : Option Front) → FoundLink f → FrontLink later → FrontLink (first_in_def p f later)
 unfolding first_in_def FoundLink FrontLink
-in_link p (found.At b x) later h k = h
-in_link p found.Nothing later h k = k
+in_link p (Some f) later h k = h
+in_link p None later h k = k
 
 pub orderly_eights : {q : RunQueue} → QueueInRange q → Eights q
 orderly_eights o = record { realtime_8 = o.realtime.eight; priorities_8 = o.counts; timeshare_8 = o.timeshare.eight; idle_8 = o.idle.eight }
@@ -148,10 +146,10 @@ taken_from part.Timeshare q b next v pinned o k = record {
 taken_from part.Idle q b next v pinned o k =
     record { realtime = o.realtime; timeshare = o.timeshare; idle = neat_unlinked q.idle.queues b next o.idle k; counts = o.counts }
 
-pub orderly_taken : (q : RunQueue) (f : Front) (next v : ℕ) (pinned : Bool) → QueueInRange q → Link next → QueueInRange (rq_taken q f NONE next v pinned)
+pub orderly_taken : (q : RunQueue) (f : Option Front) (next v : ℕ) (pinned : Bool) → QueueInRange q → Link next → QueueInRange (rq_taken q f NONE next v pinned)
 unfolding rq_taken
-orderly_taken q (front.At p b x) next v pinned o k = taken_from p q b next v pinned o k
-orderly_taken q front.Nothing next v pinned o k = o
+orderly_taken q (Some f) next v pinned o k = taken_from f.part q f.bucket next v pinned o k
+orderly_taken q None next v pinned o k = o
 
 -- clock and hard tick
 advance_queues : (t : TimeshareQueue) (steps : ℕ) (force : Bool) → ((ts_advance t steps force).queues ≡ t.queues) × ((ts_advance t steps force).priorities ≡ t.priorities)

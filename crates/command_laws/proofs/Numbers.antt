@@ -1,6 +1,5 @@
 -- The numbers of the questions, and the last question: a command that is obeyed was answered yes to all of them.
-use Rattle.std.specs.Prelude.{ℕ, suc, ◌≤◌, ◌<◌, ◌≡◌, refl, Bool, true, ◌&&◌, List, [], ◌∷◌, ◌++◌, leb}
-use Rattle.std.proofs.Math.Option.{none, some}
+use Rattle.std.specs.Prelude.{ℕ, suc, ◌≤◌, ◌<◌, ◌≡◌, refl, Bool, true, ◌&&◌, List, [], ◌∷◌, ◌++◌, leb, None, Some}
 use Rattle.std.proofs.Common.{arith, leb-true, ltb-true}
 use Rattle.rules.proofs.Laws.Line.{both}
 use Rattle.rules.proofs.Laws.Effect.{and_left, and_right}
@@ -17,8 +16,8 @@ concerning_numbered s (add_node p k) = refl
 concerning_numbered s (place_cpu n c) = refl
 concerning_numbered s seal = refl
 concerning_numbered s (set_shortest n) = refl
-concerning_numbered s (declare_thread x k v none) = refl
-concerning_numbered s (declare_thread x k v (some c)) = refl
+concerning_numbered s (declare_thread x k v None) = refl
+concerning_numbered s (declare_thread x k v (Some c)) = refl
 concerning_numbered s (set_tick t) = refl
 concerning_numbered s (schedule_thread c x) = refl
 concerning_numbered s (schedule c f) = refl

@@ -1,8 +1,7 @@
 -- THE COMMANDS THAT TOUCH NO QUEUE (hex 01 to 05, 10, 11, 19, 1A): once obeyed, memory and answer are those of the rules.
-use Rattle.std.specs.Prelude.{ℕ, ◌+◌, ◌%◌, ◌^◌, ◌<◌, ◌≡◌, refl, true, List, length}
+use Rattle.std.specs.Prelude.{ℕ, ◌+◌, ◌%◌, ◌^◌, ◌<◌, ◌≡◌, refl, true, List, length, Option}
 use Rattle.std.proofs.Common.{sym, subst, ◌∙◌, arith}
 use Rattle.std.proofs.Math.Path.{ap}
-use Rattle.std.proofs.Math.Option.{Option}
 use borrow.Author.Tests.{ltb-true}
 use Rattle.rules.specs.Puts.{PutOrTake}
 use Rattle.rules.specs.State as rules
@@ -12,12 +11,11 @@ use Rattle.rules.specs.Commands as ruled
 use Rattle.rules.specs.Commands.{obeys}
 use Rattle.rules.proofs.Laws.Reached.{yes}
 use Rattle.thread.specs.declared.Thread.{Thread}
-use Rattle.lines.specs.Lines.{refusal_number, shown_option, running_option, answer_of}
+use Rattle.lines.specs.Lines.{refusal_number, answer_of}
 use Rattle.questions.specs.declared.state.State.{State}
 use Rattle.sched_queues.specs.Donate.{remove_donated, set_critical_def}
 use Rattle.outcome.specs.Answer.{accepted, nothing_shown, changed}
-use Rattle.outcome.specs.Call.{call_of, priority_in, ticked, sealed_now, with_shortest, one_node_more}
-use Rattle.outcome.specs.Prepare.{prepares}
+use Rattle.outcome.specs.Call.{priority_in, ticked, sealed_now, with_shortest, one_node_more}
 use Rattle.command.specs.Command.{declare_thread_command, remove_donation_command, set_critical_command, obey_def}
 use Rattle.represents.specs.State.{limits_in, StateRep}
 use Rattle.represents.proofs.Laws.State.{Counted}
@@ -40,8 +38,8 @@ module _ {H : ℕ → List PutOrTake} {ts : List Thread} {cs ns : List (List ℕ
   counted h = record { limits_stay = refl; sealed_is = m.sealed; tick_is = m.tick; count_is = m.node_count; accepted_is = accepted_one h }
 
   -- 01
-  pub plain_declare_cpu : (c used : ℕ) → refusal s (asks (declare_cpu c) used) ≡ 0 → AsRuled (obey_def a (call_of (declare_cpu c) used) (lent ts cs ns)) (obeys s (declare_cpu c))
-  unfolding obey_def prepares call_of changed nothing_shown answer_of refusal_number shown_option running_option obeys ruled.changed ruled.nothing_shown
+  pub plain_declare_cpu : (c used : ℕ) → refusal s (asks (declare_cpu c) used) ≡ 0 → AsRuled (obey_def a (declare_cpu c) used (lent ts cs ns)) (obeys s (declare_cpu c))
+  unfolding obey_def changed nothing_shown answer_of refusal_number obeys ruled.changed ruled.nothing_shown
   plain_declare_cpu c used e = record {
     stands = stands_declare_cpu m reachable.reached c used (accepted a) (counted (few_accepted s (declare_cpu c) used e)) e;
     answer = refl;
@@ -65,16 +63,16 @@ module _ {H : ℕ → List PutOrTake} {ts : List Thread} {cs ns : List (List ℕ
     accepted_is = accepted_one h;
   }
 
-  pub plain_add_node : (p k used : ℕ) → refusal s (asks (add_node p k) used) ≡ 0 → AsRuled (obey_def a (call_of (add_node p k) used) (lent ts cs ns)) (obeys s (add_node p k))
-  unfolding obey_def prepares call_of changed nothing_shown answer_of refusal_number shown_option running_option obeys ruled.changed ruled.nothing_shown
+  pub plain_add_node : (p k used : ℕ) → refusal s (asks (add_node p k) used) ≡ 0 → AsRuled (obey_def a (add_node p k) used (lent ts cs ns)) (obeys s (add_node p k))
+  unfolding obey_def changed nothing_shown answer_of refusal_number obeys ruled.changed ruled.nothing_shown
   plain_add_node p k used e = record {
     stands = stands_add_node m reachable.reached p k used (accepted (one_node_more a)) (counted_node (few_accepted s (add_node p k) used e) (node_more p k used e)) e;
     answer = refl;
   }
 
   -- 03
-  pub plain_place_cpu : (n c used : ℕ) → refusal s (asks (place_cpu n c) used) ≡ 0 → AsRuled (obey_def a (call_of (place_cpu n c) used) (lent ts cs ns)) (obeys s (place_cpu n c))
-  unfolding obey_def prepares call_of changed nothing_shown answer_of refusal_number shown_option running_option obeys ruled.changed ruled.nothing_shown
+  pub plain_place_cpu : (n c used : ℕ) → refusal s (asks (place_cpu n c) used) ≡ 0 → AsRuled (obey_def a (place_cpu n c) used (lent ts cs ns)) (obeys s (place_cpu n c))
+  unfolding obey_def changed nothing_shown answer_of refusal_number obeys ruled.changed ruled.nothing_shown
   plain_place_cpu n c used e = record {
     stands = stands_place_cpu m reachable.reached n c used (accepted a) (counted (few_accepted s (place_cpu n c) used e)) e;
     answer = refl;
@@ -85,8 +83,8 @@ module _ {H : ℕ → List PutOrTake} {ts : List Thread} {cs ns : List (List ℕ
   unfolding accepted sealed_now limits_in
   counted_seal h = record { limits_stay = refl; sealed_is = refl; tick_is = m.tick; count_is = m.node_count; accepted_is = accepted_one h }
 
-  pub plain_seal : (used : ℕ) → refusal s (asks seal used) ≡ 0 → AsRuled (obey_def a (call_of seal used) (lent ts cs ns)) (obeys s seal)
-  unfolding obey_def prepares call_of changed nothing_shown answer_of refusal_number shown_option running_option obeys ruled.changed ruled.nothing_shown
+  pub plain_seal : (used : ℕ) → refusal s (asks seal used) ≡ 0 → AsRuled (obey_def a seal used (lent ts cs ns)) (obeys s seal)
+  unfolding obey_def changed nothing_shown answer_of refusal_number obeys ruled.changed ruled.nothing_shown
   plain_seal used e = record {
     stands = stands_seal m reachable.reached used (accepted (sealed_now a)) (counted_seal (few_accepted s seal used e)) e;
     answer = refl;
@@ -97,8 +95,8 @@ module _ {H : ℕ → List PutOrTake} {ts : List Thread} {cs ns : List (List ℕ
   unfolding accepted with_shortest limits_in
   counted_shortest n h = record { limits_stay = refl; sealed_is = m.sealed; tick_is = m.tick; count_is = m.node_count; accepted_is = accepted_one h }
 
-  pub plain_set_shortest : (n used : ℕ) → refusal s (asks (set_shortest n) used) ≡ 0 → AsRuled (obey_def a (call_of (set_shortest n) used) (lent ts cs ns)) (obeys s (set_shortest n))
-  unfolding obey_def prepares call_of changed nothing_shown answer_of refusal_number shown_option running_option obeys ruled.changed ruled.nothing_shown
+  pub plain_set_shortest : (n used : ℕ) → refusal s (asks (set_shortest n) used) ≡ 0 → AsRuled (obey_def a (set_shortest n) used (lent ts cs ns)) (obeys s (set_shortest n))
+  unfolding obey_def changed nothing_shown answer_of refusal_number obeys ruled.changed ruled.nothing_shown
   plain_set_shortest n used e = record {
     stands = stands_set_shortest m reachable.reached n used (accepted (with_shortest a n)) (counted_shortest n (few_accepted s (set_shortest n) used e)) e;
     answer = refl;
@@ -106,8 +104,8 @@ module _ {H : ℕ → List PutOrTake} {ts : List Thread} {cs ns : List (List ℕ
 
   -- 10
   pub plain_declare_thread : (x k v : ℕ) (pin : Option ℕ) (used : ℕ) → refusal s (asks (declare_thread x k v pin) used) ≡ 0
-      → AsRuled (obey_def a (call_of (declare_thread x k v pin) used) (lent ts cs ns)) (obeys s (declare_thread x k v pin))
-  unfolding obey_def declare_thread_command call_of priority_in changed nothing_shown answer_of refusal_number shown_option running_option obeys ruled.changed ruled.nothing_shown
+      → AsRuled (obey_def a (declare_thread x k v pin) used (lent ts cs ns)) (obeys s (declare_thread x k v pin))
+  unfolding obey_def declare_thread_command priority_in changed nothing_shown answer_of refusal_number obeys ruled.changed ruled.nothing_shown
   plain_declare_thread x k v pin used e = record {
     stands = stands_declare_thread m reachable.reached x k v used pin (accepted a) (counted (few_accepted s (declare_thread x k v pin) used e)) e;
     answer = refl;
@@ -118,24 +116,24 @@ module _ {H : ℕ → List PutOrTake} {ts : List Thread} {cs ns : List (List ℕ
   unfolding accepted ticked limits_in
   counted_tick t h = record { limits_stay = refl; sealed_is = m.sealed; tick_is = refl; count_is = m.node_count; accepted_is = accepted_one h }
 
-  pub plain_set_tick : (t used : ℕ) → refusal s (asks (set_tick t) used) ≡ 0 → AsRuled (obey_def a (call_of (set_tick t) used) (lent ts cs ns)) (obeys s (set_tick t))
-  unfolding obey_def call_of changed nothing_shown answer_of refusal_number shown_option running_option obeys ruled.changed ruled.nothing_shown
+  pub plain_set_tick : (t used : ℕ) → refusal s (asks (set_tick t) used) ≡ 0 → AsRuled (obey_def a (set_tick t) used (lent ts cs ns)) (obeys s (set_tick t))
+  unfolding obey_def changed nothing_shown answer_of refusal_number obeys ruled.changed ruled.nothing_shown
   plain_set_tick t used e = record {
     stands = stands_set_tick m reachable.reached t used (accepted (ticked a t)) (counted_tick t (few_accepted s (set_tick t) used e)) e;
     answer = refl;
   }
 
   -- 19
-  pub plain_remove_donation : (x used : ℕ) → refusal s (asks (remove_donation x) used) ≡ 0 → AsRuled (obey_def a (call_of (remove_donation x) used) (lent ts cs ns)) (obeys s (remove_donation x))
-  unfolding obey_def remove_donation_command remove_donated call_of changed nothing_shown answer_of refusal_number shown_option running_option obeys ruled.changed ruled.nothing_shown
+  pub plain_remove_donation : (x used : ℕ) → refusal s (asks (remove_donation x) used) ≡ 0 → AsRuled (obey_def a (remove_donation x) used (lent ts cs ns)) (obeys s (remove_donation x))
+  unfolding obey_def remove_donation_command remove_donated changed nothing_shown answer_of refusal_number obeys ruled.changed ruled.nothing_shown
   plain_remove_donation x used e = record {
     stands = stands_remove_donation m reachable.reached x used (accepted a) (counted (few_accepted s (remove_donation x) used e)) e;
     answer = refl;
   }
 
   -- 1A
-  pub plain_set_critical : (x k used : ℕ) → refusal s (asks (set_critical x k) used) ≡ 0 → AsRuled (obey_def a (call_of (set_critical x k) used) (lent ts cs ns)) (obeys s (set_critical x k))
-  unfolding obey_def set_critical_command set_critical_def call_of changed nothing_shown answer_of refusal_number shown_option running_option obeys ruled.changed ruled.nothing_shown
+  pub plain_set_critical : (x k used : ℕ) → refusal s (asks (set_critical x k) used) ≡ 0 → AsRuled (obey_def a (set_critical x k) used (lent ts cs ns)) (obeys s (set_critical x k))
+  unfolding obey_def set_critical_command set_critical_def changed nothing_shown answer_of refusal_number obeys ruled.changed ruled.nothing_shown
   plain_set_critical x k used e = record {
     stands = stands_set_critical m reachable.reached x k used (accepted a) (counted (few_accepted s (set_critical x k) used e)) e;
     answer = refl;

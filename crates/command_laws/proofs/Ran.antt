@@ -1,14 +1,12 @@
 -- THE COMMANDS THAT A CPU RUNS (hex 12 to 18): over memory that stands for a state that the rules reach, each leaves and answers what the rules say.
 use Prim.Native.Nat.{ℕ, ◌+◌, ◌%◌, ◌^◌, ◌≤◌, ◌<◌}
-use Rattle.std.specs.Prelude.{◌≡◌, Bool, true, List}
+use Rattle.std.specs.Prelude.{◌≡◌, Bool, true, List, Option, None, Some, is_some}
 use Rattle.std.proofs.Math.Path.{refl, sym, ap, subst}
 use Rattle.std.proofs.Common.{◌∙◌}
 use Rattle.std.proofs.lemmas.Bool.{false≢true}
-use Rattle.std.proofs.Math.Option.{Option, none, some}
 use native.Mathlib.Omega.{arith}
 use Rattle.rules.specs.declared.Priority.{Priority}
 use Rattle.rules.specs.Priority.{nr_values, priority, class_at}
-use Rattle.rules.specs.Times.{is_some}
 use Rattle.rules.specs.Queue.{load}
 use Rattle.rules.specs.Puts.{PutOrTake}
 use Rattle.rules.specs.State as rules
@@ -30,7 +28,7 @@ use Rattle.processor.specs.Word.{LOAD, RUNNING}
 use Rattle.represents.specs.World.{WorldRep, most_tick}
 use Rattle.represents.proofs.Laws.Frames.{shows_alike}
 use Rattle.represents.proofs.Laws.Numbers.{word_load, load_shown, running_shown}
-use Rattle.lines.specs.Lines.{refusal_number, shown_option, running_option, answer_of}
+use Rattle.lines.specs.Lines.{refusal_number, answer_of}
 use Rattle.topology.specs.CpuSet.{max_cpu_id}
 use Rattle.topology.specs.Node.{lesser}
 use Rattle.questions.specs.declared.state.State.{State}
@@ -42,7 +40,7 @@ use Rattle.sched_ticks.specs.Ticks.{schedule_hardtick_def, schedule_resched_def}
 use Rattle.sched.specs.Preempt.{schedule_maybe_preempt_def}
 use Rattle.sched_queues.specs.Donate.{donate_priority_def}
 use Rattle.outcome.specs.Answer.{accepted, running_in, shown, ran}
-use Rattle.outcome.specs.Call.{call_of, priority_in, context_of, flags_in}
+use Rattle.outcome.specs.Call.{priority_in, context_of, flags_in}
 use Rattle.command.specs.Command.{scheduled_thread_def, schedule_thread_command, schedule_command, hardtick_command, stattick_command, resched_command, maybe_preempt_command, donate_command}
 use Rattle.sched_laws.specs.Hardtick.{context}
 use Rattle.sched_laws.specs.Switch.{Settled, no_one, Ends}
@@ -130,13 +128,13 @@ module _ {H : ℕ → List PutOrTake} {ts : List Thread} {cs ns : List (List ℕ
 
   shown_same : {active : ℕ → Bool} {ts' : List Thread} {cs' : List (List ℕ)} (v : World) (c n : ℕ) → c < s.limits.cpus → Soundly v → WorldRep s.limits s.topology s.known active ts' cs' v → n ≡ v.wakeups
       → answer_of (shown cs' c n) ≡ rule.shown v c
-  unfolding answer_of shown rule.shown refusal_number shown_option
+  unfolding answer_of shown rule.shown refusal_number
   shown_same {cs' = cs'} v c n near d e k =
-      let p : running_option (running_in (word cs' c RUNNING)) ≡ some (running_of (v.cpus c).running) =
-      ap (λ (z : ℕ). running_option (running_in z)) (running_shown e m.small c near)
+      let p : running_in (word cs' c RUNNING) ≡ running_of (v.cpus c).running =
+      ap running_in (running_shown e m.small c near)
       ∙ running_same (v.cpus c).running (λ x q. omega (arith, r.reached.numbered x (d.runs c x q).1, m.small.threads)) in
       let l : word cs' c LOAD ≡ load (v.cpus c).queue = word_load cs' c ∙ load_shown e m.small c near in
-      λ i. record { refused = 0; cpu = some c; running = p i; load = some (l i); wakeups = some (k i) }
+      λ i. record { refused = 0; cpu = Some c; running = Some (p i); load = Some (l i); wakeups = Some (k i) }
 
   -- ---- a command that a CPU ran, and whose line shows CPU c
   ran_law : (d : Left ℕ Memory) (v : World) (c used : ℕ) → s.accepted < most_accepted → c < s.limits.cpus → Soundly v → Leave d v
@@ -150,25 +148,25 @@ module _ {H : ℕ → List PutOrTake} {ts : List Thread} {cs ns : List (List ℕ
   -- a blocked thread goes into the queue of the CPU selected for it
   module _ (c x used : ℕ) (on : On s c) (room : s.accepted < most_accepted) (known : s.known x ≡ true) (idle : blocked s x ≡ true) where
     abbrev chosen : Got
-    chosen = sched.select_cpu s.limits s.topology s.tick c w x none
+    chosen = sched.select_cpu s.limits s.topology s.tick c w x None
 
     on_chosen : (o : Option ℕ) → chosen.got ≡ o → is_some o ≡ true → Under s.limits.cpus o
-        → AsRuled (in_memory (lent ts cs ns) (schedule_thread_command a (call_of (schedule_thread c x) used) ns (mem ts cs))) (scheduled_on s c x chosen.world o)
-    unfolding is_some Under scheduled_on schedule_thread_command call_of context_of
-    on_chosen none e i u = absurd (false≢true i)
-    on_chosen (some d) e i u =
+        → AsRuled (in_memory (lent ts cs ns) (schedule_thread_command a c x used ns (mem ts cs))) (scheduled_on s c x chosen.world o)
+    unfolding Under scheduled_on schedule_thread_command context_of
+    on_chosen None e i u = absurd (false≢true i)
+    on_chosen (Some d) e i u =
         let new : (b : ℕ) → b < s.limits.cpus → New s.limits s.known nobody_but w b x = λ b h. blocked_new b x r.reached idle known h in
         let v : World = sched.schedule_thread_on_cpu s.limits s.topology s.tick c chosen.world d x in
-        let same = (select_cpu_selected s.limits s.topology s.tick c s.known r.reached.numbered H on.near w x none (safe.mild x)).same in
-        subst (λ (k : Context). AsRuled (in_memory (lent ts cs ns) (scheduled_thread_def a (call_of (schedule_thread c x) used) (schedule_thread_def k x ns (mem ts cs)))) (rule.ran s v (rule.shown v d))) (told c)
-        (subst (λ (z : Left Scheduled Memory). AsRuled (in_memory (lent ts cs ns) (scheduled_thread_def a (call_of (schedule_thread c x) used) z)) (rule.ran s v (rule.shown v d)))
+        let same = (select_cpu_selected s.limits s.topology s.tick c s.known r.reached.numbered H on.near w x None (safe.mild x)).same in
+        subst (λ (k : Context). AsRuled (in_memory (lent ts cs ns) (scheduled_thread_def a used (schedule_thread_def k x ns (mem ts cs)))) (rule.ran s v (rule.shown v d))) (told c)
+        (subst (λ (z : Left Scheduled Memory). AsRuled (in_memory (lent ts cs ns) (scheduled_thread_def a used z)) (rule.ran s v (rule.shown v d)))
         (sym (scheduled_thread s.limits s.topology s.tick c s.known r.reached.numbered m.small early on.near H ns m.tree on.node on.put_on m.shows safe settled 0 no_wakeups few x known new d e))
         (ran_law _ v d used room u (ok_scheduled s.limits s.topology s.tick c s.known r.reached.numbered H on.near w chosen.world x d safe same (new d u))
         (wakes s.limits s.topology s.tick c s.known r.reached.numbered m.small early on.near H ns m.tree on.node on.put_on m.shows safe settled 0 no_wakeups few x known new d e u no_wakeups)))
 
   -- 12
   pub ran_schedule_thread : (c x used : ℕ) → refusal s (asks (schedule_thread c x) used) ≡ 0
-      → AsRuled (in_memory (lent ts cs ns) (schedule_thread_command a (call_of (schedule_thread c x) used) ns (mem ts cs))) (obeys s (schedule_thread c x))
+      → AsRuled (in_memory (lent ts cs ns) (schedule_thread_command a c x used ns (mem ts cs))) (obeys s (schedule_thread c x))
   unfolding refusal concerning thread_declared thread_blocked obeys schedules
   ran_schedule_thread c x used e =
       let there = on_node s c _ r.sealed e in
@@ -178,23 +176,23 @@ module _ {H : ℕ → List PutOrTake} {ts : List Thread} {cs ns : List (List ℕ
       let new : (b : ℕ) → b < s.limits.cpus → New s.limits s.known nobody_but w b x = λ b h. blocked_new b x r.reached idle.0 known.0 h in
       on_chosen c x used on (few_accepted s (schedule_thread c x) used e) known.0 idle.0 _ refl
       (woken_on s.limits s.topology s.tick c s.known r.reached.numbered m.small early on.near H ns m.tree on.node on.put_on m.shows safe settled 0 no_wakeups few x known.0 new)
-      (select_cpu_selected s.limits s.topology s.tick c s.known r.reached.numbered H on.near w x none (safe.mild x)).under
+      (select_cpu_selected s.limits s.topology s.tick c s.known r.reached.numbered H on.near w x None (safe.mild x)).under
 
   -- 13
-  pub ran_schedule : (c f used : ℕ) → refusal s (asks (schedule c f) used) ≡ 0 → AsRuled (in_memory (lent ts cs ns) (schedule_command a (call_of (schedule c f) used) ns (mem ts cs))) (obeys s (schedule c f))
-  unfolding refusal concerning schedule_command call_of context_of flags_in obeys rule.ran_on flags_of law.flags_in
+  pub ran_schedule : (c f used : ℕ) → refusal s (asks (schedule c f) used) ≡ 0 → AsRuled (in_memory (lent ts cs ns) (schedule_command a c f used ns (mem ts cs))) (obeys s (schedule c f))
+  unfolding refusal concerning schedule_command context_of flags_in obeys rule.ran_on flags_of law.flags_in
   ran_schedule c f used e =
       let on : On s c = (on_node s c _ r.sealed e).0 in
       let v : World = sched.schedule s.limits s.topology s.tick c w (flags_of f) in
       ran_law _ v c used (few_accepted s (schedule c f) used e) on.near
       (ok_schedule s.limits s.topology s.tick c s.known r.reached.numbered H on.near w (flags_of f) safe)
-      (subst (λ (k : Context). Leave (schedule_def k (flags_in (call_of (schedule c f) used)) 0 ns (mem ts cs)) v) (told c)
+      (subst (λ (k : Context). Leave (schedule_def k (flags_in f) 0 ns (mem ts cs)) v) (told c)
       (shows_schedule s.limits s.topology s.tick c s.known r.reached.numbered m.small early on.near H ns m.tree on.node on.put_on m.shows safe settled 0 no_wakeups few
-      (flags_in (call_of (schedule c f) used))))
+      (flags_in f)))
 
   -- 14
-  pub ran_hardtick : (c used : ℕ) → refusal s (asks (hardtick c) used) ≡ 0 → AsRuled (in_memory (lent ts cs ns) (hardtick_command a (call_of (hardtick c) used) (mem ts cs))) (obeys s (hardtick c))
-  unfolding refusal concerning hardtick_command call_of context_of obeys rule.ran_on
+  pub ran_hardtick : (c used : ℕ) → refusal s (asks (hardtick c) used) ≡ 0 → AsRuled (in_memory (lent ts cs ns) (hardtick_command a c used (mem ts cs))) (obeys s (hardtick c))
+  unfolding refusal concerning hardtick_command context_of obeys rule.ran_on
   ran_hardtick c used e =
       let on : On s c = (on_node s c _ r.sealed e).0 in
       let v : World = sched.schedule_hardtick s.limits s.topology s.tick c w in
@@ -208,8 +206,8 @@ module _ {H : ℕ → List PutOrTake} {ts : List Thread} {cs ns : List (List ℕ
       }))
 
   -- 15
-  pub ran_stattick : (c n used : ℕ) → refusal s (asks (stattick c n) used) ≡ 0 → AsRuled (in_memory (lent ts cs ns) (stattick_command a (call_of (stattick c n) used) ns (mem ts cs))) (obeys s (stattick c n))
-  unfolding refusal concerning stattick_command call_of context_of obeys rule.ran_on
+  pub ran_stattick : (c n used : ℕ) → refusal s (asks (stattick c n) used) ≡ 0 → AsRuled (in_memory (lent ts cs ns) (stattick_command a c n used ns (mem ts cs))) (obeys s (stattick c n))
+  unfolding refusal concerning stattick_command context_of obeys rule.ran_on
   ran_stattick c n used e =
       let on : On s c = (on_node s c _ r.sealed e).0 in
       let v : World = sched.schedule_stattick s.limits s.topology s.tick c w n in
@@ -219,8 +217,8 @@ module _ {H : ℕ → List PutOrTake} {ts : List Thread} {cs ns : List (List ℕ
       (stattick_law s.limits s.topology s.tick c s.known r.reached.numbered m.small early on.near H ns m.tree m.shows safe settled 0 no_wakeups few_still n))
 
   -- 16
-  pub ran_resched : (c used : ℕ) → refusal s (asks (resched c) used) ≡ 0 → AsRuled (in_cpus (lent ts cs ns) (resched_command a (call_of (resched c) used) ts cs)) (obeys s (resched c))
-  unfolding refusal concerning resched_command call_of obeys rule.ran_on
+  pub ran_resched : (c used : ℕ) → refusal s (asks (resched c) used) ≡ 0 → AsRuled (in_cpus (lent ts cs ns) (resched_command a c used ts cs)) (obeys s (resched c))
+  unfolding refusal concerning resched_command obeys rule.ran_on
   ran_resched c used e =
       let on : On s c = (on_node s c _ r.sealed e).0 in
       let v : World = sched.schedule_resched s.limits s.topology s.tick c w in
@@ -232,8 +230,8 @@ module _ {H : ℕ → List PutOrTake} {ts : List Thread} {cs ns : List (List ℕ
       })
 
   -- 17
-  pub ran_maybe_preempt : (c used : ℕ) → refusal s (asks (maybe_preempt c) used) ≡ 0 → AsRuled (in_memory (lent ts cs ns) (maybe_preempt_command a (call_of (maybe_preempt c) used) ns (mem ts cs))) (obeys s (maybe_preempt c))
-  unfolding refusal concerning maybe_preempt_command call_of context_of obeys rule.ran_on
+  pub ran_maybe_preempt : (c used : ℕ) → refusal s (asks (maybe_preempt c) used) ≡ 0 → AsRuled (in_memory (lent ts cs ns) (maybe_preempt_command a c used ns (mem ts cs))) (obeys s (maybe_preempt c))
+  unfolding refusal concerning maybe_preempt_command context_of obeys rule.ran_on
   ran_maybe_preempt c used e =
       let on : On s c = (on_node s c _ r.sealed e).0 in
       let v : World = sched.schedule_maybe_preempt s.limits s.topology s.tick c w in
@@ -243,8 +241,8 @@ module _ {H : ℕ → List PutOrTake} {ts : List Thread} {cs ns : List (List ℕ
       (shows_maybe_preempt s.limits s.topology s.tick c s.known r.reached.numbered m.small early on.near H ns m.tree on.node on.put_on m.shows safe settled 0 no_wakeups few))
 
   -- 18
-  pub ran_donate : (c x k v used : ℕ) → refusal s (asks (donate c x k v) used) ≡ 0 → AsRuled (in_threads (lent ts cs ns) (donate_command a (call_of (donate c x k v) used) cs ts)) (obeys s (donate c x k v))
-  unfolding refusal concerning thread_declared donate_command call_of priority_in obeys rule.ran_on
+  pub ran_donate : (c x k v used : ℕ) → refusal s (asks (donate c x k v) used) ≡ 0 → AsRuled (in_threads (lent ts cs ns) (donate_command a c x k v used cs ts)) (obeys s (donate c x k v))
+  unfolding refusal concerning thread_declared donate_command priority_in obeys rule.ran_on
   ran_donate c x k v used e =
       let there = on_node s c _ r.sealed e in
       let on : On s c = there.0 in

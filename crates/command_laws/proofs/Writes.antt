@@ -1,11 +1,12 @@
 -- WHAT EACH FUNCTION OF THE SCHEDULER WRITES: records of threads and words of CPUs that the memory or the command names, so records below 1,024 and
 -- rows below 64.
 use Prim.Native.Nat.{ℕ, zero, suc, ◌+◌, ◌≤◌, ◌<◌}
-use Rattle.std.specs.Prelude.{◌≡◌, Bool, cond, not, List, eqb, ltb, leb}
+use Rattle.std.specs.Prelude.{◌≡◌, Bool, cond, not, List, eqb, ltb, leb, Option, Some, None, is_none, unwrap_or}
 use Rattle.std.proofs.Math.Path.{refl}
 use Rattle.std.proofs.Common.{sym, subst}
 use Rattle.std.proofs.Math.Bool.{true, false}
 use native.Mathlib.Omega.{arith}
+use Rattle.rules.specs.declared.choice.Pair.{Pair}
 use Rattle.rules.specs.declared.Part.{Part}
 use Rattle.rules.specs.declared.Part.TheVariants as part
 use Rattle.rules.specs.declared.Priority.{Priority}
@@ -15,15 +16,13 @@ use Rattle.rules.specs.Times.{effective_priority}
 use Rattle.rules.specs.Choice as rule
 use Rattle.rules.specs.Waits.{Under}
 use Rattle.thread.specs.declared.Thread.{Thread}
-use Rattle.thread.specs.declared.time.OptionCpu.{OptionCpu}
-use Rattle.thread.specs.declared.time.OptionCpu.TheVariants as cpu
 use Rattle.thread.specs.Thread.{NONE, BLOCKED, RUNNING, with_donated, with_stable, with_critical, with_place, with_next, with_last, with_queue, with_deadline, with_timeslice}
 use Rattle.thread.specs.Flags.{has_donated_priority}
-use Rattle.thread.specs.Reads.{named, cpu_in, reads, held, donated_in, critical_in}
+use Rattle.thread.specs.Reads.{cpu_in, reads, donated_in, critical_in}
 use Rattle.thread.specs.Time.{field_of, named_field, moving_to_queue, moving_to_active, pay_ticks, reset_timeslice, set_deadline}
 use Rattle.thread.specs.Priority.{stable_effective_priority, donate_priority, remove_donated_priority}
+use Rattle.runqueue.specs.RunQueue.{front_at}
 use Rattle.runqueue.specs.declared.rq.Front.{Front}
-use Rattle.runqueue.specs.declared.rq.Front.TheVariants as front
 use Rattle.processor.specs.Words.{word, put_word}
 use Rattle.processor.specs.Word as at
 use Rattle.processor.specs.Queue.{queue_at}
@@ -31,26 +30,23 @@ use Rattle.processor.specs.Cpu.{current_load}
 use Rattle.topology.specs.CpuSet as cpuset
 use Rattle.choice.specs.Reads.{weight_at}
 use Rattle.choice.specs.Select.{at_once, after_select}
-use Rattle.records.specs.declared.rq.Taken.{Taken}
-use Rattle.records.specs.declared.rq.Taken.TheVariants as taken
 use Rattle.records.specs.Left.{Words, Memory, mem, Left}
 use Rattle.records.specs.Rq.{record_at, arrival_of, steady_in, put_in_def, link_behind, put_of_def, insert_def, left_by_def, took_from_def, take_def, clock_def, hardtick_def}
 use Rattle.sched_words.specs.declared.context.Context.{Context}
 use Rattle.sched_words.specs.declared.context.SchedFlags.{SchedFlags}
 use Rattle.sched_words.specs.declared.balance.Balancing.{Balancing}
-use Rattle.sched_words.specs.Option.{is_none, cpu_of_def}
 use Rattle.sched_words.specs.Choose.{select_for, selected_for, reinsert_at_def, steal_from_def}
 use Rattle.sched_words.specs.Running.{running_at, must_rebalance_def, ran_by_def, ran_idle_def}
 use Rattle.sched_words.specs.Time.{moved_to, reset_time_def}
 use Rattle.sched_words.specs.Preempt.{marked, swapped, idle_paid, expires, rescheds}
 use Rattle.sched_words.specs.Rebalance.{time_passed, rebalance_due}
 use Rattle.sched_words.specs.Balance.{begun, moved, passed, stopped, without, moving, is_done, outcome, pair_step, pair_of_def, chosen_at, balance_step_def, find_move, Balanced}
-use Rattle.sched_queues.specs.Queues.{is_nobody, thread_of, moved_in, schedule_thread_on_cpu_def, wake_def, block_def, moved_for_def, take_from, try_steal_def}
+use Rattle.sched_queues.specs.Queues.{moved_in, schedule_thread_on_cpu_def, wake_def, block_def, moved_for_def, take_from, try_steal_def}
 use Rattle.sched_queues.specs.Donate.{donate_priority_def, remove_donated, set_critical_def}
 use Rattle.sched.specs.Schedule.{switch_to_def, run_taken_def, idle_unless, run_stolen_def, pick_stolen, pick_taken, pick_next_def, must_move_def, reinserted_def, reset_thread_time_def, then_next_def, reinsert_def, do_schedule_def, schedule_def, scheduled_on_def, schedule_thread_def}
 use Rattle.sched.specs.Preempt.{preempting, schedule_maybe_preempt_def}
 use Rattle.sched_ticks.specs.Balance as tick
-use Rattle.sched_ticks.specs.Balance.{received, move_one_def, move_two, balance_def, maybe_rebalance_def, due_in, clocked, schedule_stattick_def}
+use Rattle.sched_ticks.specs.Balance.{received, move_made, move_one_def, move_two, balance_def, maybe_rebalance_def, due_in, clocked, schedule_stattick_def}
 use Rattle.sched_ticks.specs.Ticks.{paid_by_def, schedule_hardtick_def, schedule_resched_def}
 use Rattle.command_laws.specs.Links.{Link, FrontLink}
 use Rattle.command_laws.proofs.Links.{orderly_insert, orderly_front, orderly_taken, orderly_clock, orderly_hardtick}
@@ -62,7 +58,7 @@ use Rattle.command_laws.specs.Writes.{Took}
 
 -- ---- records
 
-pub under_field : (c : ℕ) → c < 64 → Under 64 (named (cpu_in (field_of c)))
+pub under_field : (c : ℕ) → c < 64 → Under 64 (cpu_in (field_of c))
 unfolding Under
 under_field c h = rw (named_field c (omega arith)) h
 
@@ -106,7 +102,7 @@ tidy_paid t ticks allowed d =
 tidy_donated : (t : Thread) (p : Priority) → ThreadInRange t → ThreadInRange (donate_priority t p).thread
 unfolding donate_priority with_donated
 tidy_donated t p d =
-    both (donation_accepted (held (donated_in t)) p) (λ e. rw e (record { link = d.link; pin = d.pin; last = d.last })) (λ e. rw e d)
+    both (donation_accepted (donated_in t) p) (λ e. rw e (record { link = d.link; pin = d.pin; last = d.last })) (λ e. rw e d)
 
 tidy_removed : (t : Thread) → ThreadInRange t → ThreadInRange (remove_donated_priority t)
 unfolding remove_donated_priority with_donated
@@ -158,17 +154,17 @@ goes_insert c x n current m k h l =
     let b = goes_behind _ m.cpus (put_of_def c x n current m).behind x a.tame o.1 l in
     goes_then a (goes_then b (goes_queue _ m.cpus c _ b.tame h o.0))
 
-took_either : {m : Memory} (t : Bool) (a b : Left Taken Memory) → Took m a → Took m b → Took m (cond t a b)
+took_either : {m : Memory} (t : Bool) (a b : Left (Option ℕ) Memory) → Took m a → Took m b → Took m (cond t a b)
 took_either true a b g h = g
 took_either false a b g h = h
 
-took_from : (c : ℕ) (f : Front) (m : Memory) → InRange m → c < 64 → FrontLink f → Took m (took_from_def c f m)
-unfolding took_from_def FrontLink thread_of left_by_def
-took_from c front.Nothing m k h l = record { goes = goes_none k; link = λ i. refl }
-took_from c (front.At p b x) m k h l =
-    let a = goes_record m.threads m.cpus x (with_place (record_at m.threads x) RUNNING) k l (tidy_place _ RUNNING (k.records x)) in
+took_from : (c : ℕ) (f : Option Front) (m : Memory) → InRange m → c < 64 → FrontLink f → Took m (took_from_def c f m)
+unfolding took_from_def FrontLink left_by_def
+took_from c None m k h l = record { goes = goes_none k; link = λ i. refl }
+took_from c (Some f) m k h l =
+    let a = goes_record m.threads m.cpus f.thread (with_place (record_at m.threads f.thread) RUNNING) k l (tidy_place _ RUNNING (k.records f.thread)) in
     record {
-      goes = goes_then a (goes_queue _ m.cpus c _ a.tame h (orderly_taken (queue_at m.cpus c) (front.At p b x) _ _ _ (k.queues c h) (k.records x).link));
+      goes = goes_then a (goes_queue _ m.cpus c _ a.tame h (orderly_taken (queue_at m.cpus c) (Some f) _ _ _ (k.queues c h) (k.records f.thread).link));
       link = l;
     }
 
@@ -176,11 +172,11 @@ took_take : (c : ℕ) (stealing : Bool) (m : Memory) → InRange m → c < 64 �
 unfolding take_def
 took_take c stealing m k h = took_from c _ m k h (orderly_front (queue_at m.cpus c) stealing (k.queues c h))
 
-took_moved : {m : Memory} (d : ℕ) (g : Left Taken Memory) → Took m g → Took m (moved_for_def d g)
+took_moved : {m : Memory} (d : ℕ) (g : Left (Option ℕ) Memory) → Took m g → Took m (moved_for_def d g)
 unfolding moved_for_def
 took_moved d g t =
-    took_either (is_nobody g.answer) g _ t
-    (record { goes = goes_then t.goes (goes_record _ g.memory.cpus (thread_of g.answer) _ t.goes.tame t.link (tidy_queue _ d (t.goes.tame.records _))); link = t.link })
+    took_either (is_none g.answer) g _ t
+    (record { goes = goes_then t.goes (goes_record _ g.memory.cpus (unwrap_or g.answer NONE) _ t.goes.tame t.link (tidy_queue _ d (t.goes.tame.records _))); link = t.link })
 
 took_for : (c d : ℕ) (m : Memory) → InRange m → c < 64 → Took m (take_from c d m)
 unfolding take_from
@@ -222,32 +218,32 @@ module _ (k : Context) (near : k.us < 64) (limit : k.limit ≡ 64) where
   unfolding idle_unless
   goes_unless cur m t = both (eqb cur NONE) (λ e. rw e (goes_none t)) (λ e. rw e (goes_idle m.threads m.cpus k.us t near))
 
-  goes_stolen : {m : Memory} (cur : ℕ) (g : Left Taken Memory) → Took m g → StaysInRange m (pick_stolen k cur g)
+  goes_stolen : {m : Memory} (cur : ℕ) (g : Left (Option ℕ) Memory) → Took m g → StaysInRange m (pick_stolen k cur g)
   unfolding pick_stolen run_stolen_def
   goes_stolen cur g t =
-      goes_cond (is_nobody g.answer) _ _ (goes_then t.goes (goes_unless cur g.memory t.goes.tame))
-      (goes_then t.goes (goes_switch (thread_of g.answer) g.memory t.goes.tame t.link))
+      goes_cond (is_none g.answer) _ _ (goes_then t.goes (goes_unless cur g.memory t.goes.tame))
+      (goes_then t.goes (goes_switch (unwrap_or g.answer NONE) g.memory t.goes.tame t.link))
 
-  took_stolen : (m : Memory) (s : OptionCpu) → InRange m → Under 64 (named s) → Took m (cond (is_none s) (record { answer = taken.Nobody; memory = m }) (take_from (cpu_of_def s) k.us m))
-  unfolding is_none cpu_of_def named Under thread_of
-  took_stolen m (cpu.Some c) t u = took_for c k.us m t u
-  took_stolen m cpu.None t u = record { goes = goes_none t; link = λ i. refl }
+  took_stolen : (m : Memory) (s : Option ℕ) → InRange m → Under 64 s → Took m (cond (is_none s) (record { answer = None; memory = m }) (take_from (unwrap_or s NONE) k.us m))
+  unfolding Under
+  took_stolen m (Some c) t u = took_for c k.us m t u
+  took_stolen m None t u = record { goes = goes_none t; link = λ i. refl }
 
   took_steal : (ns : Words) (m : Memory) → InRange m → Took m (try_steal_def k ns m)
   unfolding try_steal_def
-  took_steal ns m t = took_stolen m (steal_from_def m.cpus ns k.us k.limit) t (subst (λ (n : ℕ). Under n (named (steal_from_def m.cpus ns k.us k.limit))) limit (steal_near m.cpus ns k.us k.limit))
+  took_steal ns m t = took_stolen m (steal_from_def m.cpus ns k.us k.limit) t (subst (λ (n : ℕ). Under n (steal_from_def m.cpus ns k.us k.limit)) limit (steal_near m.cpus ns k.us k.limit))
 
   goes_next : (cur : ℕ) (ns : Words) (m : Memory) → InRange m → StaysInRange m (pick_next_def k cur ns m)
   unfolding pick_next_def pick_taken run_taken_def
   goes_next cur ns m t =
       let g = took_take k.us false m t near in
       let s = took_steal ns _ g.goes.tame in
-      goes_cond (is_nobody (take_def k.us false m).answer) _ _ (goes_then g.goes (goes_stolen cur _ s))
-      (goes_cond (eqb (thread_of (take_def k.us false m).answer) cur) _ _ g.goes (goes_then g.goes (goes_switch _ _ g.goes.tame g.link)))
+      goes_cond (is_none (take_def k.us false m).answer) _ _ (goes_then g.goes (goes_stolen cur _ s))
+      (goes_cond (eqb (unwrap_or (take_def k.us false m).answer NONE) cur) _ _ g.goes (goes_then g.goes (goes_switch _ _ g.goes.tame g.link)))
 
   -- ---- the CPU selected
 
-  goes_selected : (ns : Words) (t : Thread) (avoid : OptionCpu) (m : Memory) → InRange m → StaysInRange m (mem m.threads (selected_for m.cpus ns k.us k.limit t avoid))
+  goes_selected : (ns : Words) (t : Thread) (avoid : Option ℕ) (m : Memory) → InRange m → StaysInRange m (mem m.threads (selected_for m.cpus ns k.us k.limit t avoid))
   unfolding selected_for after_select
   goes_selected ns t avoid m d = go (at_once m.cpus _ _ _) _
     where
@@ -255,25 +251,25 @@ module _ (k : Context) (near : k.us < 64) (limit : k.limit ≡ 64) where
       go true v = goes_none d
       go false v = goes_plain m.threads m.cpus k.us 79 v d near (omega arith) (omega arith)
 
-  near_selected : (ns : Words) (t : Thread) (avoid : OptionCpu) (cs : Words) → ThreadInRange t → Under 64 (named (select_for cs ns k.us k.limit t avoid))
+  near_selected : (ns : Words) (t : Thread) (avoid : Option ℕ) (cs : Words) → ThreadInRange t → Under 64 (select_for cs ns k.us k.limit t avoid)
   near_selected ns t avoid cs d =
-      subst (λ (n : ℕ). Under n (named (select_for cs ns k.us k.limit t avoid))) limit
-      (selected_near cs ns k.us k.limit t avoid (subst (λ (n : ℕ). Under n (named (cpu_in t.pinned_cpu))) (sym limit) d.pin) (subst (λ (n : ℕ). Under n (named (cpu_in t.last_cpu))) (sym limit) d.last))
+      subst (λ (n : ℕ). Under n (select_for cs ns k.us k.limit t avoid)) limit
+      (selected_near cs ns k.us k.limit t avoid (subst (λ (n : ℕ). Under n (cpu_in t.pinned_cpu)) (sym limit) d.pin) (subst (λ (n : ℕ). Under n (cpu_in t.last_cpu)) (sym limit) d.last))
 
   record Reinserts (ns : Words) (t : Thread) (m : Memory) : Type 0 where
     goes : StaysInRange m (mem m.threads (reinsert_at_def m.cpus ns k.us k.limit t).cpus)
-    near_chosen : Under 64 (named (reinsert_at_def m.cpus ns k.us k.limit t).chosen)
+    near_chosen : Under 64 ((reinsert_at_def m.cpus ns k.us k.limit t).chosen)
 
   reinserts : (ns : Words) (t : Thread) (m : Memory) → InRange m → ThreadInRange t → Reinserts ns t m
-  reinserts ns t m d r = unfold reinsert_at_def named Under in
+  reinserts ns t m d r = unfold reinsert_at_def Under in
       both (must_rebalance_def m.cpus k.us)
-      (λ e. record { goes = rw e (goes_selected ns t (cpu.Some k.us) m d); near_chosen = rw e (near_selected ns t (cpu.Some k.us) m.cpus r) })
+      (λ e. record { goes = rw e (goes_selected ns t (Some k.us) m d); near_chosen = rw e (near_selected ns t (Some k.us) m.cpus r) })
       (λ e. record { goes = rw e (goes_none d); near_chosen = rw e near })
 
-  goes_reinserted : (chosen : OptionCpu) (x wakeups : ℕ) (m : Memory) → InRange m → Link x → Under 64 (named chosen) → StaysInRange m (reinserted_def k chosen x wakeups m).memory
-  unfolding reinserted_def is_none cpu_of_def named Under
-  goes_reinserted (cpu.Some c) x wakeups m t l u = goes_on_cpu k c x wakeups m t u l
-  goes_reinserted cpu.None x wakeups m t l u = goes_none t
+  goes_reinserted : (chosen : Option ℕ) (x wakeups : ℕ) (m : Memory) → InRange m → Link x → Under 64 chosen → StaysInRange m (reinserted_def k chosen x wakeups m).memory
+  unfolding reinserted_def Under
+  goes_reinserted (Some c) x wakeups m t l u = goes_on_cpu k c x wakeups m t u l
+  goes_reinserted None x wakeups m t l u = goes_none t
 
   -- ---- schedule
 
@@ -308,16 +304,16 @@ module _ (k : Context) (near : k.us < 64) (limit : k.limit ≡ 64) where
       both (eqb (word m.cpus k.us at.PREEMPT) 0) (λ e. rw e (goes_none t))
       (λ e. let a = goes_plain m.threads m.cpus k.us 78 0 t near (omega arith) (omega arith) in rw e (goes_then a (goes_schedule preempting wakeups ns _ a.tame)))
 
-  goes_scheduled : (x : ℕ) (chosen : OptionCpu) (m : Memory) → InRange m → Link x → Under 64 (named chosen) → StaysInRange m (scheduled_on_def k x chosen m).memory
-  unfolding scheduled_on_def is_none cpu_of_def wake_def named Under
-  goes_scheduled x (cpu.Some c) m t l u = goes_on_cpu k c x 0 m t u l
-  goes_scheduled x cpu.None m t l u = goes_none t
+  goes_scheduled : (x : ℕ) (chosen : Option ℕ) (m : Memory) → InRange m → Link x → Under 64 chosen → StaysInRange m (scheduled_on_def k x chosen m).memory
+  unfolding scheduled_on_def wake_def Under
+  goes_scheduled x (Some c) m t l u = goes_on_cpu k c x 0 m t u l
+  goes_scheduled x None m t l u = goes_none t
 
   pub goes_thread : (x : ℕ) (ns : Words) (m : Memory) → InRange m → Link x → StaysInRange m (schedule_thread_def k x ns m).memory
   unfolding schedule_thread_def
   goes_thread x ns m t l =
-      let a = goes_selected ns (record_at m.threads x) cpu.None m t in
-      goes_then a (goes_scheduled x _ _ a.tame l (near_selected ns (record_at m.threads x) cpu.None m.cpus (t.records x)))
+      let a = goes_selected ns (record_at m.threads x) None m t in
+      goes_then a (goes_scheduled x _ _ a.tame l (near_selected ns (record_at m.threads x) None m.cpus (t.records x)))
 
   -- ---- ticks
 
@@ -340,36 +336,35 @@ module _ (k : Context) (near : k.us < 64) (limit : k.limit ≡ 64) where
 
   -- ---- balance
 
-  -- donor and recipient are below 64
-  record Aimed (b : Balancing) : Type 0 where
-    donor : b.donor < 64
-    recipient : b.recipient < 64
+  -- the CPUs between which a thread moves are below 64
+  abbrev Aimed : Balancing → Type 0
+  Aimed b = PairNear 64 b.moves
 
   aimed_begun : Aimed begun
-  unfolding begun
-  aimed_begun = record { donor = omega arith; recipient = omega arith }
+  unfolding begun PairNear
+  aimed_begun = tt
 
   aimed_moved : (b : Balancing) → Aimed b → Aimed (moved b)
-  unfolding moved
-  aimed_moved b a = record { donor = a.donor; recipient = a.recipient }
+  unfolding moved PairNear
+  aimed_moved b a = tt
 
   aimed_outcome : (b : Balancing) (donor recipient load waiting : ℕ) (hands : Bool) → Aimed b → donor < 64 → recipient < 64 → Aimed (outcome b donor recipient load waiting hands)
-  unfolding outcome moving without passed
+  unfolding outcome moving without passed PairNear
   aimed_outcome b donor recipient load waiting hands a d r =
       both (ltb 0 waiting)
-      (λ e. rw e (both hands (λ h. rw h (record { donor = d; recipient = r })) (λ h. rw h (record { donor = a.donor; recipient = a.recipient }))))
-      (λ e. rw e (both (eqb load 1) (λ h. rw h (record { donor = a.donor; recipient = a.recipient })) (λ h. rw h (record { donor = a.donor; recipient = a.recipient }))))
+      (λ e. rw e (both hands (λ h. rw h (d, r)) (λ h. rw h a)))
+      (λ e. rw e (both (eqb load 1) (λ h. rw h a) (λ h. rw h a)))
 
   record Finds (ts : List Thread) (cs : Words) (d : Balanced) : Type 0 where
     goes : StaysInRange (mem ts cs) (mem ts d.cpus)
     aimed : Aimed d.balancing
 
-  finds_pair : (ts : List Thread) (cs : Words) (b : Balancing) (p : rule.Pair) → InRange (mem ts cs) → Aimed b → PairNear 64 p → Finds ts cs (pair_of_def cs b p)
+  finds_pair : (ts : List Thread) (cs : Words) (b : Balancing) (p : Option Pair) → InRange (mem ts cs) → Aimed b → PairNear 64 p → Finds ts cs (pair_of_def cs b p)
   unfolding pair_of_def pair_step passed stopped PairNear
-  finds_pair ts cs b rule.no_pair t a n = record { goes = goes_none t; aimed = record { donor = a.donor; recipient = a.recipient } }
-  finds_pair ts cs b (rule.pair donor recipient) t a n =
-      both (eqb (current_load cs donor) 0) (λ e. rw e (record { goes = goes_none t; aimed = record { donor = a.donor; recipient = a.recipient } }))
-      (λ e. rw e (record { goes = goes_plain ts cs donor 77 1 t n.0 (omega arith) (omega arith); aimed = aimed_outcome b donor recipient _ _ _ a n.0 n.1 }))
+  finds_pair ts cs b None t a n = record { goes = goes_none t; aimed = a }
+  finds_pair ts cs b (Some p) t a n =
+      both (eqb (current_load cs p.donor) 0) (λ e. rw e (record { goes = goes_none t; aimed = a }))
+      (λ e. rw e (record { goes = goes_plain ts cs p.donor 77 1 t n.0 (omega arith) (omega arith); aimed = aimed_outcome b p.donor p.recipient _ _ _ a n.0 n.1 }))
 
   finds_step : (ts : List Thread) (cs ns : Words) (b : Balancing) → InRange (mem ts cs) → Aimed b → Finds ts cs (balance_step_def cs ns k.us k.limit b)
   unfolding balance_step_def chosen_at
@@ -386,15 +381,18 @@ module _ (k : Context) (near : k.us < 64) (limit : k.limit ≡ 64) where
       let f = finds_move n ts _ ns _ s.goes.tame s.aimed in
       both (is_done b) (λ e. rw e (record { goes = goes_none t; aimed = a })) (λ e. rw e (record { goes = goes_then s.goes f.goes; aimed = f.aimed }))
 
-  goes_received : {m : Memory} (recipient wakeups : ℕ) (g : Left Taken Memory) → Took m g → recipient < 64 → StaysInRange m (received k recipient wakeups g).memory
+  goes_received : {m : Memory} (recipient wakeups : ℕ) (g : Left (Option ℕ) Memory) → Took m g → recipient < 64 → StaysInRange m (received k recipient wakeups g).memory
   unfolding received
   goes_received recipient wakeups g t h =
-      goes_either (is_nobody g.answer) _ _ t.goes (goes_then t.goes (goes_on_cpu k recipient (thread_of g.answer) wakeups g.memory t.goes.tame h t.link))
+      goes_either (is_none g.answer) _ _ t.goes (goes_then t.goes (goes_on_cpu k recipient (unwrap_or g.answer NONE) wakeups g.memory t.goes.tame h t.link))
+
+  goes_made : (o : Option Pair) (wakeups : ℕ) (m : Memory) → InRange m → PairNear 64 o → StaysInRange m (move_made k o wakeups m).memory
+  unfolding move_made PairNear
+  goes_made None wakeups m t a = goes_none t
+  goes_made (Some p) wakeups m t a = goes_received p.recipient wakeups _ (took_for p.donor p.recipient m t a.0) a.1
 
   goes_move : (b : Balancing) (wakeups : ℕ) (m : Memory) → InRange m → Aimed b → StaysInRange m (move_one_def k b wakeups m).memory
-  unfolding move_one_def
-  goes_move b wakeups m t a =
-      goes_either (not b.moves) _ _ (goes_none t) (goes_received b.recipient wakeups _ (took_for b.donor b.recipient m t a.donor) a.recipient)
+  goes_move b wakeups m t a = goes_made b.moves wakeups m t a
 
   goes_balance : (wakeups : ℕ) (ns : Words) (m : Memory) → InRange m → StaysInRange m (balance_def k wakeups ns m).memory
   unfolding balance_def move_two
@@ -402,7 +400,9 @@ module _ (k : Context) (near : k.us < 64) (limit : k.limit ≡ 64) where
       let f = finds_move 20 m.threads m.cpus ns (moved begun) t (aimed_moved begun aimed_begun) in
       let g = goes_move (tick.found k begun ns m.cpus).balancing wakeups _ f.goes.tame f.aimed in
       let s = finds_move 20 _ _ ns (moved (tick.found k begun ns m.cpus).balancing) g.tame (aimed_moved _ f.aimed) in
-      goes_then f.goes (goes_then g (goes_then s.goes (goes_move _ _ _ s.goes.tame s.aimed)))
+      let first = (tick.found k begun ns m.cpus).balancing in
+      let second = (tick.found k first ns (tick.move_one_def k first wakeups (tick.found_in k begun ns m)).memory.cpus).balancing in
+      goes_then f.goes (goes_then g (goes_then s.goes (goes_move second _ _ s.goes.tame s.aimed)))
 
   goes_due : (dt : ℕ) (m : Memory) → InRange m → StaysInRange m (due_in k dt m)
   unfolding rebalance_due time_passed

@@ -1,6 +1,8 @@
 -- THE CPUS THAT ARE FOUND over words: each search finds one below its limit, or none.
-use Rattle.std.specs.Prelude.{ℕ, ◌<◌}
-use Rattle.rules.specs.Choice.{Extremes, Pair, no_pair, pair}
+use Rattle.std.specs.Prelude.{ℕ, ◌<◌, Option, None, Some}
+use Rattle.rules.specs.declared.choice.Pair.{Pair}
+use Rattle.rules.specs.declared.choice.Extremes.{Extremes}
+use Rattle.rules.specs.Choice.{pair_at}
 use Rattle.rules.specs.Waits.{Under}
 use Rattle.choice.specs.Select.{cpu_found}
 
@@ -10,6 +12,6 @@ pub record ExtremesNear (n : ℕ) (e : Extremes) : Type 0 where
   pub highest : e.highest < n
   pub lowest : Under n (cpu_found e.lowest)
 
-unfoldable pub PairNear : ℕ → Pair → Type 0
-PairNear n no_pair = Unit
-PairNear n (pair donor recipient) = (donor < n) × (recipient < n)
+unfoldable pub PairNear : ℕ → Option Pair → Type 0
+PairNear n None = Unit
+PairNear n (Some p) = (p.donor < n) × (p.recipient < n)

@@ -4,7 +4,7 @@ use Rattle.std.specs.Prelude.{ℕ, ◌≤◌, ◌<◌, ◌≡◌, List, [], leng
 use Rattle.rules.specs.Waits.{Under}
 use Rattle.thread.specs.declared.Thread.{Thread}
 use Rattle.thread.specs.Thread.{NONE}
-use Rattle.thread.specs.Reads.{named, cpu_in}
+use Rattle.thread.specs.Reads.{cpu_in}
 use Rattle.processor.specs.Words.{width, word}
 use Rattle.processor.specs.Word.{RUNNING}
 use Rattle.processor.specs.Queue.{queue_at}
@@ -30,8 +30,8 @@ Zeros cs c = (w : ℕ) → 66 ≤ w → w < 72 → get_or (get_or cs c []) w 0 �
 -- A record whose link is a thread or none, and whose pin and last CPU are CPUs or none.
 pub record ThreadInRange (t : Thread) : Type 0 where
   pub link : Link t.next
-  pub pin : Under 64 (named (cpu_in t.pinned_cpu))
-  pub last : Under 64 (named (cpu_in t.last_cpu))
+  pub pin : Under 64 (cpu_in t.pinned_cpu)
+  pub last : Under 64 (cpu_in t.last_cpu)
 
 -- Every record is such a one, and every thread number in the words of a CPU is a link number.
 pub record InRange (m : Memory) : Type 0 where

@@ -1,12 +1,12 @@
 -- THE THREAD NUMBERS IN A RUN QUEUE: each is below 1,024 or none, and every operation of the queue keeps that.
-use Rattle.std.specs.Prelude.{ℕ, ◌≤◌, ◌≡◌, length, get_or}
+use Rattle.std.specs.Prelude.{ℕ, ◌≤◌, ◌≡◌, length, get_or, Option, None, Some}
 use Rattle.thread.specs.Thread.{NONE}
+use Rattle.queue.specs.Lists.{found_at}
 use Rattle.queue.specs.declared.lists.Lists.{Lists}
 use Rattle.queue.specs.declared.lists.Found.{Found}
-use Rattle.queue.specs.declared.lists.Found.TheVariants as found
+use Rattle.runqueue.specs.RunQueue.{front_at}
 use Rattle.runqueue.specs.declared.rq.RunQueue.{RunQueue}
 use Rattle.runqueue.specs.declared.rq.Front.{Front}
-use Rattle.runqueue.specs.declared.rq.Front.TheVariants as front
 use Rattle.processor.proofs.Laws.Queue.{Eight}
 
 -- a link number: that of a thread, or none
@@ -22,13 +22,13 @@ pub record ListsInRange (l : Lists) : Type 0 where
 
 -- ---- who is found
 
-unfoldable pub FoundLink : Found → Type 0
-FoundLink (found.At b x) = Link x
-FoundLink found.Nothing = Unit
+unfoldable pub FoundLink : Option Found → Type 0
+FoundLink (Some f) = Link f.thread
+FoundLink None = Unit
 
-unfoldable pub FrontLink : Front → Type 0
-FrontLink (front.At p b x) = Link x
-FrontLink front.Nothing = Unit
+unfoldable pub FrontLink : Option Front → Type 0
+FrontLink (Some f) = Link f.thread
+FrontLink None = Unit
 
 -- ---- the run queue
 

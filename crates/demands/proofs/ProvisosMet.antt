@@ -1,9 +1,8 @@
 -- The bound's provisos (Provisos) can be met, and so many takes as it counts can be made: lists of calls in which a timeshare thread comes in, others arrive while
 -- it waits, and it is handed out by take 4; `demand_3_bound` applies to one with 8,192 takes.
-use Rattle.std.specs.Prelude.{ℕ, zero, suc, ◌+◌, ◌≤◌, ◌<◌, ◌≡◌, ◌≢◌, Bool, true, false, List, [], ◌∷◌, ◌++◌, eqb}
+use Rattle.std.specs.Prelude.{ℕ, zero, suc, ◌+◌, ◌≤◌, ◌<◌, ◌≡◌, ◌≢◌, Bool, true, false, List, [], ◌∷◌, ◌++◌, eqb, Some}
 use Rattle.std.proofs.Math.Path.{refl}
 use Rattle.std.proofs.Common.{sym, ap, ◌∙◌, inl, inr, append_assoc, append-nil, arith, lt-ltb, eqb-true}
-use Rattle.std.proofs.Math.Option.{some}
 use Rattle.rules.specs.declared.Part.TheVariants as part
 use Rattle.rules.proofs.Laws.Line.{both}
 use Rattle.rules.specs.Times.{Thread}
@@ -80,7 +79,7 @@ module _ (accepted draws : ℕ) (known : ℕ → Bool) (cpus : ℕ → Cpu) (thr
   unfolding computed returns
   obeyed h = rw (lt-ltb accepted 4294967295 h)
 
-  logged : returned.log 0 ≡ a_put (into 2 part.Timeshare 4 4 4) ∷ a_take false (some 2) ∷ []
+  logged : returned.log 0 ≡ a_put (into 2 part.Timeshare 4 4 4) ∷ a_take false (Some 2) ∷ []
   unfolding computed
   logged = refl
 

@@ -1,10 +1,8 @@
 -- ONCE SEALED, A CPU IS ALWAYS FOUND: after every list of calls with the seal among them, `select_cpu` on a declared CPU finds a CPU, in every world that a command
 -- may come to. So the rules' clauses for "none found" (`scheduled_on` in Commands, `reinserted` in Schedule) are never taken.
-use Rattle.std.specs.Prelude.{ℕ, ◌<◌, ◌≡◌, refl, true, List}
+use Rattle.std.specs.Prelude.{ℕ, ◌<◌, ◌≡◌, refl, true, List, Option, None, Some, is_some}
 use Rattle.std.proofs.Common.{ap}
 use Rattle.std.proofs.lemmas.Bool.{false≢true}
-use Rattle.std.proofs.Math.Option.{Option, none, some}
-use Rattle.rules.specs.Times.{is_some}
 use Rattle.rules.specs.State as rules
 use Rattle.rules.specs.State.{base_limits, start}
 use Rattle.rules.specs.Schedule as sched
@@ -21,9 +19,8 @@ use Rattle.demands.proofs.Witness.{ready}
 -- a search by a CPU that was put on a node
 module _ (h : LentState) (s : rules.State) (f : RepresentsReached h s) (us : ℕ) (us_in : us < s.limits.cpus) (w : World) (x : ℕ) (avoid : Option ℕ) where
   placed_finds : (o : Option ℕ) → s.topology.placed us ≡ o → is_some o ≡ true → is_some (sched.select_cpu s.limits s.topology s.tick us w x avoid).got ≡ true
-  unfolding is_some
-  placed_finds none e i = absurd (false≢true i)
-  placed_finds (some node) e i =
+  placed_finds None e i = absurd (false≢true i)
+  placed_finds (Some node) e i =
       select_finds s.limits s.topology s.tick us s.known f.reachable.reached.numbered f.stood.small f.stood.tick_fits us_in f.puts_and_takes h.nodes
       f.stood.tree node e (visited_placed s.limits s.topology f.stood.tree.sound us node e) w x avoid
 

@@ -1,19 +1,18 @@
 -- THE LIBRARY'S START: when it answers Ready, and what it leaves where it does not. A reader reads all of this file, after Calls.
-use Rattle.std.specs.Prelude.{ℕ, ◌≤◌, refl, List, length}
+use Rattle.std.specs.Prelude.{ℕ, ◌≤◌, refl, List, length, Option, Some, None}
 use Rattle.std.proofs.Math.Path.{◌≡◌}
 use Rattle.std.proofs.Common.{arith}
 use borrow.Author.Tests.{le-ltb}
 use Rattle.rules.proofs.Laws.Line.{both}
 use Rattle.thread.specs.declared.Thread.{Thread}
 use Rattle.command_laws.specs.Law.{lent}
-use Rattle.stream.specs.declared.start.Started.TheVariants as started
 use Rattle.stream.specs.Start.{no_room_def, initial, start_def}
 use Rattle.demands.specs.Calls.{Typed, Ready}
 
 -- what is lent, whatever it holds
 module _ (threads : List Thread) (cpus nodes : List (List ℕ)) where
   -- Enough rows in each slice: the answer is Ready, with the state of the base's limits.
-  pub start_ready : 1024 ≤ length threads → 64 ≤ length cpus → 128 ≤ length nodes → (start_def (lent threads cpus nodes)).answer ≡ started.Ready initial
+  pub start_ready : 1024 ≤ length threads → 64 ≤ length cpus → 128 ≤ length nodes → (start_def (lent threads cpus nodes)).answer ≡ Some initial
   unfolding start_def no_room_def
   start_ready t c n = rw (le-ltb (length threads) 1024 t, le-ltb (length cpus) 64 c, le-ltb (length nodes) 128 n)
 
@@ -37,8 +36,8 @@ module _ (threads : List Thread) (cpus nodes : List (List ℕ)) where
   }
 
   -- Where it answers NoRoom, everything is as found.
-  pub start_as_found : (start_def (lent threads cpus nodes)).answer ≡ started.NoRoom → (start_def (lent threads cpus nodes)).memory ≡ lent threads cpus nodes
+  pub start_as_found : (start_def (lent threads cpus nodes)).answer ≡ None → (start_def (lent threads cpus nodes)).memory ≡ lent threads cpus nodes
   unfolding start_def
   start_as_found e =
       both (no_room_def (length threads) (length cpus) (length nodes)) (λ t. rw t)
-      (λ t. let z : started.Ready initial ≡ started.NoRoom = rw t at e in let y : ◌≡◌ {A = ℕ} 0 1 = cc in absurd (omega arith))
+      (λ t. let z : Some initial ≡ None = rw t at e in let y : ◌≡◌ {A = ℕ} 0 1 = cc in absurd (omega arith))

@@ -2,7 +2,7 @@
 -- file. Document 01:
 -- "A list starts from the records and state that the library's start made; each call gets what the last one returned and left, and nobody else writes them in
 -- between."
-use Rattle.std.specs.Prelude.{ℕ, ◌≤◌, ◌<◌, ◌≡◌, List, [], ◌∷◌, length, get_or}
+use Rattle.std.specs.Prelude.{ℕ, ◌≤◌, ◌<◌, ◌≡◌, List, [], ◌∷◌, length, get_or, Option, Some, None}
 use Rattle.rules.specs.Queue.{Queue}
 use Rattle.rules.specs.State as rules
 use Rattle.rules.specs.Commands.{step}
@@ -21,7 +21,6 @@ use Rattle.outcome.specs.declared.answer.Answered.{Answered}
 use Rattle.command.specs.Lent.{Lent}
 use Rattle.command_laws.specs.Law.{lent}
 use Rattle.command.specs.Command.{command_def}
-use Rattle.stream.specs.declared.start.Started.TheVariants as started
 use Rattle.stream.specs.Start.{start_def}
 
 -- ---- the memory
@@ -45,7 +44,7 @@ pub record Ready (h : LentState) : Type 0 where
   pub cpus : List (List ℕ)
   pub nodes : List (List ℕ)
   pub typed : Typed threads cpus nodes
-  pub answered : (start_def (lent threads cpus nodes)).answer ≡ started.Ready h.state
+  pub answered : (start_def (lent threads cpus nodes)).answer ≡ Some h.state
   pub left_threads : h.threads ≡ (start_def (lent threads cpus nodes)).memory.threads
   pub left_cpus : h.cpus ≡ (start_def (lent threads cpus nodes)).memory.cpus
   pub left_nodes : h.nodes ≡ (start_def (lent threads cpus nodes)).memory.nodes

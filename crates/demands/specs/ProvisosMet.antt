@@ -1,7 +1,6 @@
 -- The bound's provisos (Provisos) can be met, and so many takes as it counts can be made: lists of calls in which a timeshare thread comes in, others arrive while
 -- it waits, and it is handed out by take 4; `demand_3_bound` applies to one with 8,192 takes.
-use Rattle.std.specs.Prelude.{ℕ, zero, suc, Bool, true, false, List, [], ◌∷◌, ◌++◌}
-use Rattle.std.proofs.Math.Option.{none, some}
+use Rattle.std.specs.Prelude.{ℕ, zero, suc, Bool, true, false, List, [], ◌∷◌, ◌++◌, None, Some}
 use Rattle.rules.specs.declared.PriorityClass.TheVariants as class
 use Rattle.rules.specs.declared.Part.{Part}
 use Rattle.rules.specs.declared.Part.TheVariants as part
@@ -63,16 +62,16 @@ abbrev pub soon : List PutOrTake
 soon =
     a_put (into 2 part.Timeshare 1 1 0)
     ∷ a_put (into 3 part.Idle 0 1 0)
-    ∷ a_take false (some 2)
+    ∷ a_take false (Some 2)
     ∷ a_put (into 2 part.Timeshare 2 2 1)
-    ∷ a_take false (some 2)
+    ∷ a_take false (Some 2)
     ∷ a_put (into 2 part.Timeshare 3 3 2)
-    ∷ a_take false (some 2)
+    ∷ a_take false (Some 2)
     ∷ a_put (into 2 part.Timeshare 4 4 3)
-    ∷ a_take false (some 0)
-    ∷ a_take false (some 2)
+    ∷ a_take false (Some 0)
+    ∷ a_take false (Some 2)
     ∷ a_put (into 2 part.Timeshare 4 4 4)
-    ∷ a_take false (some 2)
+    ∷ a_take false (Some 2)
     ∷ []
 
 abbrev pub since : ℕ → List PutOrTake
@@ -81,7 +80,7 @@ since n = soon ++ history (after_calls (start base_limits) first) (rounds n) 0
 -- ---- for the number of takes: each return leaves CPU 0 and thread 2 as they were
 
 abbrev pub alone : Topology
-alone = record { nodes = record { parent = 0; type = 0 } ∷ []; declared = at (λ c. false) 0 true; placed = at (λ c. none) 0 (some 0) }
+alone = record { nodes = record { parent = 0; type = 0 } ∷ []; declared = at (λ c. false) 0 true; placed = at (λ c. None) 0 (Some 0) }
 
 abbrev pub cpu_then : ℕ → Cpu
 cpu_then draws = record {
@@ -94,7 +93,7 @@ cpu_then draws = record {
   };
   advertised = priority class.Idle 0;
   own_priority = priority class.User 127;
-  running = some 2;
+  running = Some 2;
   must_rebalance = false;
   preempt = true;
   draw_state = draws;
@@ -106,11 +105,11 @@ cpu_then draws = record {
 abbrev pub thread_then : Thread
 thread_then = record {
   own = priority class.User 127;
-  donated = none;
+  donated = None;
   stable = priority class.User 127;
-  pin = none;
-  last = some 0;
-  queue_cpu = some 0;
+  pin = None;
+  last = Some 0;
+  queue_cpu = Some 0;
   deadline = 200;
   timeslice = 0;
   critical = false;

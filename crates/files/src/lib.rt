@@ -1,56 +1,36 @@
-// Standard input block by block, and bytes to a file.
+// Standard input block by block, bytes for a file, and a tally of what was compared.
 #![tactic(auto)]
 
-ghost use Rattle.std.specs.Prelude.{◌≤◌, length};
+pub mod output;
+pub mod tally;
+
+ghost use Rattle.std.specs.Prelude.{◌≤◌, length, IfOk};
 
 use std::io;
 use std::io::Read;
 
-// The bytes at the front of the input, whether they are the last, and whether reading failed.
+// The bytes at the front of the input, and whether they are the last.
 #[derive(Clone, Copy)]
 pub struct Filled {
     pub bytes: usize,
     pub last: bool,
-    pub failed: bool,
-}
-
-fn behind(kept: usize, got: io::Result<usize>) -> Filled {
-    match got {
-        Ok(count) => {
-            let n = std::num::wrapping_add_usize(kept, count);
-            Filled {
-                bytes: n,
-                last: n <= kept,
-                failed: false,
-            }
-        }
-        Err(_) => Filled {
-            bytes: kept,
-            last: false,
-            failed: true,
-        },
-    }
 }
 
 // One read of a file behind the first `kept` bytes. One that adds nothing and does not fail is the end of the input, as is an input without room for a byte.
-pub fn fill(file: &mut impl Read, input: &mut [u8], kept: usize) -> Filled {
+pub fn fill(file: &mut impl Read, input: &mut [u8], kept: usize) -> io::Result<Filled>
+    ensures { IfOk result (λ f. f.bytes ≤ length input.new) }
+{
     if kept < input.len() {
-        let got = file.read(&mut input[kept..]);
-        return behind(kept, got);
+        let count = file.read(&mut input[kept..])?;
+        return Ok(Filled {
+            bytes: kept + count,
+            last: count == 0,
+        });
     }
-    Filled {
-        bytes: kept,
+    Ok(Filled {
+        bytes: input.len(),
         last: true,
-        failed: false,
-    }
-}
-
-// The first n bytes to a file; false if they could not be written.
-pub fn show(file: &impl Print, bytes: &[u8], n: usize) -> bool {
-    if n <= bytes.len() {
-        return file.write_all(&bytes[..n]).is_ok();
-    }
-    false
+    })
 }
 
 // Reads until the buffer is full, the input ends or a read fails; answers how many bytes came, which are at the front of the buffer.

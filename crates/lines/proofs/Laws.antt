@@ -1,29 +1,30 @@
 -- Laws of lines: a line of document 01's numbers has at most 48 bytes, and a line that fits stands whole.
+use Rattle.std.specs.Prelude.{Ok, Option, None, Some}
 use Prim.Native.Nat.{ℕ, suc, ◌+◌, ◌^◌, ◌<◌, ◌≤◌}
 use mathlib.Core.Path.{◌≡◌, ap}
 use mathlib.Core.Bool.{true}
-use mathlib.Core.Option.{Option, none, some}
 use mathlib.Core.List.{List, ◌++◌}
 use lib.ListN.{length, take, drop, length-append}
 use lib.Seq.{sets-eq}
 use native.Mathlib.Omega.{arith}
 use native.Mathlib.Nat.{min-eq_left}
-use Rattle.rules.specs.Commands.{Running, thread, idle, Answer}
+use Rattle.rules.specs.declared.Running.{Running}
+use Rattle.rules.specs.declared.Running.TheVariants as running
+use Rattle.rules.specs.Commands.{Answer}
 use Rattle.rules.specs.Lines.{decimal, space, line_feed, dash, idle_word, number_or_dash, running_or_dash, line}
-use Rattle.lines.specs.declared.Rendered.TheVariants as render
 use Rattle.lines.specs.Lines.{room, rendered, buffer_with}
 use Rattle.lines.proofs.Digits.{digits_length}
 
 -- ---- the largest numbers of a line
 
 unfoldable pub Below : ℕ → Option ℕ → Type 0
-Below limit none = Unit
-Below limit (some n) = n < limit
+Below limit None = Unit
+Below limit (Some n) = n < limit
 
 unfoldable pub RunsBelow : ℕ → Option Running → Type 0
-RunsBelow limit none = Unit
-RunsBelow limit (some idle) = Unit
-RunsBelow limit (some (thread x)) = x < limit
+RunsBelow limit None = Unit
+RunsBelow limit (Some running.Idle) = Unit
+RunsBelow limit (Some (running.Thread x)) = x < limit
 
 -- Numbers of CPUs and threads below 1,024, a load of at most 1,024.
 pub record Shows (number : ℕ) (a : Answer) : Type 0 where
@@ -40,14 +41,14 @@ decimal_length k n h = digits_length 20 k n h
 
 number_length : (limit : ℕ) (o : Option ℕ) → limit ≤ 10000 → Below limit o → length (number_or_dash o) ≤ 4
 unfolding number_or_dash dash Below
-number_length limit none l h = omega arith
-number_length limit (some n) l h = decimal_length 3 n (omega arith)
+number_length limit None l h = omega arith
+number_length limit (Some n) l h = decimal_length 3 n (omega arith)
 
 running_length : (o : Option Running) → RunsBelow 1024 o → length (running_or_dash o) ≤ 4
 unfolding running_or_dash dash idle_word RunsBelow
-running_length none h = omega arith
-running_length (some idle) h = omega arith
-running_length (some (thread x)) h = decimal_length 3 x (omega arith)
+running_length None h = omega arith
+running_length (Some running.Idle) h = omega arith
+running_length (Some (running.Thread x)) h = decimal_length 3 x (omega arith)
 
 pub line_length : (number : ℕ) (a : Answer) → Shows number a → length (line number a) ≤ 48
 unfolding line space line_feed
@@ -66,9 +67,9 @@ line_length number a s =
 -- ---- a line that fits: all of it stands from `at` on, and every other byte is kept
 
 module _ (b : List ℕ) (at : ℕ) (l : List ℕ) (there : room b at ≡ true) (fits : at + length l ≤ length b) where
-  pub rendered_whole : rendered b at l ≡ render.Written (length l)
+  pub rendered_whole : rendered b at l ≡ Ok (length l)
   unfolding rendered
-  rendered_whole = rw there (ap render.Written (min-eq_left (omega arith)))
+  rendered_whole = rw there (ap Ok (min-eq_left (omega arith)))
 
   pub buffer_whole : buffer_with b at l ≡ take at b ++ l ++ drop (at + length l) b
   unfolding buffer_with

@@ -1,8 +1,9 @@
 -- Writing byte after byte: one text after another, and what is left of the buffer.
+use Rattle.std.specs.Prelude.{Ok, Err}
 use Prim.Native.Nat.{ℕ, suc, ◌+◌, ◌-◌, ◌<◌, ◌≤◌, min}
 use mathlib.Core.Path.{◌≡◌, refl, ap, sym, ◌∙◌}
 use mathlib.Core.Bool.{true, false}
-use mathlib.Core.List.{List, [], ◌∷◌, ◌++◌, append_assoc}
+use mathlib.Core.List.{List, [], ◌∷◌, ◌++◌}
 use lib.Dec.{ltb, leb}
 use lib.ListN.{length, set, length-set, drop, drop_of_length-le}
 use lib.Seq.{sets, set_out}
@@ -11,17 +12,19 @@ use native.Mathlib.Nat.{zero-min, min-zero, suc-min-suc}
 use native.Mathlib.Numerals.{add-one}
 use borrow.Author.Tests.{lt-ltb, le-ltb, le-leb, lt-leb, leb-true, leb-false, ltb-true, ltb-false}
 use Rattle.rules.proofs.Laws.Line.{both}
-use Rattle.rules.specs.Commands.{Answer}
-use Rattle.rules.specs.Lines.{space, line_feed, line, end_word, end_line}
-use Rattle.lines.specs.declared.Rendered.TheVariants as render
 use Rattle.lines.specs.declared.Refusal.TheVariants as refusal
-use Rattle.lines.specs.Text.{Text, text, write_one, write, numbers_part, cpu_part, counts_part}
+use Rattle.lines.specs.Text.{Text, text, write_one, write}
 use Rattle.lines.specs.Lines.{room, rendered, buffer_with}
 
-write_append : (t : Text) (l m : List ℕ) → write t (l ++ m) ≡ write (write t l) m
+pub write_append : (t : Text) (l m : List ℕ) → write t (l ++ m) ≡ write (write t l) m
 unfolding write
 write_append t [] m = refl
 write_append t (b ∷ l) m = write_append (write_one t b) l m
+
+-- one byte, then a text
+pub write_byte : (t : Text) (b : ℕ) (l : List ℕ) → write t (b ∷ l) ≡ write (write t (b ∷ [])) l
+unfolding write
+write_byte t b l = refl
 
 -- one text, then another
 pub then : (t u v : Text) (l m : List ℕ) → u ≡ write t l → v ≡ write u m → v ≡ write t (l ++ m)
@@ -43,16 +46,6 @@ pub write_next : (t u : Text) (l : List ℕ) (i x : ℕ) → u ≡ write t (x �
     → write u (drop (i + 1) l) ≡ write t (drop i l)
 unfolding write
 write_next t u l i x p q = rw (add-one, q, p)
-
--- ---- the parts of a line
-
-pub line_parts : (n : ℕ) (a : Answer) → numbers_part n a.refused ++ (cpu_part a.cpu a.running ++ counts_part a.load a.wakeups) ≡ line n a
-unfolding numbers_part cpu_part counts_part line
-line_parts n a = simp append_assoc
-
-pub end_parts : (n m : ℕ) → end_word ++ (space ++ (numbers_part n m ++ line_feed)) ≡ end_line n m
-unfolding numbers_part end_line
-end_parts n m = simp append_assoc
 
 -- ---- what is left of the buffer
 
@@ -89,13 +82,9 @@ write_done t l i h = rw (drop_of_length-le l h)
 
 -- ---- room for a line
 
-pub no_room : (b : List ℕ) (at : ℕ) → length b < at → false ≡ room b at
+pub room_left : (b : List ℕ) (at : ℕ) → leb 48 (length b - at) ≡ room b at
 unfolding room
-no_room b at h = sym (lt-leb (at + 48) (length b) (omega arith))
-
-pub room_left : (b : List ℕ) (at : ℕ) → at ≤ length b → leb 48 (length b - at) ≡ room b at
-unfolding room
-room_left b at h = both (leb 48 (length b - at))
+room_left b at = both (leb 48 (length b - at))
     (λ e. e ∙ sym (le-leb (at + 48) (length b) (omega (arith, leb-true 48 (length b - at) e))))
     (λ e. e ∙ sym (lt-leb (at + 48) (length b) (omega (arith, leb-false 48 (length b - at) e))))
 
@@ -106,9 +95,9 @@ module _ (b : List ℕ) (at : ℕ) (l : List ℕ) (fits : room b at ≡ true) (b
   next_is : next ≡ at + min (length l) (length b - at)
   next_is = ap (λ (t : Text). t.at) now_at
 
-  pub rendered_is : render.Written (next - at) ≡ rendered b at l
+  pub rendered_is : Ok (next - at) ≡ rendered b at l
   unfolding rendered
-  rendered_is = rw fits (ap render.Written (omega (arith, next_is)))
+  rendered_is = rw fits (ap Ok (omega (arith, next_is)))
 
   pub buffer_is : b' ≡ buffer_with b at l
   unfolding buffer_with
@@ -116,7 +105,7 @@ module _ (b : List ℕ) (at : ℕ) (l : List ℕ) (fits : room b at ≡ true) (b
 
 -- refused: nothing is changed
 module _ (b : List ℕ) (at : ℕ) (l : List ℕ) (small : room b at ≡ false) where
-  pub refused_is : render.Refused refusal.SmallBuffer ≡ rendered b at l
+  pub refused_is : Err refusal.SmallBuffer ≡ rendered b at l
   unfolding rendered
   refused_is = rw small
 

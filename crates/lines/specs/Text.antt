@@ -1,7 +1,6 @@
 -- Writing byte after byte into a buffer: where the next byte goes, and the parts of a line.
-use Rattle.std.specs.Prelude.{ℕ, ◌+◌, ◌/◌, ◌%◌, cond, List, [], ◌∷◌, ◌++◌, ltb, length, set}
-use Rattle.std.proofs.Math.Option.{Option}
-use Rattle.rules.specs.Commands.{Running}
+use Rattle.std.specs.Prelude.{◌≡◌, ℕ, ◌+◌, ◌/◌, ◌%◌, cond, List, [], ◌∷◌, ◌++◌, ltb, length, set, Option}
+use Rattle.rules.specs.declared.Running.{Running}
 use Rattle.rules.specs.Lines.{decimal, space, line_feed, number_or_dash, running_or_dash}
 
 -- a buffer, and where the next byte goes
@@ -19,6 +18,10 @@ write_one t b = text (set t.bytes t.at b) (cond (ltb t.at (length t.bytes)) (t.a
 unfoldable pub write : Text → List ℕ → Text
 write t [] = t
 write t (b ∷ l) = write (write_one t b) l
+
+-- What is written to t is this text: whatever place and bytes are left, as `left` says, are those behind the text.
+abbrev pub Writes : (ℕ → List ℕ → Type 0) → Text → List ℕ → Type 0
+Writes left t l = (next : ℕ) (b : List ℕ) → left next b → text b next ≡ write t l
 
 -- the last two digits of a number, and the last four, zeros too
 unfoldable pub two_digits : ℕ → List ℕ

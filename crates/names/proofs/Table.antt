@@ -1,50 +1,72 @@
--- A byte that is none of those whose rows have a text has none: no name, no field of that number.
-use Prim.Native.Nat.{ℕ, zero, suc}
-use Prim.Native.String.{String, [] as end, ◌∷◌ as ◌then◌}
-use mathlib.Core.Path.{◌≡◌, refl}
+-- A byte that is not in the table has neither name nor fields, and no command has more than four fields.
+use Prim.Native.Nat.{ℕ, zero, suc, ◌≤◌, ◌<◌}
+use Prim.Native.String.{String}
+use mathlib.Core.Path.{◌≡◌, refl, ap, sym, ◌∙◌}
 use mathlib.Core.Logic.{◌≢◌}
-use mathlib.Core.List.{List, [], ◌∷◌}
-use lib.Dec.{eqb}
-use borrow.Author.Tests.{ne_eqb}
+use mathlib.Core.Bool.{Bool, true, ◌&&◌}
+use mathlib.Core.List.{List, [], ◌∷◌, map}
+use lib.Dec.{eqb, leb}
+use lib.ListN.{length, get_or}
+use native.Mathlib.Omega.{arith}
+use Rattle.std.proofs.lemmas.List.{get_or-map, length-map}
+use borrow.Author.Tests.{ne_eqb, leb-true}
 use Rattle.rules.proofs.Laws.Line.{both}
-use Rattle.names.specs.Names.{Naming, naming, namings, naming_among, nth_text, ascii, name_of, field_name}
+use Rattle.rules.proofs.Laws.Writer.{and_left, and_right}
+use Rattle.names.specs.Names.{Naming, naming, namings, naming_among, nth_text, ascii, field_name}
 
--- what is known, and more where the text is not empty
-unfoldable pub WithTold : String → Type 0 → Type 0 → Type 0
-WithTold end A B = A
-WithTold (c then s) A B = A × B
+-- Beside A: the byte is that of none of the rows.
+unfoldable pub Apart : Type 0 → ℕ → List Naming → Type 0
+Apart A byte [] = A
+Apart A byte (n ∷ ns) = Apart (A × (byte ≢ n.byte)) byte ns
 
--- Beside A: the byte is none of the rows that have a text.
-unfoldable pub Untold : (Naming → String) → Type 0 → ℕ → List Naming → Type 0
-Untold text A byte [] = A
-Untold text A byte (n ∷ ns) = Untold text (WithTold (text n) A (byte ≢ n.byte)) byte ns
+apart : (A : Type 0) (byte : ℕ) (ns : List Naming) → Apart A byte ns → A × (naming_among byte ns ≡ naming byte "" [])
+unfolding Apart naming_among
+apart A byte [] h = (h, refl)
+apart A byte (n ∷ ns) h =
+    let r = apart (A × (byte ≢ n.byte)) byte ns h in
+    (r.0.0, rw (ne_eqb byte n.byte r.0.1) r.1)
 
-module _ (text : Naming → String) (byte : ℕ) (none : text (naming byte "" []) ≡ "") where
-  row_untold : (A : Type 0) (n : Naming) (ns : List Naming) (s : String) → text n ≡ s → WithTold s A (byte ≢ n.byte) → text (naming_among byte ns) ≡ ""
-      → A × (text (naming_among byte (n ∷ ns)) ≡ "")
-  unfolding WithTold naming_among
-  row_untold A n ns end e a h = (a, both (eqb byte n.byte) (λ t. rw t e) (λ t. rw t h))
-  row_untold A n ns (c then s) e (a, d) h = (a, rw (ne_eqb byte n.byte d) h)
+pub no_row : (A : Type 0) (byte : ℕ) → Apart A byte namings → naming_among byte namings ≡ naming byte "" []
+no_row A byte h = (apart A byte namings h).1
 
-  untold : (A : Type 0) (ns : List Naming) → Untold text A byte ns → A × (text (naming_among byte ns) ≡ "")
-  unfolding Untold naming_among
-  untold A [] h = (h, none)
-  untold A (n ∷ ns) h =
-      let r = untold (WithTold (text n) A (byte ≢ n.byte)) ns h in
-      row_untold A n ns (text n) refl r.0 r.1
+-- at most four fields in each of the rows
+few : List Naming → Bool
+few [] = true
+few (n ∷ ns) = leb (length n.fields) 4 && few ns
 
-pub no_name : (A : Type 0) (byte : ℕ) → Untold (λ n. n.name) A byte namings → [] ≡ name_of byte
-unfolding name_of ascii naming
-no_name A byte h = rw (untold (λ n. n.name) byte refl A namings h).1
+few_among : (byte : ℕ) (ns : List Naming) → few ns ≡ true → length (naming_among byte ns).fields ≤ 4
+unfolding few naming_among naming
+few_among byte [] h = omega arith
+few_among byte (n ∷ ns) h = both (eqb byte n.byte)
+    (λ e. rw e (leb-true _ _ (and_left (leb (length n.fields) 4) (few ns) h)))
+    (λ e. rw e (few_among byte ns (and_right (leb (length n.fields) 4) (few ns) h)))
 
-pub no_field : (A : Type 0) (byte i : ℕ) → Untold (λ n. nth_text i n.fields) A byte namings → [] ≡ field_name byte i
-unfolding field_name ascii naming nth_text
-no_field A byte i h = rw (untold (λ n. nth_text i n.fields) byte refl A namings h).1
+all_few : few namings ≡ true
+unfolding few namings naming
+all_few = refl
 
-pub past_four : (byte i : ℕ) → i ≢ 0 → i ≢ 1 → i ≢ 2 → i ≢ 3 → [] ≡ field_name byte i
-unfolding Untold WithTold namings naming nth_text
-past_four byte zero a b c d = absurd (a refl)
-past_four byte (suc zero) a b c d = absurd (b refl)
-past_four byte (suc (suc zero)) a b c d = absurd (c refl)
-past_four byte (suc (suc (suc zero))) a b c d = absurd (d refl)
-past_four byte (suc (suc (suc (suc k)))) a b c d = no_field Unit byte (suc (suc (suc (suc k)))) tt
+nth_past : (i : ℕ) (l : List String) → length l ≤ i → nth_text i l ≡ ""
+unfolding nth_text
+nth_past i [] h = refl
+nth_past zero (t ∷ ts) h = absurd (omega arith)
+nth_past (suc i) (t ∷ ts) h = nth_past i ts (omega arith)
+
+pub past_four : (byte i : ℕ) → 4 ≤ i → [] ≡ field_name byte i
+unfolding field_name ascii
+past_four byte i h = rw (nth_past i (naming_among byte namings).fields (omega (arith, few_among byte namings all_few)))
+
+-- ---- a field's name among four
+
+four_at : (f : ℕ → List ℕ) (i : ℕ) (d : List ℕ) → i < 4 → get_or (f 0 ∷ f 1 ∷ f 2 ∷ f 3 ∷ []) i d ≡ f i
+four_at f zero d h = refl
+four_at f (suc zero) d h = refl
+four_at f (suc (suc zero)) d h = refl
+four_at f (suc (suc (suc zero))) d h = refl
+four_at f (suc (suc (suc (suc i)))) d h = absurd (omega arith)
+
+pub field_at : {A : Type 0} (now : A → List ℕ) (fs : List A) (byte i : ℕ) (d : A)
+    → map now fs ≡ field_name byte 0 ∷ field_name byte 1 ∷ field_name byte 2 ∷ field_name byte 3 ∷ [] → i < 4
+    → now (get_or fs i d) ≡ field_name byte i
+field_at now fs byte i d e h =
+    let long : length fs ≡ 4 = sym (length-map fs now) ∙ ap length e in
+    sym (get_or-map now fs i d (now d) (omega arith)) ∙ rw e (four_at (field_name byte) i (now d) h)

@@ -1,13 +1,11 @@
 -- What a call answers, of lent memory.
-use Rattle.std.specs.Prelude.{ℕ, ◌+◌, ◌%◌, ◌^◌, cond, List, ◌==◌}
+use Rattle.std.specs.Prelude.{ℕ, ◌+◌, ◌%◌, ◌^◌, cond, List, ◌==◌, Option, Some, None}
 use Rattle.thread.specs.Thread.{NONE}
 use Rattle.processor.specs.Word.{LOAD, RUNNING}
 use Rattle.processor.specs.Words.{word}
+use Rattle.rules.specs.declared.Running.{Running}
+use Rattle.rules.specs.declared.Running.TheVariants as running
 use Rattle.lines.specs.declared.Refusal.{Refusal}
-use Rattle.lines.specs.declared.Refusal.TheVariants as refusal
-use Rattle.lines.specs.declared.Shown.TheVariants as show
-use Rattle.lines.specs.declared.Running.{Running}
-use Rattle.lines.specs.declared.Running.TheVariants as running
 use Rattle.lines.specs.declared.Answer.{Answer}
 use Rattle.questions.specs.declared.state.State.{State}
 use Rattle.outcome.specs.declared.answer.Answered.{Answered}
@@ -24,26 +22,26 @@ accepted s = record {
   node_count = s.node_count;
 }
 
-unfoldable pub nothing_shown : Refusal → Answer
-nothing_shown r = record { refusal = r; cpu = show.Dash; running = running.Dash; load = show.Dash; wakeups = show.Dash }
+unfoldable pub nothing_shown : Option Refusal → Answer
+nothing_shown r = record { refusal = r; cpu = None; running = None; load = None; wakeups = None }
 
 -- a refused command leaves the state as it was
-unfoldable pub refuses : State → Refusal → ℕ → Answered
+unfoldable pub refuses : State → Option Refusal → ℕ → Answered
 refuses s r used = record { answer = nothing_shown r; used = used; state = s }
 
 unfoldable pub changed : State → ℕ → Answered
-changed s used = record { answer = nothing_shown refusal.Obeyed; used = used; state = accepted s }
+changed s used = record { answer = nothing_shown None; used = used; state = accepted s }
 
 unfoldable pub running_in : ℕ → Running
 running_in x = cond (x == NONE) running.Idle (running.Thread x)
 
 unfoldable pub shown : List (List ℕ) → ℕ → ℕ → Answer
 shown cs c wakeups = record {
-  refusal = refusal.Obeyed;
-  cpu = show.Number c;
-  running = running_in (word cs c RUNNING);
-  load = show.Number (word cs c LOAD);
-  wakeups = show.Number wakeups;
+  refusal = None;
+  cpu = Some c;
+  running = Some (running_in (word cs c RUNNING));
+  load = Some (word cs c LOAD);
+  wakeups = Some wakeups;
 }
 
 unfoldable pub ran : List (List ℕ) → State → ℕ → ℕ → ℕ → Answered

@@ -1,10 +1,11 @@
 // What a call answers.
-ghost use Rattle.std.specs.Prelude.{◌≡◌};
+ghost use Rattle.std.specs.Prelude.{◌≡◌, Some, None};
 ghost use Rattle.outcome.specs.Answer.{accepted, nothing_shown, refuses, changed, running_in, shown, ran};
 
-use lines::{Answer, Refusal, Running, Shown};
+use lines::{Answer, Refusal};
 use processor::words::{CpuWords, LOAD, RUNNING, word};
 use questions::state::State;
+use rules::Running;
 use thread::NONE;
 
 // The answer that a line shows, the bytes that the command took, and the state for the next call.
@@ -17,33 +18,35 @@ pub struct Answered {
 
 // One command more is accepted.
 #[tactic(auto, unfolding(crate::specs::Answer::accepted))]
-pub fn accepted(mut state: State) -> State
+pub fn accepted(state: State) -> State
     ensures { result ≡ accepted state }
 {
-    state.accepted = std::num::wrapping_add_u64(state.accepted, 1);
-    state
+    State {
+        accepted: state.accepted.wrapping_add(1),
+        ..state
+    }
 }
 
 #[tactic(auto, unfolding(crate::specs::Answer::nothing_shown))]
-pub fn nothing_shown(refusal: Refusal) -> Answer
+pub fn nothing_shown(refusal: Option<Refusal>) -> Answer
     ensures { result ≡ nothing_shown refusal }
 {
     Answer {
         refusal,
-        cpu: Shown::Dash,
-        running: Running::Dash,
-        load: Shown::Dash,
-        wakeups: Shown::Dash,
+        cpu: None,
+        running: None,
+        load: None,
+        wakeups: None,
     }
 }
 
 // A refused command leaves the state as it was.
 #[tactic(auto, unfolding(crate::specs::Answer::refuses))]
 pub fn refuses(state: State, refusal: Refusal, used: usize) -> Answered
-    ensures { result ≡ refuses state refusal used }
+    ensures { result ≡ refuses state (Some refusal) used }
 {
     Answered {
-        answer: nothing_shown(refusal),
+        answer: nothing_shown(Some(refusal)),
         used,
         state,
     }
@@ -55,7 +58,7 @@ pub fn changed(state: State, used: usize) -> Answered
     ensures { result ≡ changed state used }
 {
     Answered {
-        answer: nothing_shown(Refusal::Obeyed),
+        answer: nothing_shown(None),
         used,
         state: accepted(state),
     }
@@ -67,9 +70,10 @@ pub fn running_in(x: u64) -> Running
     ensures { result ≡ running_in x }
 {
     if x == NONE {
-        return Running::Idle;
+        Running::Idle
+    } else {
+        Running::Thread(x)
     }
-    Running::Thread(x)
 }
 
 // What is shown of CPU c.
@@ -80,11 +84,11 @@ pub fn shown(cpus: &[CpuWords], c: u64, wakeups: u64) -> Answer
     let running = word(cpus, c, RUNNING);
     let load = word(cpus, c, LOAD);
     Answer {
-        refusal: Refusal::Obeyed,
-        cpu: Shown::Number(c),
-        running: running_in(running),
-        load: Shown::Number(load),
-        wakeups: Shown::Number(wakeups),
+        refusal: None,
+        cpu: Some(c),
+        running: Some(running_in(running)),
+        load: Some(load),
+        wakeups: Some(wakeups),
     }
 }
 

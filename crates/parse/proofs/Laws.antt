@@ -1,46 +1,25 @@
--- Laws of a line: what `same` says, that each name of the table is read as its command, and that a number printed in decimal is read as that number.
+-- Laws of a line: that each name of the table is read as its command, and that a number printed in decimal is read as that number.
+use Rattle.std.specs.Prelude.{Option, None, Some}
 use Prim.Native.Nat.{ℕ, zero, suc, ◌+◌, ◌*◌, ◌/◌, ◌%◌, ◌^◌, ◌<◌}
-use mathlib.Core.Path.{◌≡◌, refl, ap, sym}
-use mathlib.Core.Bool.{Bool, true, false, cond, false≢true}
-use mathlib.Core.Option.{Option, none, some}
+use mathlib.Core.Path.{◌≡◌, refl, ap}
+use mathlib.Core.Bool.{Bool, false, cond}
 use mathlib.Core.List.{List, [], ◌∷◌, ◌++◌, map}
 use lib.Dec.{eqb, ltb}
 use lib.ListN.{length, get_or}
 use native.Mathlib.Omega.{arith}
 use native.Mathlib.Nat.{pow-succ'}
-use borrow.Author.Tests.{eqb-true, eq-eqb, ne_eqb, lt-ltb, le-ltb, ltb-true}
+use borrow.Author.Tests.{ne_eqb, lt-ltb, le-ltb, ltb-true}
 use Rattle.rules.proofs.Laws.Line.{both}
 use Rattle.rules.specs.Lines.{decimal}
 use Rattle.rules.specs.Lines as rules
 use Rattle.names.specs.Names.{Naming, namings, naming, ascii}
-use Rattle.parse.specs.Words.{same}
 use Rattle.parse.specs.Numbers.{digit, base, next, and_then, value, digits, is_hexadecimal, number_of}
 use Rattle.parse.specs.Meaning.{byte_among, byte_named}
 
--- ---- `same` is equality
-
-pub same_equal : (l m : List ℕ) → same l m ≡ true → l ≡ m
-unfolding same
-same_equal [] [] e = refl
-same_equal [] (c ∷ m) e = absurd (false≢true e)
-same_equal (b ∷ l) [] e = absurd (false≢true e)
-same_equal (b ∷ l) (c ∷ m) e = both (eqb b c)
-    (λ p. λ i. eqb-true b c p i ∷ same_equal l m (rw p at e) i)
-    (λ p. absurd (false≢true (rw p at e)))
-
-pub equal_same : (l : List ℕ) → same l l ≡ true
-unfolding same
-equal_same [] = refl
-equal_same (b ∷ l) = rw (eq-eqb b b refl) (equal_same l)
-
-pub same_is : (r : Bool) (l m : List ℕ) → (r ≡ true → l ≡ m) → (l ≡ m → r ≡ true) → r ≡ same l m
-same_is true l m f g = sym (rw (f refl) (equal_same m))
-same_is false l m f g = both (same l m) (λ e. absurd (false≢true (g (same_equal l m e)))) (λ e. sym e)
-
 -- ---- each name of the table is read as its command
 
-pub names_read : map (λ (n : Naming). byte_named (ascii n.name)) namings ≡ map (λ (n : Naming). some n.byte) namings
-unfolding byte_named byte_among same namings naming ascii
+pub names_read : map (λ (n : Naming). byte_named (ascii n.name)) namings ≡ map (λ (n : Naming). Some n.byte) namings
+unfolding byte_named byte_among namings naming ascii
 names_read = refl
 
 -- ---- a number printed in decimal is read as that number
@@ -52,20 +31,20 @@ value_append h n (b ∷ l) m = go (next h n (digit b)) (λ x. value_append h x l
   where
     go : (o : Option ℕ) → ((x : ℕ) → value h x (l ++ m) ≡ and_then (value h x l) (λ y. value h y m))
         → and_then o (λ x. value h x (l ++ m)) ≡ and_then (and_then o (λ x. value h x l)) (λ y. value h y m)
-    go none ih = refl
-    go (some x) ih = ih x
+    go None ih = refl
+    go (Some x) ih = ih x
 
 digit_of : (d : ℕ) → d < 10 → digit (48 + d) ≡ d
 unfolding digit
 digit_of d h = rw (le-ltb (48 + d) 48 (omega arith), lt-ltb (48 + d) 58 (omega arith)) (omega arith)
 
-last_digit : (m n : ℕ) → n / 10 ≡ m → n < 2 ^ 64 → value false m ((48 + n % 10) ∷ []) ≡ some n
+last_digit : (m n : ℕ) → n / 10 ≡ m → n < 2 ^ 64 → value false m ((48 + n % 10) ∷ []) ≡ Some n
 unfolding value and_then next base
 last_digit m n e h =
     rw (digit_of (n % 10) (omega arith), lt-ltb (n % 10) 10 (omega arith), lt-ltb (m * 10 + n % 10) (2 ^ 64) (omega arith))
-    (ap some (omega arith))
+    (ap Some (omega arith))
 
-digits_value : (k n : ℕ) → n < 10 ^ suc k → n < 2 ^ 64 → value false 0 (rules.digits (suc k) n) ≡ some n
+digits_value : (k n : ℕ) → n < 10 ^ suc k → n < 2 ^ 64 → value false 0 (rules.digits (suc k) n) ≡ Some n
 unfolding rules.digits and_then
 digits_value zero n h l = rw (lt-ltb n 10 h) (last_digit 0 n (omega arith) l)
 digits_value (suc k) n h l = both (ltb n 10)
@@ -103,6 +82,6 @@ decimal_digits : (k n : ℕ) → digits false (rules.digits (suc k) n) ≡ value
 unfolding rules.digits
 decimal_digits k n = some_digits (cond (ltb n 10) [] (rules.digits k (n / 10))) (48 + n % 10)
 
-pub decimal_read : (n : ℕ) → n < 2 ^ 64 → number_of (decimal n) ≡ some n
+pub decimal_read : (n : ℕ) → n < 2 ^ 64 → number_of (decimal n) ≡ Some n
 unfolding number_of decimal
 decimal_read n h = rw (not_hexadecimal (rules.digits 20 n) (small_digits 20 n 1), decimal_digits 19 n) (digits_value 19 n (omega arith) h)

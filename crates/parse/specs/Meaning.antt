@@ -1,15 +1,14 @@
 -- What one line of text means: a name, then the fields of that command in the order of document 01's table.
-use Rattle.std.specs.Prelude.{ℕ, zero, suc, ◌+◌, Bool, true, false, cond, List, [], ◌∷◌, eqb, length, set}
-use Rattle.std.proofs.Math.Option.{Option, none, some}
+use Rattle.std.specs.Prelude.{ℕ, zero, suc, ◌+◌, Bool, true, false, cond, List, [], ◌∷◌, eqb, length, set, Option, None, Some, Result, Ok, Err}
+use Rattle.std.specs.Str.{bytes_eq}
 use Rattle.names.specs.Names.{Naming, namings, ascii}
 use Rattle.request.specs.Request.{all_ones_of}
 use Rattle.request.specs.Fields.{list_of, four, row}
-use Rattle.parse.specs.Words.{before_comment, skip_blanks, word, behind, same}
+use Rattle.parse.specs.Words.{before_comment, skip_blanks, word, behind}
 use Rattle.parse.specs.Numbers.{number_of}
-use Rattle.parse.specs.declared.Parsed.{Parsed}
-use Rattle.parse.specs.declared.Parsed.TheVariants as parsed
-use Rattle.parse.specs.declared.name.Named.{Named}
-use Rattle.parse.specs.declared.name.Named.TheVariants as named
+use Rattle.parse.specs.declared.Command.{Command}
+use Rattle.parse.specs.declared.Misfit.{Misfit}
+use Rattle.parse.specs.declared.Misfit.TheVariants as misfit
 
 -- A line without words means nothing. `unfit i`: word number i, the name being word 0, is missing, is no number, or is one too many. A command is its byte and
 -- four fields, 0 where it has fewer.
@@ -23,8 +22,8 @@ pub data Meaning : Type 0 where
 
 -- the byte of the command that has this name
 unfoldable pub byte_among : List ℕ → List Naming → Option ℕ
-byte_among name [] = none
-byte_among name (n ∷ ns) = cond (same name (ascii n.name)) (some n.byte) (byte_among name ns)
+byte_among name [] = None
+byte_among name (n ∷ ns) = cond (bytes_eq name (ascii n.name)) (Some n.byte) (byte_among name ns)
 
 unfoldable pub byte_named : List ℕ → Option ℕ
 byte_named name = byte_among name namings
@@ -36,18 +35,18 @@ unfoldable pub is_pin : ℕ → ℕ → Bool
 is_pin byte i = cond (eqb byte 0x10) (eqb i 3) false
 
 unfoldable pub no_pin : List ℕ → Bool
-no_pin word = cond (eqb (length word) 0) true (same word (ascii "-"))
+no_pin word = cond (eqb (length word) 0) true (bytes_eq word (ascii "-"))
 
 unfoldable pub pin : Bool → List ℕ → Option ℕ
-pin wide word = cond (no_pin word) (some (all_ones_of wide)) (number_of word)
+pin wide word = cond (no_pin word) (Some (all_ones_of wide)) (number_of word)
 
 -- field number i, from 0
 unfoldable pub field : Bool → ℕ → ℕ → List ℕ → Option ℕ
 field wide byte i word = cond (is_pin byte i) (pin wide word) (number_of word)
 
 unfoldable pub given : Option ℕ → Meaning → (ℕ → Meaning) → Meaning
-given none other then = other
-given (some n) other then = then n
+given None other then = other
+given (Some n) other then = then n
 
 -- All fields are read: the line has to end. If it does not, word number i is one too many.
 unfoldable pub ended : ℕ → ℕ → List ℕ → List ℕ → Meaning
@@ -64,8 +63,8 @@ fields_from wide byte i (suc n) fields text =
 
 -- what a name means with the text behind it
 unfoldable pub named_meaning : Bool → List ℕ → Option ℕ → Meaning
-named_meaning wide text none = unknown
-named_meaning wide text (some byte) = fields_from wide byte 0 (length (row wide byte)) (four []) text
+named_meaning wide text None = unknown
+named_meaning wide text (Some byte) = fields_from wide byte 0 (length (row wide byte)) (four []) text
 
 unfoldable pub text_meaning : Bool → List ℕ → Meaning
 text_meaning wide text =
@@ -77,12 +76,8 @@ meaning wide line = text_meaning wide (before_comment line)
 
 -- ---- what the declared answers stand for
 
-unfoldable pub meaning_of : Parsed → Meaning
-meaning_of parsed.Nothing = nothing
-meaning_of parsed.Unknown = unknown
-meaning_of (parsed.Unfit i) = unfit i
-meaning_of (parsed.Command byte fields) = command byte (list_of fields)
-
-unfoldable pub byte_of : Named → Option ℕ
-byte_of named.Nobody = none
-byte_of (named.Byte b) = some b
+unfoldable pub meaning_of : Result (Option Command) Misfit → Meaning
+meaning_of (Ok None) = nothing
+meaning_of (Ok (Some c)) = command c.byte (list_of c.fields)
+meaning_of (Err misfit.Unknown) = unknown
+meaning_of (Err (misfit.Unfit i)) = unfit i

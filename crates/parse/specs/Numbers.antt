@@ -1,8 +1,5 @@
 -- The number that a word stands for: decimal, or hexadecimal behind `0x`.
-use Rattle.std.specs.Prelude.{ℕ, ◌+◌, ◌*◌, ◌-◌, ◌^◌, Bool, true, false, cond, List, [], ◌∷◌, eqb, ltb, length, get_or, drop}
-use Rattle.std.proofs.Math.Option.{Option, none, some}
-use Rattle.parse.specs.declared.number.Number.{Number}
-use Rattle.parse.specs.declared.number.Number.TheVariants as number
+use Rattle.std.specs.Prelude.{ℕ, ◌+◌, ◌*◌, ◌-◌, ◌^◌, Bool, true, false, cond, List, [], ◌∷◌, eqb, ltb, length, get_or, drop, Option, None, Some}
 
 -- 0 to 9, a to f, A to F; 16 for a byte that is no digit
 unfoldable pub digit : ℕ → ℕ
@@ -19,20 +16,20 @@ base hexadecimal = cond hexadecimal 16 10
 
 -- The number n with one more digit; none if that is no digit of the base, or if the number is 2^64 or more.
 unfoldable pub next : Bool → ℕ → ℕ → Option ℕ
-next hexadecimal n d = cond (ltb d (base hexadecimal)) (cond (ltb (n * base hexadecimal + d) (2 ^ 64)) (some (n * base hexadecimal + d)) none) none
+next hexadecimal n d = cond (ltb d (base hexadecimal)) (cond (ltb (n * base hexadecimal + d) (2 ^ 64)) (Some (n * base hexadecimal + d)) None) None
 
 unfoldable pub and_then : Option ℕ → (ℕ → Option ℕ) → Option ℕ
-and_then none f = none
-and_then (some n) f = f n
+and_then None f = None
+and_then (Some n) f = f n
 
 -- the number n with all these digits behind it
 unfoldable pub value : Bool → ℕ → List ℕ → Option ℕ
-value hexadecimal n [] = some n
+value hexadecimal n [] = Some n
 value hexadecimal n (b ∷ l) = and_then (next hexadecimal n (digit b)) (λ m. value hexadecimal m l)
 
 -- at least one digit
 unfoldable pub digits : Bool → List ℕ → Option ℕ
-digits hexadecimal [] = none
+digits hexadecimal [] = None
 digits hexadecimal (b ∷ l) = value hexadecimal 0 (b ∷ l)
 
 -- `0x` stands at the front
@@ -41,8 +38,3 @@ is_hexadecimal word = cond (ltb (length word) 2) false (cond (eqb (get_or word 0
 
 unfoldable pub number_of : List ℕ → Option ℕ
 number_of word = cond (is_hexadecimal word) (digits true (drop 2 word)) (digits false word)
-
--- what the declared answer stands for
-unfoldable pub option_of : Number → Option ℕ
-option_of number.None = none
-option_of (number.Is n) = some n

@@ -1,83 +1,43 @@
 // The command that a word names.
-ghost use Rattle.std.specs.Prelude.{◌≡◌, drop};
-ghost use Rattle.names.specs.Names.{namings};
-ghost use Rattle.parse.specs.Meaning.{byte_among, byte_named, byte_of};
+ghost use Rattle.std.specs.Prelude.{◌≡◌};
+ghost use Rattle.std.specs.List.{find};
+ghost use Rattle.std.specs.Option.{option_map};
+ghost use Rattle.std.specs.Str.{bytes_eq};
+ghost use Rattle.parse.specs.Meaning.{byte_named};
 
-use crate::words::same;
-
+// A command's name and its byte.
 #[derive(Clone, Copy)]
-pub enum Named {
-    Nobody,
-    Byte(u8),
+struct Row(&'static [u8], u8);
+
+const ROWS: [Row; 16] = [
+    Row(b"cpu", 0x01),
+    Row(b"node", 0x02),
+    Row(b"place", 0x03),
+    Row(b"seal", 0x04),
+    Row(b"shortest", 0x05),
+    Row(b"thread", 0x10),
+    Row(b"tick", 0x11),
+    Row(b"wake", 0x12),
+    Row(b"schedule", 0x13),
+    Row(b"hardtick", 0x14),
+    Row(b"stattick", 0x15),
+    Row(b"resched", 0x16),
+    Row(b"preempt", 0x17),
+    Row(b"donate", 0x18),
+    Row(b"undonate", 0x19),
+    Row(b"critical", 0x1a),
+];
+
+// The byte of the first row with this name.
+fn byte_in(rows: &[Row], name: &[u8]) -> Option<u8>
+    ensures { result ≡ option_map (λ r. r.1) (find (λ r. bytes_eq name.now r.0.now) rows.now) }
+{
+    rows.iter().find(|row| name == row.0).map(|row| row.1)
 }
 
-// The last five names of the table.
-#[tactic(auto, unfolding(crate::specs::Meaning::byte_of, crate::specs::Meaning::byte_among, names::specs::Names::namings, names::specs::Names::naming, names::specs::Names::ascii))]
-fn last_names(word: &[u8]) -> Named
-    ensures { byte_of result ≡ byte_among word.now (drop 11 namings) }
+#[tactic(auto, unfolding(crate::specs::Meaning::byte_named, crate::specs::Meaning::byte_among, names::specs::Names::namings, names::specs::Names::naming, names::specs::Names::ascii))]
+pub fn byte_named(word: &[u8]) -> Option<u8>
+    ensures { result ≡ byte_named word.now }
 {
-    if same(word, b"resched") {
-        return Named::Byte(0x16);
-    }
-    if same(word, b"preempt") {
-        return Named::Byte(0x17);
-    }
-    if same(word, b"donate") {
-        return Named::Byte(0x18);
-    }
-    if same(word, b"undonate") {
-        return Named::Byte(0x19);
-    }
-    if same(word, b"critical") {
-        return Named::Byte(0x1a);
-    }
-    Named::Nobody
-}
-
-// The last ten.
-#[tactic(auto, unfolding(crate::specs::Meaning::byte_of, crate::specs::Meaning::byte_among, names::specs::Names::namings, names::specs::Names::naming, names::specs::Names::ascii))]
-fn later_names(word: &[u8]) -> Named
-    ensures { byte_of result ≡ byte_among word.now (drop 6 namings) }
-{
-    if same(word, b"tick") {
-        return Named::Byte(0x11);
-    }
-    if same(word, b"wake") {
-        return Named::Byte(0x12);
-    }
-    if same(word, b"schedule") {
-        return Named::Byte(0x13);
-    }
-    if same(word, b"hardtick") {
-        return Named::Byte(0x14);
-    }
-    if same(word, b"stattick") {
-        return Named::Byte(0x15);
-    }
-    last_names(word)
-}
-
-#[tactic(auto, unfolding(crate::specs::Meaning::byte_of, crate::specs::Meaning::byte_named, crate::specs::Meaning::byte_among, names::specs::Names::namings, names::specs::Names::naming, names::specs::Names::ascii))]
-pub fn byte_named(word: &[u8]) -> Named
-    ensures { byte_of result ≡ byte_named word.now }
-{
-    if same(word, b"cpu") {
-        return Named::Byte(0x01);
-    }
-    if same(word, b"node") {
-        return Named::Byte(0x02);
-    }
-    if same(word, b"place") {
-        return Named::Byte(0x03);
-    }
-    if same(word, b"seal") {
-        return Named::Byte(0x04);
-    }
-    if same(word, b"shortest") {
-        return Named::Byte(0x05);
-    }
-    if same(word, b"thread") {
-        return Named::Byte(0x10);
-    }
-    later_names(word)
+    byte_in(&ROWS, word)
 }

@@ -6,21 +6,16 @@ ghost use Rattle.rules.specs.Queue.{realtime_bucket, offset};
 pub fn realtime_bucket(value: u64) -> u64
     ensures { result ≡ realtime_bucket value }
 {
-    if value < 128 {
-        return value / 16;
-    }
-    7
+    value.min(127) / 16
 }
 
 #[tactic(auto, using(rules::proofs::Laws::Effect::offset_past), unfolding(rules::specs::Queue::offset, rules::specs::Queue::nr_buckets, rules::specs::Priority::nr_values, rules::specs::Queue::width))]
 pub fn offset(value: u64) -> u64
     ensures { result ≡ offset value }
 {
-    if value == 0 {
-        return 7;
+    match value {
+        0 => 7,
+        1..=127 => (128 - value) / 16,
+        _ => 0,
     }
-    if value < 128 {
-        return (128 - value) / 16;
-    }
-    0
 }

@@ -1,5 +1,5 @@
 -- One part of a run queue and its numbers, stored into the words of its CPU: where an operation changes no other part, this stores the queue.
-use Rattle.std.specs.Prelude.{◌≡◌, ℕ, ◌+◌, ◌≤◌, Bool, true, false, ◌&&◌, List, [], set, ◌==◌, slice_index_or, refl}
+use Rattle.std.specs.Prelude.{◌≡◌, ℕ, ◌+◌, ◌≤◌, Bool, true, List, [], set, ◌==◌, slice_index_or, refl, Option, false, ◌&&◌, None}
 use Rattle.std.proofs.Common.{sym, ap, ◌∙◌, arith}
 use Rattle.rules.proofs.Laws.Line.{both}
 use Rattle.rules.specs.declared.Part.{Part}
@@ -10,10 +10,9 @@ use Rattle.queue.specs.Timeshare.{ts_step, ts_advance}
 use Rattle.runqueue.specs.declared.rq.RunQueue.{RunQueue}
 use Rattle.runqueue.specs.declared.rq.Arrival.{Arrival}
 use Rattle.runqueue.specs.declared.rq.Front.{Front}
-use Rattle.runqueue.specs.declared.rq.Front.TheVariants as front
-use Rattle.runqueue.specs.RunQueue.{with_realtime, with_timeshare, with_idle, advertising, counted, uncounted, rq_recalc}
+use Rattle.runqueue.specs.RunQueue.{front_at, with_realtime, with_timeshare, with_idle, advertising, counted, uncounted, rq_recalc, rq_front, rq_front_realtime}
 use Rattle.runqueue.specs.RunQueue.{rq_insert_realtime, rq_insert_timeshare, rq_insert_idle, rq_insert_into}
-use Rattle.runqueue.specs.RunQueue.{rq_taken_realtime, rq_taken_timeshare, rq_taken_idle, rq_taken_from, rq_taken, rq_front_realtime, rq_front, rq_clock, rq_hardtick}
+use Rattle.runqueue.specs.RunQueue.{rq_taken_realtime, rq_taken_timeshare, rq_taken_idle, rq_taken_from, rq_taken, rq_clock, rq_hardtick}
 use Rattle.processor.specs.Window.{load_n, place_n, load_later, place_loaded}
 use Rattle.processor.specs.Queue.{lists_at, lists_stored_def, built_of, queue_from, stored_from, queue_in_def, queue_into, queue_at, queue_stored}
 use Rattle.processor.specs.Parts.{lists_stored, numbers_into, numbers_stored, part_into, part_stored}
@@ -92,21 +91,10 @@ unfolding part_stored queue_stored queue_at
 left_stored p cs c b previous next v pinned = ap (λ (row : List ℕ). set cs c row) (left_of p (slice_index_or cs c []) b previous next v pinned)
 
 -- the front that was answered is taken from its part
-pub took_stored : (cs : List (List ℕ)) (c : ℕ) (f : Front) (p r : Part) (b x previous next v : ℕ) (pinned : Bool) → f ≡ front.At p b x → p ≡ r
+pub took_stored : (cs : List (List ℕ)) (c : ℕ) (f : Option Front) (p r : Part) (b x previous next v : ℕ) (pinned : Bool) → f ≡ front_at p b x → p ≡ r
     → queue_stored cs c (rq_taken_from r (queue_at cs c) b previous next v pinned) ≡ queue_stored cs c (rq_taken (queue_at cs c) f previous next v pinned)
 unfolding rq_taken
 took_stored cs c f p r b x previous next v pinned e h = rw (e, h)
-
--- a stealing take finds nobody at movable count 0
-pub front_kept : (q : RunQueue) (stealing : Bool) → (stealing && q.movable == 0) ≡ true → front.Nothing ≡ rq_front q stealing
-unfolding rq_front
-front_kept q true e = rw e
-front_kept q false e = cc
-
-pub front_open : (q : RunQueue) (stealing : Bool) → (stealing && q.movable == 0) ≡ false → rq_front_realtime q ≡ rq_front q stealing
-unfolding rq_front
-front_open q true e = rw e
-front_open q false e = refl
 
 -- what changes no list
 
@@ -142,3 +130,15 @@ clock_stored cs c =
     ap (λ (row : List ℕ). set cs c row)
     (numbers_alone (slice_index_or cs c []) (rq_clock (queue_in_def (slice_index_or cs c []))) refl (advance_keeps (λ (u : TimeshareQueue). u.priorities) t 1 true refl)
     (advance_keeps (λ (u : TimeshareQueue). u.queues) t 1 true refl) refl)
+
+-- ---- who leaves next, if a thread is asked of a queue
+
+pub front_kept : (q : RunQueue) (stealing : Bool) → (stealing && q.movable == 0) ≡ true → None ≡ rq_front q stealing
+unfolding rq_front
+front_kept q true e = rw e
+front_kept q false e = cc
+
+pub front_open : (q : RunQueue) (stealing : Bool) → (stealing && q.movable == 0) ≡ false → rq_front_realtime q ≡ rq_front q stealing
+unfolding rq_front
+front_open q true e = rw e
+front_open q false e = refl

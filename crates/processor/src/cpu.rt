@@ -13,9 +13,10 @@ pub fn current_load(cpus: &[CpuWords], c: u64) -> u64
 {
     let load = word(cpus, c, LOAD);
     if word(cpus, c, IS_IDLE) == 0 {
-        return std::num::wrapping_add_u64(load, 1);
+        load.wrapping_add(1)
+    } else {
+        load
     }
-    load
 }
 
 // The greater of what its queue advertises and what it runs at.

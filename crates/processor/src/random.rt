@@ -1,28 +1,16 @@
 // The draw (`quick_random`, utils.rs): 32 bits of state to a CPU.
-ghost use Rattle.std.specs.Prelude.{◌≡◌, ◌*◌, ◌%◌, ◌^◌};
+ghost use Rattle.std.specs.Prelude.{◌≡◌};
 ghost use Rattle.rules.specs.Draw.{seed, next_state, draw};
 ghost use Rattle.processor.specs.Words.{word, put_word};
 
 use crate::words::{CpuWords, RAND_STATE, put_word, word};
-
-// The low 32 bits of the product.
-#[tactic(auto, using(queue::specs::Num::half_product))]
-pub fn wrapping_mul_u32(a: u32, b: u32) -> u32
-    ensures { result ≡ a * b % 2 ^ 32 }
-{
-    let wide = (a as u64) * (b as u64);
-    (wide % 0x1_0000_0000) as u32
-}
 
 // A state of 0 is replaced by the CPU number.
 #[tactic(auto, unfolding(rules::specs::Draw::seed))]
 fn seed(cpu: u64, state: u64) -> u64
     ensures { result ≡ seed cpu state }
 {
-    if state == 0 {
-        return cpu;
-    }
-    state
+    if state == 0 { cpu } else { state }
 }
 
 // The state after one draw of this CPU.
@@ -31,9 +19,7 @@ pub fn next_state(cpu: u64, state: u64) -> u64
     ensures { result ≡ next_state cpu state }
 {
     let low = (seed(cpu, state) % 0x1_0000_0000) as u32;
-    let product = wrapping_mul_u32(low, 69069);
-    let next = std::num::wrapping_add_u32(product, 5);
-    next as u64
+    low.wrapping_mul(69069).wrapping_add(5) as u64
 }
 
 // What a state draws.

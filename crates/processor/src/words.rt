@@ -47,12 +47,7 @@ pub const IDLE_TIMESLICE: usize = 81;
 pub fn word(cpus: &[CpuWords], c: u64, w: usize) -> u64
     ensures { result ≡ word cpus.now c w }
 {
-    let i = c as usize;
-    if i < cpus.len() {
-        let j = w % 96;
-        return cpus[i][j];
-    }
-    0
+    cpus.get(c as usize).map_or(0, |row| row[w % 96])
 }
 
 #[tactic(auto, using(crate::proofs::Laws::Words::put_out), unfolding(crate::specs::Words::put_word))]
@@ -61,7 +56,6 @@ pub fn put_word(cpus: &mut [CpuWords], c: u64, w: usize, v: u64)
 {
     let i = c as usize;
     if i < cpus.len() {
-        let j = w % 96;
-        cpus[i][j] = v;
+        cpus[i][w % 96] = v;
     }
 }

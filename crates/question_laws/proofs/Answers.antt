@@ -1,18 +1,16 @@
 -- THE QUESTIONS: each, asked of memory that stands for a state which the rules reach, is answered as the rules answer it; so the refusal of every reading
 -- is that of the rules.
 use Prim.Native.Nat.{ℕ, zero, suc, ◌<◌, ◌≤◌}
-use Rattle.std.specs.Prelude.{◌≡◌, Bool, true, false, ◌&&◌, ◌||◌, List, eqb, ltb}
+use Rattle.std.specs.Prelude.{◌≡◌, Bool, true, false, ◌&&◌, ◌||◌, List, eqb, ltb, Option, None, Some, is_some}
 use Rattle.std.proofs.Math.Path.{refl, sym, ap}
 use Rattle.std.proofs.Common.{◌∙◌, true≢false, arith}
 use Rattle.std.proofs.Math.Bool.{not, not-not, or-true}
-use Rattle.std.proofs.Math.Option.{Option, none, some}
 use Rattle.std.proofs.Math.ListN.{length}
 use Rattle.std.proofs.Math.Dec.{leb}
 use borrow.Author.Tests.{ne_eqb, lt-ltb, lt-leb, ltb-true}
 use Rattle.rules.specs.Line.{has}
 use Rattle.rules.proofs.Laws.Line.{both}
 use Rattle.rules.proofs.Laws.Limits.{read_widths}
-use Rattle.rules.specs.Times.{is_some}
 use Rattle.rules.specs.Queue.{order}
 use Rattle.rules.specs.Puts.{PutOrTake}
 use Rattle.rules.specs.State as rules
@@ -119,8 +117,8 @@ module _ {H : ℕ → List PutOrTake} {ts : List Thread} {cs ns : List (List ℕ
 
   pub pin_declared_same : (pin : Option ℕ) → ask.pin_declared cs a pin ≡ rules_ask.pin_declared s pin
   unfolding ask.pin_declared rules_ask.pin_declared
-  pin_declared_same none = refl
-  pin_declared_same (some c) = cpu_declared_same c
+  pin_declared_same None = refl
+  pin_declared_same (Some c) = cpu_declared_same c
 
   -- a thread that the rules know runs, waits, or is blocked, and its record says so
   pub unknown_place : (x : ℕ) → s.known x ≡ false → place_at ts x ≡ place.Undeclared

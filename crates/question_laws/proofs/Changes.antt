@@ -1,10 +1,9 @@
 -- THE COMMANDS THAT TOUCH NO QUEUE (hex 01 to 05, 10, 11, 19, 1A): memory that stands for a state stands, once such a command is obeyed, for the state that
 -- the rules leave.
-use Rattle.std.specs.Prelude.{ℕ, zero, suc, ◌+◌, ◌^◌, ◌≤◌, ◌<◌, ◌≡◌, Bool, not, ◌&&◌, List, [], ◌∷◌, ◌++◌, set, eqb, ltb}
+use Rattle.std.specs.Prelude.{ℕ, zero, suc, ◌+◌, ◌^◌, ◌≤◌, ◌<◌, ◌≡◌, Bool, not, ◌&&◌, List, [], ◌∷◌, ◌++◌, set, eqb, ltb, Option, None, Some, is_some}
 use Rattle.std.proofs.Math.Path.{refl, ap, subst}
 use Rattle.std.proofs.Common.{sym, ◌∙◌, true≢false, length-set}
 use Rattle.std.proofs.Math.Bool.{true, false, cond}
-use Rattle.std.proofs.Math.Option.{Option, none, some}
 use native.Mathlib.Omega.{arith}
 use Rattle.std.proofs.Math.ListN.{length, length-append}
 use Rattle.std.proofs.Math.Dec.{leb}
@@ -12,7 +11,7 @@ use borrow.Author.Tests.{eqb-true, eqb-false, leb-true, ltb-true, not-true}
 use Rattle.rules.proofs.Laws.Line.{both}
 use Rattle.rules.specs.Priority.{nr_values, priority, class_at}
 use Rattle.rules.specs.Times as times
-use Rattle.rules.specs.Times.{is_some, donated_to, critical_at}
+use Rattle.rules.specs.Times.{donated_to, critical_at}
 use Rattle.rules.specs.Puts.{PutOrTake}
 use Rattle.rules.specs.State as rules
 use Rattle.rules.specs.State.{at, Limits, Topology, is_number, runs_on, new_thread}
@@ -30,7 +29,7 @@ use Rattle.thread.specs.declared.place.Place.TheVariants as place
 use Rattle.thread.specs.Thread.{NONE, BLOCKED, with_critical}
 use Rattle.thread.specs.Priority.{remove_donated_priority}
 use Rattle.thread.specs.Time.{field_of, named_field, named_none}
-use Rattle.thread.specs.Reads.{reads, named, cpu_in}
+use Rattle.thread.specs.Reads.{reads, cpu_in}
 use Rattle.thread.specs.Place.{place_in, new, reads_new, critical_mark}
 use Rattle.processor.specs.Words.{width, word, put_word}
 use Rattle.processor.proofs.Laws.Words.{word_put_other}
@@ -53,10 +52,9 @@ use Rattle.outcome.specs.Call.{pin_number, with_shortest}
 
 -- ---- questions answered yes
 
-no_some : (o : Option ℕ) → is_some o ≡ false → o ≡ none
-unfolding is_some
-no_some none e = refl
-no_some (some x) e = absurd (true≢false e)
+no_some : (o : Option ℕ) → is_some o ≡ false → o ≡ None
+no_some None e = refl
+no_some (Some x) e = absurd (true≢false e)
 
 -- ---- rows of nodes, and records, written
 
@@ -120,7 +118,7 @@ module _ {limits : Limits} {topology : Topology} {known active : ℕ → Bool} {
     shows_placed n = shows_words s _ _ c w (beside_put cs c 73 n (in_rows s c near) (omega arith) (omega arith)) (λ d. refl) (λ x. refl) (placed_words n)
 
   -- the record of a thread that is not known, and so neither runs nor waits, is written as that of one declared
-  shows_new : (x : ℕ) (t : Thread) (u : times.Thread) → x < limits.threads → Free w x → active x ≡ false → reads t ≡ u → u.queue_cpu ≡ none → t.place ≡ BLOCKED
+  shows_new : (x : ℕ) (t : Thread) (u : times.Thread) → x < limits.threads → Free w x → active x ≡ false → reads t ≡ u → u.queue_cpu ≡ None → t.place ≡ BLOCKED
       → WorldRep limits topology (at known x true) active (set ts x t) cs (with_thread w x u)
   unfolding Under place_in
   shows_new x t u h f a r q b =
@@ -179,7 +177,7 @@ module _ {H : ℕ → List PutOrTake} {ts : List Thread} {cs ns : List (List ℕ
       let there : n < length s.topology.nodes = ltb-true _ _ exists.0 in
       let named : (ltb c s.limits.cpus && s.topology.declared c) ≡ true = and_left _ (not (is_some (s.topology.placed c))) free.0 in
       let near : c < s.limits.cpus = ltb-true _ _ (and_left (ltb c s.limits.cpus) (s.topology.declared c) named) in
-      let unplaced : s.topology.placed c ≡ none =
+      let unplaced : s.topology.placed c ≡ None =
       no_some (s.topology.placed c) (not-true _ (and_right (ltb c s.limits.cpus && s.topology.declared c) (not (is_some (s.topology.placed c))) free.0)) in
       stands_changed m ts (put_word cs c PLACED n) (set_cpu ns n c) b (with_placed s.topology n c) s.sealed s.tick s.known s.threads k
       (tree_placed s.limits ns s.topology m.tree n c there childless.0 near unplaced) (rw (length_placed (length ns) ns n c) m.rows) (shows_placed shows_now c near n) m.nodes_fit m.tick_fits
@@ -234,7 +232,7 @@ module _ {H : ℕ → List PutOrTake} {ts : List Thread} {cs ns : List (List ℕ
   unfolding obeys refusal concerning sealed_now thread_declared
   stands_remove_donation x used b n e =
       let known = yes 4 _ _ (yes 2 _ _ e).1 in
-      stands_record x (remove_donated_priority (record_at ts x)) (donated_to (s.threads x) none) s.known b n (shows_removed shows_now x (reached.numbered x known.0))
+      stands_record x (remove_donated_priority (record_at ts x)) (donated_to (s.threads x) None) s.known b n (shows_removed shows_now x (reached.numbered x known.0))
 
   -- a thread that is not known neither runs nor waits
   unknown_free : (x : ℕ) → s.known x ≡ false → Free (world_of s) x
@@ -246,10 +244,10 @@ module _ {H : ℕ → List PutOrTake} {ts : List Thread} {cs ns : List (List ℕ
       any_none s.limits.cpus (λ c. is_number x (s.cpus c).running)
       (λ c h. both (is_number x (s.cpus c).running) (λ t. absurd (true≢false (sym (reached.sound.runs c x (number_is x (s.cpus c).running t)).1 ∙ e))) (λ t. t))
 
-  pin_yes : (pin : Option ℕ) (l : List Question) → first_no (pin_declared s pin ∷ l) ≡ 0 → (named (cpu_in (field_of (pin_number pin))) ≡ pin) × (first_no l ≡ 0)
+  pin_yes : (pin : Option ℕ) (l : List Question) → first_no (pin_declared s pin ∷ l) ≡ 0 → ((cpu_in (field_of (pin_number pin))) ≡ pin) × (first_no l ≡ 0)
   unfolding pin_declared cpu_declared declared pin_number
-  pin_yes none l e = (named_none NONE (omega arith), (yes 3 true l e).1)
-  pin_yes (some c) l e =
+  pin_yes None l e = (named_none NONE (omega arith), (yes 3 true l e).1)
+  pin_yes (Some c) l e =
       let y = yes 3 (ltb c s.limits.cpus && s.topology.declared c) l e in
       let near : c < s.limits.cpus = ltb-true _ _ (and_left (ltb c s.limits.cpus) (s.topology.declared c) y.0) in
       (named_field c (omega (arith, m.small.cpus)), y.1)

@@ -19,7 +19,7 @@ use Rattle.questions.specs.declared.state.State.{State}
 use Rattle.questions.specs.Questions as ask
 use Rattle.represents.specs.State.{StateRep}
 use Rattle.represents.proofs.Laws.State.{cpus_are}
-use Rattle.question_laws.specs.Answers.{thread_in, thread_named}
+use Rattle.outcome.specs.Call.{thread_in, thread_named}
 use Rattle.question_laws.proofs.Answers.{open_same, sealed_same, cpu_declared_same, cpu_new_same, cpu_unplaced_same, pin_declared_same, thread_declared_same, thread_new_same, thread_blocked_same, node_exists_same, parent_same, node_fits_same, childless_same, tick_fits_same, all_placed_below_same, room_same}
 
 -- a question that is answered alike, and where it is answered yes those after it

@@ -10,7 +10,6 @@ use borrow.Author.Tests.{eqb-true, eqb-false, ltb-true, ltb-false}
 use Rattle.rules.specs.Line.{has}
 use Rattle.rules.proofs.Laws.Line.{both}
 use Rattle.rules.specs.Priority.{from_raw, class_at, cut, nr_values}
-use Rattle.rules.specs.Times.{is_some}
 use Rattle.rules.specs.Queue.{nr_buckets}
 use Rattle.rules.specs.State.{Limits, is_number, runs_on, start, new_cpu, new_thread, idle_priority}
 use Rattle.rules.specs.Commands.{world_of}
@@ -54,7 +53,7 @@ no_eights = record {
 
 module _ (cs : List (List ℕ)) (c : ℕ) (h : c < length cs) (l : length (get_or cs c []) ≡ width) where
   pub new_here : (limits : Limits) → New limits (new_cpu_def cs c) c
-  unfolding start new_cpu number_or_none mark_in idle_priority from_raw class_at cut nr_values is_some
+  unfolding start new_cpu number_or_none mark_in idle_priority from_raw class_at cut nr_values
   new_here limits = record {
     row = (all_written cs c h l).beside.as_long c ∙ long_stored cs c h l;
     queue = (all_written cs c h l).beside.queue c ∙ queue_after_store cs c no_run_queue h (omega (arith, l)) no_eights;

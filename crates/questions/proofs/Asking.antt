@@ -1,8 +1,8 @@
 -- One question after another, and the CPUs past the rows lent.
+use Rattle.std.specs.Prelude.{Option, None, Some}
 use Prim.Native.Nat.{ℕ, min, ◌≤◌}
 use mathlib.Core.Path.{◌≡◌, refl}
 use mathlib.Core.Bool.{true, false}
-use mathlib.Core.Option.{Option, none, some}
 use mathlib.Core.List.{List, [], ◌∷◌}
 use lib.ListN.{length, get_or-eq_default}
 use native.Mathlib.Omega.{arith}
@@ -35,5 +35,5 @@ in_rows cs limit = undeclared_passed (declared_in cs) (placed_in cs) (min limit 
 -- whatever the pin, the question is the fourth
 pub pin_number : (cs : List (List ℕ)) (s : State) (o : Option ℕ) → (pin_declared cs s o).number ≡ 4
 unfolding pin_declared cpu_declared question
-pin_number cs s none = refl
-pin_number cs s (some c) = refl
+pin_number cs s None = refl
+pin_number cs s (Some c) = refl

@@ -1,7 +1,6 @@
 -- The questions of document 01 as lent memory answers them: the words of the CPUs and nodes, the record of the thread that is named, and the state.
 -- The same questions in the same order as in the rules.
-use Rattle.std.specs.Prelude.{ℕ, Bool, true, not, ◌&&◌, List, [], ◌∷◌, ◌++◌, eqb, ltb, leb}
-use Rattle.std.proofs.Math.Option.{Option, none, some}
+use Rattle.std.specs.Prelude.{ℕ, Bool, true, not, ◌&&◌, List, [], ◌∷◌, ◌++◌, eqb, ltb, leb, Option, None, Some, Result, Ok, Err}
 use Rattle.rules.specs.Requests.{Request, declare_cpu, add_node, place_cpu, seal, set_shortest, declare_thread, set_tick, schedule_thread, schedule, hardtick, stattick, resched, maybe_preempt, donate, remove_donation, set_critical, Reading, unknown, cut_short, asks}
 use Rattle.rules.specs.Questions as rules
 use Rattle.rules.specs.Questions.{Question, question, in_range, first_no, most_accepted}
@@ -11,6 +10,8 @@ use Rattle.thread.specs.Place.{place_in, is_declared}
 use Rattle.processor.specs.Word.{DECLARED, PLACED}
 use Rattle.processor.specs.Words.{word}
 use Rattle.topology.specs.Node.{has_children, has_cpus}
+use Rattle.lines.specs.declared.Refusal.{Refusal}
+use Rattle.lines.specs.Lines.{question_number}
 use Rattle.questions.specs.declared.state.State.{State}
 
 -- 3
@@ -37,8 +38,8 @@ unfoldable pub cpu_unplaced : List (List ℕ) → State → ℕ → Question
 cpu_unplaced cs s c = question 4 (declared cs s c && eqb (word cs c PLACED) NONE)
 
 unfoldable pub pin_declared : List (List ℕ) → State → Option ℕ → Question
-pin_declared cs s none = question 4 true
-pin_declared cs s (some c) = cpu_declared cs s c
+pin_declared cs s None = question 4 true
+pin_declared cs s (Some c) = cpu_declared cs s c
 
 -- 5
 unfoldable pub thread_declared : Thread → Question
@@ -106,6 +107,11 @@ concerning cs ns s t (set_critical x mark) = sealed_now s ∷ thread_declared t 
 
 unfoldable pub asked_of : List (List ℕ) → List (List ℕ) → State → Thread → Request → ℕ
 asked_of cs ns s t r = first_no (concerning cs ns s t r ++ (room s ∷ []))
+
+-- the number of an answer: 0 where no question is answered no
+unfoldable pub answer_number : {A : Type 0} → Result A Refusal → ℕ
+answer_number (Ok a) = 0
+answer_number (Err r) = question_number r
 
 -- 1 and 2, then the others
 unfoldable pub refusal_in : List (List ℕ) → List (List ℕ) → State → Thread → Reading → ℕ

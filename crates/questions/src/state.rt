@@ -5,7 +5,7 @@ ghost use Rattle.questions.specs.Questions.{node_exists, node_fits, tick_fits, r
 // The limits: how many CPUs and nodes there may be, the shortest User timeslice, and whether an operand that names a CPU or a node has two bytes. Then
 // the tick, whether the topology is sealed, the commands accepted, and the nodes that exist.
 #[repr(C)]
-#[derive(Clone, Copy)]
+#[derive(Clone, Copy, Default)]
 pub struct State {
     pub cpus: u64,
     pub nodes: u64,
@@ -42,10 +42,7 @@ impl State {
     pub fn tick_fits(self, tick: u64) -> bool
         ensures { result ≡ (tick_fits self tick).answer }
     {
-        if self.tick <= tick {
-            return tick <= MOST_TICK;
-        }
-        false
+        self.tick <= tick && tick <= MOST_TICK
     }
 
     #[tactic(auto, unfolding(crate::specs::Questions::room, rules::specs::Questions::question, rules::specs::Questions::most_accepted))]

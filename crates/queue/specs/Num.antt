@@ -23,17 +23,5 @@ difference_exact a b h l = omega arith
 
 -- ---- for the proofs of the code
 
-pub difference_is : (r a b : ℕ) → r < 18446744073709551616 → b < 18446744073709551616 → (r + b) % 2 ^ 64 ≡ a → r ≡ difference a b
-unfolding difference
-difference_is r a b h l e = omega arith
-
 pub half_product : (x y : ℕ) → x < 4294967296 → y < 4294967296 → x * y < 18446744073709551616
 half_product x y h k = let m : x * y ≤ 4294967295 * 4294967295 = let p : x ≤ 4294967295 = omega arith in let r : y ≤ 4294967295 = omega arith in mul-le-mul p r in omega arith
-
-halves : (a1 a0 b1 b0 : ℕ) → (a1 * 4294967296 + a0) * (b1 * 4294967296 + b0) ≡ a1 * b1 * 18446744073709551616 + (a1 * b0 + a0 * b1) * 4294967296 + a0 * b0
-halves a1 a0 b1 b0 = omega arith
-
-pub product_is : (a b a1 a0 b1 b0 m : ℕ) → a ≡ a1 * 4294967296 + a0 → b ≡ b1 * 4294967296 + b0 → m ≡ (a1 * b0 + a0 * b1) % 2 ^ 64
-    → (m % 4294967296 * 4294967296 + a0 * b0) % 2 ^ 64 ≡ product a b
-unfolding product
-product_is a b a1 a0 b1 b0 m e f g = rw (e, f, halves a1 a0 b1 b0) (omega arith)

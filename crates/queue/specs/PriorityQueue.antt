@@ -1,12 +1,11 @@
 -- The realtime and the idle part as the code has them.
-use Rattle.std.specs.Prelude.{ℕ, Bool, cond, ◌==◌}
+use Rattle.std.specs.Prelude.{ℕ, Bool, cond, ◌==◌, Option, None}
 use Rattle.rules.specs.declared.PriorityClass.{PriorityClass}
 use Rattle.rules.specs.Queue.{class_bucket}
-use Rattle.queue.specs.declared.lists.Pushed.{Pushed}
+use Rattle.queue.specs.declared.lists.Lists.{Lists}
+use Rattle.queue.specs.declared.lists.Put.{Put}
 use Rattle.queue.specs.declared.lists.Found.{Found}
-use Rattle.queue.specs.declared.lists.Found.TheVariants.{Nothing}
 use Rattle.queue.specs.declared.pq.PriorityQueue.{PriorityQueue}
-use Rattle.queue.specs.declared.pq.PriorityPut.{PriorityPut}
 use Rattle.queue.specs.Num.{sum, difference}
 use Rattle.queue.specs.Lists.{no_lists_def, push_back, unlinked, first_from, highest_held}
 
@@ -23,14 +22,14 @@ unfoldable pub pq_highest : PriorityQueue → ℕ
 pq_highest p = cond (p.count == 0) 0 (highest_held p.queues)
 
 -- thread x of class c and value v comes in
-unfoldable pub pq_insert : PriorityQueue → ℕ → PriorityClass → ℕ → PriorityPut
+unfoldable pub pq_insert : PriorityQueue → ℕ → PriorityClass → ℕ → Put PriorityQueue
 pq_insert p x c v =
-    let u : Pushed = push_back p.queues (class_bucket c v) x in
-    record { queue = record { count = sum p.count 1; queues = u.lists }; behind = u.behind }
+    let u : Put Lists = push_back p.queues (class_bucket c v) x in
+    record { queue = record { count = sum p.count 1; queues = u.queue }; behind = u.behind }
 
 -- "bucket 0 is handed out first"
-unfoldable pub pq_front : PriorityQueue → Found
-pq_front p = cond (p.count == 0) Nothing (first_from p.queues 0)
+unfoldable pub pq_front : PriorityQueue → Option Found
+pq_front p = cond (p.count == 0) None (first_from p.queues 0)
 
 -- a thread has left bucket q from behind `previous`; its link was `next`
 unfoldable pub pq_taken : PriorityQueue → ℕ → ℕ → ℕ → PriorityQueue

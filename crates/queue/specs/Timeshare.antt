@@ -1,13 +1,12 @@
 -- The timeshare part as the code has it.
-use Rattle.std.specs.Prelude.{◌≡◌, ℕ, zero, suc, ◌+◌, ◌-◌, ◌*◌, ◌/◌, ◌%◌, ◌≤◌, Bool, cond, List, replicate, ◌==◌, ◌≢◌, slice_index, slice_set, refl}
+use Rattle.std.specs.Prelude.{◌≡◌, ℕ, zero, suc, ◌+◌, ◌-◌, ◌*◌, ◌/◌, ◌%◌, ◌<◌, Bool, cond, List, replicate, ◌==◌, slice_index, slice_set, refl, Option, None}
 use Rattle.std.proofs.Common.{arith}
 use Rattle.thread.specs.Thread.{NONE}
 use Rattle.rules.specs.Queue.{nr_buckets, width, offset, step_back}
-use Rattle.queue.specs.declared.lists.Pushed.{Pushed}
+use Rattle.queue.specs.declared.lists.Lists.{Lists}
+use Rattle.queue.specs.declared.lists.Put.{Put}
 use Rattle.queue.specs.declared.lists.Found.{Found}
-use Rattle.queue.specs.declared.lists.Found.TheVariants.{Nothing}
 use Rattle.queue.specs.declared.timeshare.TimeshareQueue.{TimeshareQueue}
-use Rattle.queue.specs.declared.timeshare.TimesharePut.{TimesharePut}
 use Rattle.queue.specs.Num.{sum, difference}
 use Rattle.queue.specs.Lists.{no_lists_def, push_back, unlinked, first_from}
 
@@ -43,23 +42,23 @@ unfoldable pub slot : ℕ → ℕ
 slot v = v / width % nr_buckets
 
 -- thread x of value v comes in
-unfoldable pub ts_insert : TimeshareQueue → ℕ → ℕ → Bool → TimesharePut
+unfoldable pub ts_insert : TimeshareQueue → ℕ → ℕ → Bool → Put TimeshareQueue
 ts_insert t x v current =
-    let u : Pushed = push_back t.queues (ts_bucket t v current) x in
+    let u : Put Lists = push_back t.queues (ts_bucket t v current) x in
     record {
       queue = record {
         count = sum t.count 1;
         priorities = slice_set t.priorities (slot v) (sum (slice_index t.priorities (slot v)) 1);
         insert_idx = t.insert_idx;
         take_idx = t.take_idx;
-        queues = u.lists;
+        queues = u.queue;
       };
       behind = u.behind;
     }
 
 -- "A take scans from the emptying index for the first bucket holding a thread"
-unfoldable pub ts_front : TimeshareQueue → Found
-ts_front t = cond (t.count == 0) Nothing (first_from t.queues t.take_idx)
+unfoldable pub ts_front : TimeshareQueue → Option Found
+ts_front t = cond (t.count == 0) None (first_from t.queues t.take_idx)
 
 -- the take index once a thread has left bucket q: one further if the bucket is now empty and the indexes differ
 unfoldable pub ts_next : TimeshareQueue → ℕ → ℕ → ℕ → ℕ
@@ -90,19 +89,11 @@ ts_advance t steps force =
 
 -- ---- for the proofs of the code
 
-pub tops_step : (ps : List ℕ) (i : ℕ) → 1 ≤ i → top_counts_def ps i ≡ cond (slice_index ps (i - 1) == 0) (top_counts_def ps (i - 1)) ((i - 1) * width)
-unfolding top_counts_def
-tops_step ps (suc i) h = let e : suc i - 1 ≡ i = omega arith in rw e
-tops_step ps zero h = absurd (omega arith)
-
-pub back_zero : (j : ℕ) → j ≡ 0 → 7 ≡ step_back j
+-- a step back by seven steps round
+pub back_round : (j : ℕ) → j < 8 → (j + 7) % 8 ≡ step_back j
 unfolding step_back nr_buckets
-back_zero j e = rw e
-
-pub back_one : (j : ℕ) → (j ≢ 0) → j - 1 ≡ step_back j
-unfolding step_back
-back_one zero h = absurd (h refl)
-back_one (suc j) h = omega arith
+back_round zero h = refl
+back_round (suc j) h = omega arith
 
 -- the code reduces an index before it adds
 pub round_sum : (a b : ℕ) → (a % 8 + b % 8) % 8 ≡ (a + b) % nr_buckets

@@ -5,8 +5,8 @@ ghost use Rattle.queue.specs.Table.{table, row_word, entry};
 
 use crate::table::TABLE;
 
-// 2^60: what a number in the highest four bits of a word counts by.
-const HIGHEST: u64 = 1152921504606846976;
+// What a number in the highest four bits of a word counts by.
+const HIGHEST: u64 = 1 << 60;
 
 // The constant, with what is proved of it.
 #[tactic(auto, unfolding(crate::specs::Table::table, crate::specs::Table::two_each, rules::specs::Priority::nr_values, rules::specs::Queue::realtime_bucket, rules::specs::Priority::cut, rules::specs::Queue::width, rules::specs::Queue::offset, rules::specs::Queue::nr_buckets))]

@@ -4,7 +4,6 @@
 
 pub mod entry;
 pub mod lists;
-pub mod num;
 pub mod pq;
 pub mod table;
 pub mod timeshare;

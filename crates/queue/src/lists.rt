@@ -10,17 +10,18 @@ pub struct Lists {
     pub tails: [u64; 8],
 }
 
-// behind: whose record's link has to be set to the thread that came in; NONE: nobody's.
+// Lists, or a part of a run queue, with a thread that came in. behind: whose record's link has to be set to that thread; NONE: nobody's.
 #[derive(Clone, Copy)]
-pub struct Pushed {
-    pub lists: Lists,
+pub struct Put<Q> {
+    pub queue: Q,
     pub behind: u64,
 }
 
+// The first thread of a list, and the number of that list.
 #[derive(Clone, Copy)]
-pub enum Found {
-    At { bucket: u64, thread: u64 },
-    Nothing,
+pub struct Found {
+    pub bucket: u64,
+    pub thread: u64,
 }
 
 impl Lists {
@@ -28,31 +29,26 @@ impl Lists {
     pub fn new() -> Self
         ensures { result ≡ no_lists_def }
     {
-        let none = [18446744073709551615u64; 8];
         Lists {
-            heads: none,
-            tails: none,
+            heads: [NONE; 8],
+            tails: [NONE; 8],
         }
     }
 
     #[tactic(auto, unfolding(crate::specs::Lists::push_back, rules::specs::Queue::nr_buckets))]
-    pub fn push_back(mut self, bucket: u64, thread: u64) -> Pushed
+    pub fn push_back(mut self, bucket: u64, thread: u64) -> Put<Lists>
         ensures { result ≡ push_back self bucket thread }
     {
         let i = (bucket % 8) as usize;
-        let head = self.heads[i];
-        let tail = self.tails[i];
+        let first = self.heads[i] == NONE;
+        let behind = if first { NONE } else { self.tails[i] };
         self.tails[i] = thread;
-        if head == NONE {
+        if first {
             self.heads[i] = thread;
-            return Pushed {
-                lists: self,
-                behind: NONE,
-            };
         }
-        Pushed {
-            lists: self,
-            behind: tail,
+        Put {
+            queue: self,
+            behind,
         }
     }
 
@@ -64,54 +60,34 @@ impl Lists {
         let i = (bucket % 8) as usize;
         if previous == NONE {
             self.heads[i] = next;
-            return self;
-        }
-        if next == NONE {
+        } else if next == NONE {
             self.tails[i] = previous;
-            return self;
         }
         self
     }
 
     // The first of the eight lists, from one onward round, that holds a thread.
     #[tactic(auto, using(crate::specs::Lists::scan_end, crate::specs::Lists::scan_start, crate::specs::Lists::scan_step), unfolding(crate::specs::Lists::first_from, rules::specs::Queue::nr_buckets))]
-    pub fn first_from(self, from: u64) -> Found
+    pub fn first_from(self, from: u64) -> Option<Found>
         ensures { result ≡ first_from self from }
     {
         let start = from % 8;
-        let mut i: u64 = 0;
-        loop {
-            if 8 <= i {
-                break Found::Nothing;
+        for i in 0u64..8 {
+            let bucket = (start + i) % 8;
+            let thread = self.heads[bucket as usize];
+            if thread != NONE {
+                return Some(Found { bucket, thread });
             }
-            let q = ((start + i) % 8) as usize;
-            let head = self.heads[q];
-            if head != NONE {
-                break Found::At {
-                    bucket: (start + i) % 8,
-                    thread: head,
-                };
-            }
-            i += 1;
         }
+        None
     }
 
     // The least value of the highest list that holds a thread, 0 if none does.
-    #[tactic(auto, using(crate::specs::Lists::top_step), unfolding(crate::specs::Lists::highest_held, rules::specs::Queue::nr_buckets, crate::specs::Lists::top_heads, rules::specs::Queue::width))]
+    #[tactic(auto, unfolding(crate::specs::Lists::highest_held, rules::specs::Queue::nr_buckets, crate::specs::Lists::top_heads, rules::specs::Queue::width))]
     pub fn highest(self) -> u64
         ensures { result ≡ highest_held self }
     {
-        let mut i: u64 = 8;
-        loop {
-            if i == 0 {
-                break 0;
-            }
-            i -= 1;
-            let q = i as usize;
-            let head = self.heads[q];
-            if head != NONE {
-                break i * 16;
-            }
-        }
+        let last = self.heads.iter().rposition(|head| *head != NONE);
+        last.map_or(0, |bucket| bucket as u64 * 16)
     }
 }

@@ -4,8 +4,7 @@ ghost use Rattle.rules.specs.Queue.{realtime_bucket, class_bucket};
 ghost use Rattle.queue.specs.PriorityQueue.{no_priority, pq_empty, pq_highest, pq_insert, pq_front, pq_taken};
 
 use crate::entry::entry;
-use crate::lists::{Found, Lists};
-use crate::num::difference;
+use crate::lists::{Found, Lists, Put};
 use rules::PriorityClass;
 use thread::priority::cut;
 
@@ -13,13 +12,6 @@ use thread::priority::cut;
 pub struct PriorityQueue {
     pub count: u64,
     pub queues: Lists,
-}
-
-// behind: as in Pushed.
-#[derive(Clone, Copy)]
-pub struct PriorityPut {
-    pub queue: PriorityQueue,
-    pub behind: u64,
 }
 
 #[tactic(auto, using(crate::proofs::TableRule::bucket_entry, rules::proofs::Laws::Effect::cut_below), unfolding(rules::specs::Priority::nr_values))]
@@ -34,12 +26,10 @@ pub fn realtime_bucket(value: u64) -> u64
 pub fn class_bucket(class: PriorityClass, value: u64) -> u64
     ensures { result ≡ class_bucket class value }
 {
-    let bucket = realtime_bucket(value);
-    match class {
-        PriorityClass::User => 7,
-        PriorityClass::Realtime => bucket,
-        PriorityClass::Background => bucket,
-        PriorityClass::Idle => bucket,
+    if class == PriorityClass::User {
+        7
+    } else {
+        realtime_bucket(value)
     }
 }
 
@@ -48,8 +38,10 @@ impl PriorityQueue {
     pub fn new() -> Self
         ensures { result ≡ no_priority }
     {
-        let queues = Lists::new();
-        PriorityQueue { count: 0, queues }
+        PriorityQueue {
+            count: 0,
+            queues: Lists::new(),
+        }
     }
 
     #[tactic(auto, unfolding(crate::specs::PriorityQueue::pq_empty))]
@@ -59,55 +51,49 @@ impl PriorityQueue {
         self.count == 0
     }
 
-    #[tactic(auto, unfolding(crate::specs::PriorityQueue::pq_highest))]
+    #[tactic(auto, unfolding(crate::specs::PriorityQueue::pq_highest, crate::specs::PriorityQueue::pq_empty))]
     pub fn highest_priority(self) -> u64
         ensures { result ≡ pq_highest self }
     {
-        if self.count == 0 {
-            return 0;
+        if self.is_empty() {
+            0
+        } else {
+            self.queues.highest()
         }
-        let queues = self.queues;
-        queues.highest()
     }
 
     #[tactic(auto, unfolding(crate::specs::PriorityQueue::pq_insert, crate::specs::Num::sum))]
-    pub fn insert(mut self, thread: u64, class: PriorityClass, value: u64) -> PriorityPut
+    pub fn insert(mut self, thread: u64, class: PriorityClass, value: u64) -> Put<Self>
         ensures { result ≡ pq_insert self thread class value }
     {
-        let q = class_bucket(class, value);
-        let queues = self.queues;
-        let pushed = queues.push_back(q, thread);
-        let lists = pushed.lists;
-        let behind = pushed.behind;
-        self.count = std::num::wrapping_add_u64(self.count, 1);
-        self.queues = lists;
-        PriorityPut {
+        let pushed = self.queues.push_back(class_bucket(class, value), thread);
+        self.count = self.count.wrapping_add(1);
+        self.queues = pushed.queue;
+        Put {
             queue: self,
-            behind,
+            behind: pushed.behind,
         }
     }
 
     // Where the next thread to leave stands.
-    #[tactic(auto, unfolding(crate::specs::PriorityQueue::pq_front))]
-    pub fn front(self) -> Found
+    #[tactic(auto, unfolding(crate::specs::PriorityQueue::pq_front, crate::specs::PriorityQueue::pq_empty))]
+    pub fn front(self) -> Option<Found>
         ensures { result ≡ pq_front self }
     {
-        if self.count == 0 {
-            return Found::Nothing;
+        if self.is_empty() {
+            None
+        } else {
+            self.queues.first_from(0)
         }
-        let queues = self.queues;
-        queues.first_from(0)
     }
 
     // A thread has left bucket q, from behind `previous`; its link was `next`.
-    #[tactic(auto, unfolding(crate::specs::PriorityQueue::pq_taken))]
+    #[tactic(auto, unfolding(crate::specs::PriorityQueue::pq_taken, crate::specs::Num::difference))]
     pub fn taken(mut self, q: u64, previous: u64, next: u64) -> Self
         ensures { result ≡ pq_taken self q previous next }
     {
-        let queues = self.queues;
-        let lists = queues.unlink(q, previous, next);
-        self.count = difference(self.count, 1);
-        self.queues = lists;
+        self.count = self.count.wrapping_sub(1);
+        self.queues = self.queues.unlink(q, previous, next);
         self
     }
 }

@@ -5,57 +5,43 @@
 mod answer;
 mod operation;
 
-use answer::write_answer;
+use answer::answer;
 use files::read_full;
-use operation::{Operation, asked, operation_in, prepared, tick_after};
-use processor::rq::store_queue;
+use operation::{Kind, Operation, prepared};
+use processor::rq::{load_queue, store_queue};
 use processor::words::CpuWords;
 use records::record::{get, set};
-use records::rq::{Taken, clock, hardtick, insert, take};
+use records::rq::{clock, hardtick, insert, take};
 use runqueue::rq::RunQueue;
 use std::io::Read;
+use thread::priority::class_at;
 use thread::{NONE, Thread, blank};
 
-fn taken_number(t: Taken) -> u64 {
-    match t {
-        Taken::Thread(x) => x,
-        Taken::Nobody => NONE,
-    }
-}
-
 // What an operation answers.
-fn act(threads: &mut [Thread], cpus: &mut [CpuWords], op: Operation, tick: u64) -> u64 {
-    if op.kind == 1 {
-        let t = get(threads, op.thread);
-        let u = prepared(t, op);
-        set(threads, op.thread, u);
-        insert(threads, cpus, op.queue, op.thread, tick, op.current);
-        return 0;
+fn act(threads: &mut [Thread], cpus: &mut [CpuWords], op: Operation, tick: &mut u64) -> u64 {
+    let class = class_at(op.class);
+    match op.kind {
+        Kind::Insert => {
+            let t = get(threads, op.thread);
+            set(threads, op.thread, prepared(t, op));
+            insert(threads, cpus, op.queue, op.thread, *tick, op.current);
+            0
+        }
+        Kind::Take => take(threads, cpus, op.queue, false).unwrap_or(NONE),
+        Kind::Steal => take(threads, cpus, op.queue, true).unwrap_or(NONE),
+        Kind::Clock => {
+            clock(cpus, op.queue);
+            0
+        }
+        Kind::Tick => {
+            *tick = op.number;
+            0
+        }
+        Kind::Hardtick => hardtick(cpus, op.queue, *tick),
+        Kind::Timeslice => load_queue(cpus, op.queue).timeslice(op.number, class),
+        Kind::Deadline => load_queue(cpus, op.queue).deadline(op.number, class),
+        Kind::Other => 0,
     }
-    if op.kind == 2 {
-        let own = take(threads, cpus, op.queue, false);
-        return taken_number(own);
-    }
-    if op.kind == 3 {
-        let stolen = take(threads, cpus, op.queue, true);
-        return taken_number(stolen);
-    }
-    if op.kind == 4 {
-        clock(cpus, op.queue);
-        return 0;
-    }
-    if op.kind == 6 {
-        return hardtick(cpus, op.queue, tick);
-    }
-    asked(cpus, op)
-}
-
-fn fill(stdin: &mut impl Read, line: &mut [u8]) -> usize {
-    read_full(stdin, line)
-}
-
-fn show(stdout: &impl Print, line: &[u8]) -> bool {
-    stdout.write_all(line).is_ok()
 }
 
 // As many operations as there are, a million at most.
@@ -64,53 +50,25 @@ fn drive(
     stdout: &impl Print,
     threads: &mut [Thread],
     cpus: &mut [CpuWords],
-    line: &mut [u8],
-    out: &mut [u8],
 ) {
-    let mut tick: u64 = 0;
-    let mut left: u64 = 1000000;
-    while 0 < left {
-        let n = fill(stdin, line);
-        if n < 16 {
+    let mut line = [0u8; 16];
+    let mut tick = 0;
+    for _ in 0..1000000 {
+        if read_full(stdin, &mut line) < line.len() {
             return;
         }
-        let op = operation_in(line);
-        let now = tick_after(tick, op);
-        let number = act(threads, cpus, op, now);
-        write_answer(out, cpus, op, number);
-        let shown = show(stdout, out);
-        tick = now;
-        left = left - 1;
+        let op = Operation::from(line);
+        let number = act(threads, cpus, op, &mut tick);
+        let bytes = answer(load_queue(cpus, op.queue), op, number);
+        let _ = stdout.write_all(&bytes);
     }
 }
 
-// Newly made queues.
-fn start(cpus: &mut [CpuWords]) {
-    let q = RunQueue::new();
-    store_queue(cpus, 0, q);
-    store_queue(cpus, 1, q);
-    store_queue(cpus, 2, q);
-    store_queue(cpus, 3, q);
-}
-
-fn zeros() -> CpuWords {
-    [0u64; 96]
-}
-
 fn main(rt: HostRuntime) {
-    let t = blank();
-    let row = zeros();
-    let mut threads = [t; 96];
-    let mut cpus = [row; 4];
-    let mut line = [0u8; 16];
-    let mut out = [0u8; 48];
-    start(&mut cpus);
-    drive(
-        &mut rt.stdin(),
-        &rt.stdout(),
-        &mut threads,
-        &mut cpus,
-        &mut line,
-        &mut out,
-    );
+    let mut threads = [blank(); 96];
+    let mut cpus = [[0u64; 96]; 4];
+    for queue in 0..4 {
+        store_queue(&mut cpus, queue, RunQueue::new());
+    }
+    drive(&mut rt.stdin(), &rt.stdout(), &mut threads, &mut cpus);
 }

@@ -1,15 +1,41 @@
 // An operation in its bytes. Numbers are little-endian.
-use processor::rq::load_queue;
-use processor::words::CpuWords;
-use queue::num::product;
 use rules::Priority;
 use thread::priority::{class_at, raw};
 use thread::{NO_DONATION, Thread};
 
+#[derive(Clone, Copy, PartialEq, Eq)]
+pub enum Kind {
+    Insert,
+    Take,
+    Steal,
+    Clock,
+    Tick,
+    Hardtick,
+    Timeslice,
+    Deadline,
+    Other,
+}
+
+impl From<u8> for Kind {
+    fn from(number: u8) -> Kind {
+        match number {
+            1 => Kind::Insert,
+            2 => Kind::Take,
+            3 => Kind::Steal,
+            4 => Kind::Clock,
+            5 => Kind::Tick,
+            6 => Kind::Hardtick,
+            7 => Kind::Timeslice,
+            8 => Kind::Deadline,
+            _ => Kind::Other,
+        }
+    }
+}
+
 // number: the thread's deadline, the new tick, or the shortest timeslice.
 #[derive(Clone, Copy)]
 pub struct Operation {
-    pub kind: u64,
+    pub kind: Kind,
     pub queue: u64,
     pub thread: u64,
     pub class: u64,
@@ -19,83 +45,51 @@ pub struct Operation {
     pub number: u64,
 }
 
-fn wide(x: u8) -> u64 {
-    x as u64
-}
-
-// A byte of the line, 0 past its end.
-fn byte(line: &[u8], i: u64) -> u64 {
-    let j = i as usize;
-    if j < line.len() {
-        return wide(line[j]);
+impl From<[u8; 16]> for Operation {
+    fn from(line: [u8; 16]) -> Operation {
+        let [
+            kind,
+            queue,
+            t0,
+            t1,
+            class,
+            value,
+            pinned,
+            current,
+            a,
+            b,
+            c,
+            d,
+            e,
+            f,
+            g,
+            h,
+        ] = line;
+        Operation {
+            kind: Kind::from(kind),
+            queue: u64::from(queue),
+            thread: u64::from(u16::from_le_bytes([t0, t1])),
+            class: u64::from(class),
+            value: u64::from(value),
+            pinned: pinned == 1,
+            current: current == 1,
+            number: u64::from_le_bytes([a, b, c, d, e, f, g, h]),
+        }
     }
-    0
-}
-
-// The number of so many bytes from `at` on.
-fn number(line: &[u8], at: u64, bytes: u64) -> u64 {
-    let mut left = bytes;
-    let mut n: u64 = 0;
-    while 0 < left {
-        left = left - 1;
-        let high = product(n, 256);
-        n = std::num::wrapping_add_u64(high, byte(line, std::num::wrapping_add_u64(at, left)));
-    }
-    n
-}
-
-pub fn operation_in(line: &[u8]) -> Operation {
-    Operation {
-        kind: byte(line, 0),
-        queue: byte(line, 1),
-        thread: number(line, 2, 2),
-        class: byte(line, 4),
-        value: byte(line, 5),
-        pinned: byte(line, 6) == 1,
-        current: byte(line, 7) == 1,
-        number: number(line, 8, 8),
-    }
-}
-
-fn pin(pinned: bool) -> i32 {
-    if pinned {
-        return 0;
-    }
-    -1
 }
 
 // The thread has the priority, the pin and the deadline that an insert names.
-pub fn prepared(mut t: Thread, op: Operation) -> Thread {
-    let class = class_at(op.class);
+pub fn prepared(t: Thread, op: Operation) -> Thread {
     let priority = Priority {
-        class,
+        class: class_at(op.class),
         value: op.value,
     };
-    t.priority = raw(priority);
-    t.donated_priority = NO_DONATION;
-    t.flags = 0;
-    t.pinned_cpu = pin(op.pinned);
-    t.deadline = op.number;
-    t
-}
-
-// The tick that an operation sets, if it does.
-pub fn tick_after(tick: u64, op: Operation) -> u64 {
-    if op.kind == 5 {
-        return op.number;
+    Thread {
+        priority: raw(priority),
+        donated_priority: NO_DONATION,
+        flags: 0,
+        pinned_cpu: if op.pinned { 0 } else { -1 },
+        deadline: op.number,
+        ..t
     }
-    tick
-}
-
-// The timeslice or the deadline distance of a class in the operation's queue.
-pub fn asked(cpus: &[CpuWords], op: Operation) -> u64 {
-    let q = load_queue(cpus, op.queue);
-    let class = class_at(op.class);
-    if op.kind == 7 {
-        return q.timeslice(op.number, class);
-    }
-    if op.kind == 8 {
-        return q.deadline(op.number, class);
-    }
-    0
 }

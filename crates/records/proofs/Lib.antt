@@ -1,2 +1,1 @@
-pub mod Cleared
 pub mod Exits

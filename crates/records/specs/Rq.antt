@@ -1,6 +1,6 @@
 -- Put, take (own and stealing), clock and hard tick of the run queues in lent memory: one interface over the thread records ts and the words cs of the
 -- CPUs. Each is total: past the end of the slice a record is blank and a write does nothing, and so with the words of a CPU.
-use Rattle.std.specs.Prelude.{ℕ, Bool, true, false, cond, List, get_or, set, eqb, leb}
+use Rattle.std.specs.Prelude.{ℕ, Bool, cond, List, get_or, set, eqb, leb, Option, Some, None}
 use Rattle.rules.specs.declared.Part.{Part}
 use Rattle.rules.specs.declared.Part.TheVariants as part
 use Rattle.rules.specs.Priority.{from_raw}
@@ -13,12 +13,9 @@ use Rattle.runqueue.specs.declared.rq.Arrival.{Arrival}
 use Rattle.runqueue.specs.declared.rq.Put.{Put}
 use Rattle.runqueue.specs.declared.rq.RunQueue.{RunQueue}
 use Rattle.runqueue.specs.declared.rq.Front.{Front}
-use Rattle.runqueue.specs.declared.rq.Front.TheVariants as front
 use Rattle.runqueue.specs.RunQueue.{rq_insert, rq_front, rq_taken, rq_clock, rq_hardtick}
 use Rattle.processor.specs.Queue.{queue_at, queue_stored}
 use Rattle.records.specs.Left.{Words, Memory, Left}
-use Rattle.records.specs.declared.rq.Taken.{Taken}
-use Rattle.records.specs.declared.rq.Taken.TheVariants as taken
 
 -- the record of thread x
 abbrev pub record_at : List Thread → ℕ → Thread
@@ -56,26 +53,22 @@ insert_def c x tick current m = record {
 
 -- ---- a take
 
-unfoldable pub is_nothing : Front → Bool
-is_nothing (front.At p b x) = false
-is_nothing front.Nothing = true
-
 -- the queue that the thread with record t, which it found, has left: it was the head of its list, so nobody stands before it
-unfoldable pub left_by_def : RunQueue → Front → Thread → RunQueue
+unfoldable pub left_by_def : RunQueue → Option Front → Thread → RunQueue
 left_by_def q f t = rq_taken q f NONE t.next (from_raw t.stable_priority).value (pinned (reads t))
 
 -- the thread that the queue found is handed out, to run; where it found none, nothing changes
-unfoldable pub took_from_def : ℕ → Front → Memory → Left Taken Memory
-took_from_def c front.Nothing m = record { answer = taken.Nobody; memory = m }
-took_from_def c (front.At p b x) m = record {
-  answer = taken.Thread x;
+unfoldable pub took_from_def : ℕ → Option Front → Memory → Left (Option ℕ) Memory
+took_from_def c None m = record { answer = None; memory = m }
+took_from_def c (Some f) m = record {
+  answer = Some f.thread;
   memory = record {
-    threads = set m.threads x (with_place (record_at m.threads x) RUNNING);
-    cpus = queue_stored m.cpus c (left_by_def (queue_at m.cpus c) (front.At p b x) (record_at m.threads x));
+    threads = set m.threads f.thread (with_place (record_at m.threads f.thread) RUNNING);
+    cpus = queue_stored m.cpus c (left_by_def (queue_at m.cpus c) (Some f) (record_at m.threads f.thread));
   };
 }
 
-unfoldable pub take_def : ℕ → Bool → Memory → Left Taken Memory
+unfoldable pub take_def : ℕ → Bool → Memory → Left (Option ℕ) Memory
 take_def c stealing m = took_from_def c (rq_front (queue_at m.cpus c) stealing) m
 
 -- ---- clock and hard tick

@@ -2,206 +2,103 @@
 #![tactic(auto)]
 
 use blocks::keep;
+use files::Filled;
 use lines::has_room;
 use processor::words::CpuWords;
-use questions::state::State;
-use std::io;
 use std::io::Read;
+use std::{fmt, io};
 use stream::block::{is_ended, is_last};
 use stream::feed::feed;
-use stream::progress::{ENDED, Progress, begin};
-use stream::start::{Started, start};
+use stream::progress::{Progress, begin};
+use stream::start::start;
 use thread::{Thread, blank};
 use topology::words::NodeWords;
 
-// What was fed, and the bytes at the front of the next block.
+// A file failed: the output has no end line, and standard error says why.
 #[derive(Clone, Copy)]
-pub struct Serving {
-    pub fed: Progress,
-    pub left: usize,
+pub enum Failure {
+    Input,
+    Output,
 }
 
-// The bytes at the front of the input, whether they are the last, and whether reading failed.
-#[derive(Clone, Copy)]
-pub struct Filled {
-    pub bytes: usize,
-    pub last: bool,
-    pub failed: bool,
-}
-
-fn behind(left: usize, got: io::Result<usize>) -> Filled {
-    match got {
-        Ok(count) => {
-            let n = std::num::wrapping_add_usize(left, count);
-            Filled {
-                bytes: n,
-                last: is_last(left, n),
-                failed: false,
-            }
+impl fmt::Display for Failure {
+    fn fmt<W: fmt::Write>(&self, f: &mut fmt::Formatter<W>) -> fmt::Result {
+        match *self {
+            Failure::Input => write!(f, "standard input could not be read"),
+            Failure::Output => write!(f, "standard output could not be written"),
         }
-        Err(_) => Filled {
-            bytes: left,
-            last: false,
-            failed: true,
-        },
     }
 }
 
-// One read of standard input behind the first `left` bytes. One that adds nothing and does not fail is the end of the input. Where the `done` bytes of output
-// left no room for a line, the bytes that are there come first, and nothing is read.
+// One read of standard input behind the first `left` bytes. Where the `done` bytes of output left no room for a line, the bytes that are there come first, and
+// nothing is read.
 fn fill(
     stdin: &mut impl Read,
     input: &mut [u8],
     output: &[u8],
     left: usize,
     done: usize,
-) -> Filled {
-    if has_room(output, done) {
-        if left < input.len() {
-            let got = stdin.read(&mut input[left..]);
-            return behind(left, got);
-        }
+) -> io::Result<Filled> {
+    if !has_room(output, done) {
+        return Ok(Filled {
+            bytes: left,
+            last: false,
+        });
     }
-    Filled {
-        bytes: left,
-        last: false,
-        failed: false,
-    }
-}
-
-fn show(stdout: &impl Print, output: &[u8], n: usize) -> bool {
-    if n <= output.len() {
-        return stdout.write_all(&output[..n]).is_ok();
-    }
-    false
-}
-
-// A file failed: the output has no end line, and standard error says why.
-fn input_failed(stderr: &impl Print) -> bool {
-    stderr
-        .write_all(b"replay: standard input could not be read\n")
-        .is_ok()
-}
-
-fn output_failed(stderr: &impl Print) -> bool {
-    stderr
-        .write_all(b"replay: standard output could not be written\n")
-        .is_ok()
-}
-
-fn not(shown: bool) -> bool {
-    if shown {
-        return false;
-    }
-    true
-}
-
-fn with_left(fed: Progress, left: usize) -> Serving {
-    Serving { fed, left }
+    let got = files::fill(stdin, input, left)?;
+    Ok(Filled {
+        bytes: got.bytes,
+        last: is_last(left, got.bytes),
+    })
 }
 
 // Each turn but the last takes a command, and a run has fewer than 2^32.
-fn turns() -> u64 {
-    18446744073709551615
-}
-
 fn serve(
     stdin: &mut impl Read,
     stdout: &impl Print,
-    stderr: &impl Print,
     threads: &mut [Thread],
     cpus: &mut [CpuWords],
     nodes: &mut [NodeWords],
-    input: &mut [u8],
-    output: &mut [u8],
-    begun: Serving,
-) -> bool {
-    let mut s = begun;
-    let mut budget: u64 = turns();
-    while 0 < budget {
-        let left = s.left;
-        let fed = s.fed;
-        let got = fill(stdin, input, output, left, fed.done);
-        let failed = got.failed;
-        if failed {
-            input_failed(stderr);
-            return false;
-        }
-        let n = got.bytes;
-        let last = got.last;
-        let f = feed(threads, cpus, nodes, input, output, n, last, fed);
-        let shown = show(stdout, output, f.done);
-        if not(shown) {
-            output_failed(stderr);
-            return false;
-        }
-        if is_ended(f) {
-            return true;
-        }
-        let kept = keep(input, f.at, n);
-        let g = with_left(f, kept);
-        s = g;
-        budget = budget - 1;
-    }
-    false
-}
-
-// The memory that `main` lends is large enough for every start.
-fn begun(started: Started) -> Serving {
-    match started {
-        Started::Ready(state) => with_left(begin(state), 0),
-        Started::NoRoom => with_left(nothing(), 0),
-    }
-}
-
-fn nothing() -> Progress {
-    Progress {
-        at: 0,
-        done: 0,
-        number: 0,
-        refused: 0,
-        phase: ENDED,
-        state: State {
-            cpus: 0,
-            nodes: 0,
-            shortest: 0,
-            wide: false,
-            tick: 0,
-            sealed: false,
-            accepted: 0,
-            node_count: 0,
-        },
-    }
-}
-
-fn no_cpu() -> CpuWords {
-    [0; 96]
-}
-
-fn no_node() -> NodeWords {
-    [0; 32]
-}
-
-fn main(rt: HostRuntime) {
-    let t = blank();
-    let c = no_cpu();
-    let d = no_node();
-    let mut threads = [t; 1024];
-    let mut cpus = [c; 64];
-    let mut nodes = [d; 128];
+    begun: Progress,
+) -> Result<(), Failure> {
     let mut input = [0u8; 4096];
     let mut output = [0u8; 32768];
-    let started = start(&mut threads, &mut cpus, &mut nodes);
-    let s = begun(started);
-    serve(
+    let mut fed = begun;
+    let mut left = 0;
+    for _ in 0..u64::MAX {
+        let got = fill(stdin, &mut input, &output, left, fed.done).map_err(|_| Failure::Input)?;
+        let n = got.bytes;
+        fed = feed(threads, cpus, nodes, &input, &mut output, n, got.last, fed);
+        let done = fed.done.min(output.len());
+        stdout
+            .write_all(&output[..done])
+            .map_err(|_| Failure::Output)?;
+        if is_ended(fed) {
+            return Ok(());
+        }
+        left = keep(&mut input, fed.at, n);
+    }
+    Ok(())
+}
+
+// The memory that is lent is large enough for every start.
+fn main(rt: HostRuntime) {
+    let mut threads = [blank(); 1024];
+    let mut cpus = [[0u64; 96]; 64];
+    let mut nodes = [[0u64; 32]; 128];
+    let Some(state) = start(&mut threads, &mut cpus, &mut nodes) else {
+        return;
+    };
+    let served = serve(
         &mut rt.stdin(),
         &rt.stdout(),
-        &rt.stderr(),
         &mut threads,
         &mut cpus,
         &mut nodes,
-        &mut input,
-        &mut output,
-        s,
+        begin(state),
     );
+    if let Err(failure) = served {
+        let stderr = rt.stderr();
+        let _ = println!(stderr; "replay: {failure}");
+    }
 }

@@ -1,8 +1,7 @@
 -- WHAT THE WORDS OF THE NODES STAND FOR: a topology of the rules.
-use Rattle.std.specs.Prelude.{ℕ, zero, suc, ◌<◌, ◌-◌, ◌≤◌, ◌≡◌, true, false, not, List, [], ◌∷◌, ◌++◌, length, get_or}
+use Rattle.std.specs.Prelude.{ℕ, zero, suc, ◌<◌, ◌-◌, ◌≤◌, ◌≡◌, true, false, not, List, [], ◌∷◌, ◌++◌, length, get_or, Some}
 use Rattle.rules.specs.Line.{has, Distinct}
 use Rattle.topology.specs.Words.{word, width}
-use Rattle.std.proofs.Math.Option.{some}
 use Rattle.rules.specs.State.{Limits, Topology, join_all}
 use Rattle.rules.specs.Topology.{nr_nodes, parent_of, children, leaf, on_node}
 use Rattle.topology.specs.Node.{parent, level_type, next, prev, first, end, has_children, contains_at}
@@ -26,7 +25,7 @@ met_first limits t = join_all (met (children limits t) (nr_nodes limits t)) (chi
 pub record TopologySound (limits : Limits) (t : Topology) : Type 0 where
   pub root : 0 < nr_nodes limits t
   pub parents : (m : ℕ) → 0 < m → m < nr_nodes limits t → parent_of limits t m < m
-  pub placed_there : (c m : ℕ) → t.placed c ≡ some m → (c < limits.cpus) × ((m < nr_nodes limits t) × (leaf limits t m ≡ true))
+  pub placed_there : (c m : ℕ) → t.placed c ≡ Some m → (c < limits.cpus) × ((m < nr_nodes limits t) × (leaf limits t m ≡ true))
   pub distinct : Distinct (met_first limits t)
   pub no_root : has 0 (met_first limits t) ≡ false
   pub within : (x : ℕ) → has x (met_first limits t) ≡ true → x < nr_nodes limits t

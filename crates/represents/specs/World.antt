@@ -1,10 +1,8 @@
 -- WHAT LENT MEMORY SHOWS: thread records ts and words cs of the CPUs that show the CPUs and threads of the rules' World w. A reader reads all of this
 -- file.
-use Rattle.std.specs.Prelude.{ℕ, ◌^◌, ◌≤◌, ◌<◌, ◌≡◌, Bool, true, false, not, List, [], length, get_or, eqb}
-use Rattle.std.proofs.Math.Option.{Option, none, some}
+use Rattle.std.specs.Prelude.{ℕ, ◌^◌, ◌≤◌, ◌<◌, ◌≡◌, Bool, true, false, not, List, [], length, get_or, eqb, Option, None, Some, is_some}
 use Rattle.rules.specs.Questions.{most_shortest}
 use Rattle.rules.specs.Priority.{from_raw}
-use Rattle.rules.specs.Times.{is_some}
 use Rattle.rules.specs.State.{Limits, Topology, Cpu}
 use Rattle.rules.specs.Schedule.{World}
 use Rattle.rules.specs.Waits.{Under, waits, Free}
@@ -28,8 +26,8 @@ reading_of p = record { queue = p.queue; advertised = p.advertised; last_tick = 
 
 -- the word for a number or none
 unfoldable pub number_or_none : Option ℕ → ℕ
-number_or_none none = NONE
-number_or_none (some x) = x
+number_or_none None = NONE
+number_or_none (Some x) = x
 
 -- any number but 0 is a mark
 unfoldable pub mark_in : ℕ → Bool

@@ -1,10 +1,15 @@
 -- Operands read by their widths, four at a time.
-use Prim.Native.Nat.{ℕ, zero, suc, ◌<◌}
+use Prim.Native.Nat.{ℕ, zero, suc, ◌<◌, ◌≤◌, ◌-◌}
+use native.Mathlib.Omega.{arith}
+use borrow.Author.Tests.{lt-ltb, leb-true}
+use Rattle.std.specs.Prelude.{nat_lt}
+use Rattle.std.specs.List.{filter}
+use Rattle.rules.proofs.Laws.Writer.{and_left, and_right}
 use mathlib.Core.Path.{◌≡◌, refl, sym, ap}
 use mathlib.Core.Bool.{Bool, true, false, ◌&&◌, ◌||◌}
-use mathlib.Core.List.{List, [], ◌∷◌}
-use lib.Dec.{eqb}
-use lib.ListN.{length}
+use mathlib.Core.List.{List, [], ◌∷◌, ◌++◌}
+use lib.Dec.{eqb, leb}
+use lib.ListN.{length, replicate}
 use Rattle.rules.proofs.Laws.Below.{all_below, at_below}
 use Rattle.rules.proofs.Laws.Line.{both}
 use Rattle.rules.specs.State.{Limits}
@@ -12,8 +17,7 @@ use Rattle.rules.specs.Requests.{Request, operand, past, operands, nth, widths, 
 use Rattle.rules.specs.Questions.{at_most, in_range}
 use Rattle.rules.specs.Writer.{row as rules_row, ranges}
 use Rattle.request.specs.Request.{width, limits_of}
-use Rattle.request.specs.Fields.{widths_list, four, row, operand_of}
-use Rattle.request.specs.declared.fields.Widths.{Widths}
+use Rattle.request.specs.Fields.{four, row}
 use Rattle.request.proofs.Table.{Apart, but_last, last_request}
 
 -- a width that an operand can have
@@ -42,14 +46,6 @@ tail_plain : (n k : ℕ) (ns : List ℕ) → plain_row (suc k) (n ∷ ns) ≡ tr
 unfolding plain_row
 tail_plain n k ns h = both (plain n) (λ e. rw e at h) (λ e. let z : false ≡ true = rw e at h in cc)
 
-plain_operand : (n : ℕ) (bytes : List ℕ) → plain n ≡ true → operand_of n bytes ≡ operand n bytes
-unfolding operand_of plain
-plain_operand n bytes h = rw h
-
-no_operand : (bytes : List ℕ) → operand_of 0 bytes ≡ 0
-unfolding operand_of
-no_operand bytes = refl
-
 none_left : (u : ℕ) (ns : List ℕ) → plain_row 0 (u ∷ ns) ≡ true → false ≡ true
 unfolding plain_row
 none_left u ns h = h
@@ -57,67 +53,68 @@ none_left u ns h = h
 pub not_five : (n m o t u : ℕ) (ns : List ℕ) → plain_row 4 (n ∷ m ∷ o ∷ t ∷ u ∷ ns) ≡ true → false ≡ true
 not_five n m o t u ns h = none_left u ns (tail_plain t 0 _ (tail_plain o 1 _ (tail_plain m 2 _ (tail_plain n 3 _ h))))
 
+-- no operand has more than eight bytes
+most_row : List ℕ → Bool
+most_row [] = true
+most_row (n ∷ ns) = leb n 8 && most_row ns
+
+all_most : (wide : Bool) → all_below 256 (λ byte. most_row (row wide byte)) ≡ true
+unfolding all_below most_row row rules_row widths widths_or limits_of width
+all_most true = refl
+all_most false = refl
+
+nth_most : (ns : List ℕ) (i : ℕ) → most_row ns ≡ true → nth i ns ≤ 8
+unfolding most_row nth
+nth_most [] i h = omega arith
+nth_most (n ∷ ns) zero h = leb-true n 8 (and_left (leb n 8) (most_row ns) h)
+nth_most (n ∷ ns) (suc i) h = nth_most ns i (and_right (leb n 8) (most_row ns) h)
+
+pub width_most : (wide : Bool) (byte : ℕ) → byte < 256 → (i : ℕ) → nth i (row wide byte) ≤ 8
+width_most wide byte h i = nth_most (row wide byte) i (at_below 256 (λ b. most_row (row wide b)) (all_most wide) byte h)
+
 -- four operands, each from behind the one before it
-pub four_read : (ns bytes : List ℕ) (p q r s : ℕ) (b c d : List ℕ) → plain_row 4 ns ≡ true → p ≡ nth 0 ns → q ≡ nth 1 ns → r ≡ nth 2 ns → s ≡ nth 3 ns
-    → b ≡ past p bytes → c ≡ past q b → d ≡ past r c
-    → operand_of p bytes ∷ operand_of q b ∷ operand_of r c ∷ operand_of s d ∷ [] ≡ four (operands ns bytes)
-unfolding four nth operands
-four_read [] bytes p q r s b c d h e₀ e₁ e₂ e₃ pb pc pd = rw (e₀, e₁, e₂, e₃, no_operand bytes, no_operand b, no_operand c, no_operand d)
-four_read (n ∷ []) bytes p q r s b c d h e₀ e₁ e₂ e₃ pb pc pd =
-    rw (e₀, e₁, e₂, e₃, no_operand b, no_operand c, no_operand d, plain_operand n bytes (head_plain n 3 [] h))
-four_read (n ∷ m ∷ []) bytes p q r s b c d h e₀ e₁ e₂ e₃ pb pc pd =
-    let h₁ : plain_row 3 (m ∷ []) ≡ true = tail_plain n 3 (m ∷ []) h in
-    rw (pb, e₀, e₁, e₂, e₃, no_operand c, no_operand d, plain_operand n bytes (head_plain n 3 (m ∷ []) h), plain_operand m (past n bytes) (head_plain m 2 [] h₁))
-four_read (n ∷ m ∷ o ∷ []) bytes p q r s b c d h e₀ e₁ e₂ e₃ pb pc pd =
-    let h₁ : plain_row 3 (m ∷ o ∷ []) ≡ true = tail_plain n 3 (m ∷ o ∷ []) h in
-    let h₂ : plain_row 2 (o ∷ []) ≡ true = tail_plain m 2 (o ∷ []) h₁ in
-    rw (
-      pc,
-      pb,
-      e₀,
-      e₁,
-      e₂,
-      e₃,
-      no_operand d,
-      plain_operand n bytes (head_plain n 3 (m ∷ o ∷ []) h),
-      plain_operand m (past n bytes) (head_plain m 2 (o ∷ []) h₁),
-      plain_operand o (past m (past n bytes)) (head_plain o 1 [] h₂),
-    )
-four_read (n ∷ m ∷ o ∷ t ∷ []) bytes p q r s b c d h e₀ e₁ e₂ e₃ pb pc pd =
-    let h₁ : plain_row 3 (m ∷ o ∷ t ∷ []) ≡ true = tail_plain n 3 (m ∷ o ∷ t ∷ []) h in
-    let h₂ : plain_row 2 (o ∷ t ∷ []) ≡ true = tail_plain m 2 (o ∷ t ∷ []) h₁ in
-    let h₃ : plain_row 1 (t ∷ []) ≡ true = tail_plain o 1 (t ∷ []) h₂ in
-    rw (
-      pd,
-      pc,
-      pb,
-      e₀,
-      e₁,
-      e₂,
-      e₃,
-      plain_operand n bytes (head_plain n 3 (m ∷ o ∷ t ∷ []) h),
-      plain_operand m (past n bytes) (head_plain m 2 (o ∷ t ∷ []) h₁),
-      plain_operand o (past m (past n bytes)) (head_plain o 1 (t ∷ []) h₂),
-      plain_operand t (past o (past m (past n bytes))) (head_plain t 0 [] h₃),
-    )
-four_read (n ∷ m ∷ o ∷ t ∷ u ∷ ns) bytes p q r s b c d h e₀ e₁ e₂ e₃ pb pc pd = let z : false ≡ true = not_five n m o t u ns h in cc
+four_of : (ns b : List ℕ)
+    → operand (nth 0 ns) b ∷ operand (nth 1 ns) (past (nth 0 ns) b) ∷ operand (nth 2 ns) (past (nth 1 ns) (past (nth 0 ns) b))
+    ∷ operand (nth 3 ns) (past (nth 2 ns) (past (nth 1 ns) (past (nth 0 ns) b))) ∷ []
+    ≡ four (operands ns b)
+unfolding four nth operands operand past
+four_of [] b = refl
+four_of (n ∷ []) b = refl
+four_of (n ∷ m ∷ []) b = refl
+four_of (n ∷ m ∷ o ∷ []) b = refl
+four_of (n ∷ m ∷ o ∷ t ∷ ns) b = refl
 
-module _ (w : Widths) (ns : List ℕ) (e : widths_list w ≡ four ns) where
-  pub first_width : w.first ≡ nth 0 ns
-  unfolding widths_list four nth
-  first_width = ap (nth 0) e
+pub four_read : (ns b c d e : List ℕ) → c ≡ past (nth 0 ns) b → d ≡ past (nth 1 ns) c → e ≡ past (nth 2 ns) d
+    → operand (nth 0 ns) b ∷ operand (nth 1 ns) c ∷ operand (nth 2 ns) d ∷ operand (nth 3 ns) e ∷ [] ≡ four (operands ns b)
+four_read ns b c d e p q r = rw (r, q, p, four_of ns b)
 
-  pub second_width : w.second ≡ nth 1 ns
-  unfolding widths_list four nth
-  second_width = ap (nth 1) e
+-- there are as many operands as widths that are not 0
+plain_above : (n : ℕ) → plain n ≡ true → nat_lt 0 n ≡ true
+unfolding plain
+plain_above zero h = let z : false ≡ true = h in cc
+plain_above (suc n) h = lt-ltb 0 (suc n) (omega arith)
 
-  pub third_width : w.third ≡ nth 2 ns
-  unfolding widths_list four nth
-  third_width = ap (nth 2) e
+none_above : (j : ℕ) → filter (nat_lt 0) (replicate j 0) ≡ []
+none_above zero = refl
+none_above (suc j) = none_above j
 
-  pub fourth_width : w.fourth ≡ nth 3 ns
-  unfolding widths_list four nth
-  fourth_width = ap (nth 3) e
+fields_padded : (k j : ℕ) (ns : List ℕ) → plain_row k ns ≡ true → length (filter (nat_lt 0) (ns ++ replicate j 0)) ≡ length ns
+unfolding plain_row
+fields_padded k j [] h = rw (none_above j)
+fields_padded zero j (n ∷ ns) h = let z : false ≡ true = h in cc
+fields_padded (suc k) j (n ∷ ns) h = rw (plain_above n (head_plain n k ns h)) (ap suc (fields_padded k j ns (tail_plain n k ns h)))
+
+four_padded : (ns : List ℕ) → plain_row 4 ns ≡ true → four ns ≡ ns ++ replicate (4 - length ns) 0
+unfolding four nth
+four_padded [] h = refl
+four_padded (n ∷ []) h = refl
+four_padded (n ∷ m ∷ []) h = refl
+four_padded (n ∷ m ∷ o ∷ []) h = refl
+four_padded (n ∷ m ∷ o ∷ t ∷ []) h = refl
+four_padded (n ∷ m ∷ o ∷ t ∷ u ∷ ns) h = let z : false ≡ true = not_five n m o t u ns h in cc
+
+pub fields_counted : (ws ns : List ℕ) → ws ≡ four ns → plain_row 4 ns ≡ true → length (filter (nat_lt 0) ws) ≡ length ns
+fields_counted ws ns e h = rw (e, four_padded ns h) (fields_padded 4 (4 - length ns) ns h)
 
 -- every byte but those tried is asked as hex 1A
 pub last_ranges : (l : Limits) (A : Type 0) (byte : ℕ) (vs : List ℕ) → Apart A byte but_last → (at_most 1 (nth 1 vs)).answer ≡ ranges l byte vs

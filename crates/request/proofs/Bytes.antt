@@ -1,12 +1,13 @@
 -- Operands as numbers of bytes: where they are, how they are put together, how large they are.
-use Prim.Native.Nat.{ℕ, zero, suc, ◌+◌, ◌*◌, ◌^◌, ◌<◌, ◌≤◌}
-use mathlib.Core.Path.{◌≡◌, refl}
+use Prim.Native.Nat.{ℕ, zero, suc, ◌+◌, ◌*◌, ◌^◌, ◌<◌, ◌≤◌, min}
+use mathlib.Core.Path.{◌≡◌, refl, ap, sym, ◌∙◌}
 use mathlib.Core.Bool.{true, false}
-use mathlib.Core.List.{List, [], ◌∷◌}
-use lib.ListN.{length, get_or, drop, drop_of_length-le}
-use lib.Seq.{drop-cons, drop-drop, get_or-drop, drop-length}
+use mathlib.Core.List.{List, [], ◌∷◌, ◌++◌, append_assoc}
+use lib.ListN.{length, take, drop, length-append}
+use Rattle.std.proofs.lemmas.List.{get_or-append-add}
+use lib.Seq.{get_or-drop}
 use native.Mathlib.Omega.{arith}
-use native.Mathlib.Nat.{suc-add, mul_assoc, pow-succ', zero-add, one-mul, mul-zero}
+use native.Mathlib.Nat.{pow-le-pow_right, zero-min, min-zero, suc-min-suc, suc-add, mul_assoc, pow-succ', zero-add, one-mul, mul-zero}
 use Rattle.rules.specs.Requests.{operand, past, at_least}
 use Rattle.rules.specs.Writer.{Bytes}
 use Rattle.rules.proofs.Laws.Writer.{operand_lt, past_drop}
@@ -45,19 +46,39 @@ bytes_drop n l h i = rw get_or-drop (h (n + i))
 pub operand_drop_lt : (n k : ℕ) (l : List ℕ) → Bytes l → operand n (drop k l) < 256 ^ n
 operand_drop_lt n k l h = operand_lt n (drop k l) (bytes_drop k l h)
 
--- ---- where the bytes go on
+-- ---- the first bytes of a list, and those behind them
 
-pub past_further : (n at : ℕ) (l : List ℕ) → past n (drop at l) ≡ drop (at + n) l
-past_further n at l = rw (past_drop, drop-drop)
+-- as many as are wanted, or as there are
+pub operand_front : (n : ℕ) (l : List ℕ) → operand (length (take (min n (length l)) l)) (take (min n (length l)) l) ≡ operand n l
+unfolding operand
+operand_front zero l = rw zero-min
+operand_front (suc n) [] = rw min-zero
+operand_front (suc n) (b ∷ l) = rw suc-min-suc (ap (λ v. b + 256 * v) (operand_front n l))
 
-pub drop_end : (k : ℕ) (l : List ℕ) → length l ≤ k → drop (length l) l ≡ drop k l
-drop_end k l h = rw (drop-length l, drop_of_length-le l h)
+pub past_front : (n : ℕ) (l : List ℕ) → drop (min n (length l)) l ≡ past n l
+unfolding past
+past_front zero l = rw zero-min
+past_front (suc n) [] = rw min-zero
+past_front (suc n) (b ∷ l) = rw suc-min-suc (past_front n l)
 
-pub past_end : (n at : ℕ) (l : List ℕ) → length l ≤ at + n → drop (length l) l ≡ past n (drop at l)
-past_end n at l h = rw past_further (drop_end (at + n) l h)
+pub drop_min : (n : ℕ) (l : List ℕ) → drop (min n (length l)) l ≡ drop n l
+drop_min n l = rw (past_front n l, past_drop)
 
-pub operand_there : (at : ℕ) (l : List ℕ) → at < length l → get_or l at 0 ≡ operand 1 (drop at l)
-operand_there at l h = rw (drop-cons l at 0 h, operand_one)
+-- ---- a number put together from its last byte on: s of the bytes f ++ x ∷ s are read, and x is the next one
 
-pub operand_none : (n at : ℕ) (l : List ℕ) → length l ≤ at → 0 ≡ operand n (drop at l)
-operand_none n at l h = rw (drop_of_length-le l h, operand_nil)
+module _ (f s l : List ℕ) (x v : ℕ) (parts : (f ++ x ∷ []) ++ s ≡ l) (read : v ≡ operand (length s) s) where
+  pub parts_more : f ++ x ∷ s ≡ l
+  parts_more = rw append_assoc at parts
+
+  pub value_more : 256 * v + x ≡ operand (length (x ∷ s)) (x ∷ s)
+  unfolding operand
+  value_more = rw read (omega arith)
+
+  -- of at most eight bytes
+  pub value_fits : Bytes l → length l ≤ 8 → 256 * v + x < 2 ^ 64
+  value_fits h small =
+      let there : length f + suc (length s) ≡ length l = sym (length-append f (x ∷ s)) ∙ ap length parts_more in
+      let within : Bytes (x ∷ s) = λ i. rw (← get_or-append-add f (x ∷ s) i 0, parts_more) (h (length f + i)) in
+      let low : operand (suc (length s)) (x ∷ s) < 256 ^ suc (length s) = operand_lt (suc (length s)) (x ∷ s) within in
+      let high : 256 ^ suc (length s) ≤ 256 ^ 8 = pow-le-pow_right {n = 256} (omega arith) {i = suc (length s)} {j = 8} (omega arith) in
+      omega (arith, value_more)

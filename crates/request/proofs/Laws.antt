@@ -1,7 +1,7 @@
 -- Laws of reading: how large an operand is, and which of the limits reading asks.
+use Rattle.std.specs.Prelude.{Option, None, Some}
 use Prim.Native.Nat.{ℕ, ◌^◌, ◌<◌}
 use mathlib.Core.Path.{◌≡◌, refl}
-use mathlib.Core.Option.{Option, none, some}
 use mathlib.Core.List.{List, [], ◌∷◌}
 use lib.ListN.{drop}
 use Rattle.rules.specs.State.{Limits}
@@ -37,8 +37,8 @@ module _ (l m : Limits) (cpu : l.cpu_bytes ≡ m.cpu_bytes) (node : l.node_bytes
 
   operands_alike : (byte : ℕ) (bytes : List ℕ) (o : Option (List ℕ)) → read_operands l byte bytes o ≡ read_operands m byte bytes o
   unfolding read_operands
-  operands_alike byte bytes none = refl
-  operands_alike byte bytes (some ns) = rw request_alike
+  operands_alike byte bytes None = refl
+  operands_alike byte bytes (Some ns) = rw request_alike
 
   pub read_alike : (bytes : List ℕ) → read l bytes ≡ read m bytes
   unfolding read

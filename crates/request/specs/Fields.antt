@@ -1,16 +1,12 @@
 -- The operands of a command as four numbers.
-use Rattle.std.specs.Prelude.{ℕ, Bool, cond, ◌||◌, List, [], ◌∷◌, eqb}
-use Rattle.rules.specs.Requests.{nth, operand}
+use Rattle.std.specs.Prelude.{ℕ, Bool, List, [], ◌∷◌}
+use Rattle.rules.specs.Requests.{nth}
 use Rattle.rules.specs.Writer as rules
 use Rattle.request.specs.Request.{limits_of}
 use Rattle.request.specs.declared.fields.Fields.{Fields}
-use Rattle.request.specs.declared.fields.Widths.{Widths}
 
 unfoldable pub list_of : Fields → List ℕ
 list_of f = f.first ∷ f.second ∷ f.third ∷ f.fourth ∷ []
-
-unfoldable pub widths_list : Widths → List ℕ
-widths_list w = w.first ∷ w.second ∷ w.third ∷ w.fourth ∷ []
 
 -- a list cut after four numbers, or filled up with zeros
 unfoldable pub four : List ℕ → List ℕ
@@ -19,6 +15,3 @@ four l = nth 0 l ∷ nth 1 l ∷ nth 2 l ∷ nth 3 l ∷ []
 -- the widths of a command's operands in this form of the stream
 unfoldable pub row : Bool → ℕ → List ℕ
 row wide byte = rules.row (limits_of wide) byte
-
-unfoldable pub operand_of : ℕ → List ℕ → ℕ
-operand_of n bytes = cond (eqb n 1 || (eqb n 2 || (eqb n 4 || eqb n 8))) (operand n bytes) 0

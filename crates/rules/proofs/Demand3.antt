@@ -7,9 +7,8 @@
 -- A timeshare thread is gone within 8,192 of those takes, if nobody arrives while it waits in the realtime part, as the current thread, or in timeshare while
 -- the filling and emptying buckets are the same.
 -- Waiting, being ahead, a, b, and what is asked of the arrivals are defined in Ahead.antt, over the puts and takes alone.
-use Rattle.std.specs.Prelude.{ℕ, ◌+◌, ◌≤◌, ◌*◌, refl, true, false, List, [], ◌∷◌, ◌++◌}
+use Rattle.std.specs.Prelude.{ℕ, ◌+◌, ◌≤◌, ◌*◌, refl, true, false, List, [], ◌∷◌, ◌++◌, Some}
 use Rattle.std.proofs.Common.{◌∙◌, append_assoc, arith}
-use Rattle.std.proofs.Math.Option.{some}
 use Rattle.rules.proofs.Laws.Line.{both}
 use Rattle.rules.specs.Queue.{Queue, nr_buckets}
 use Rattle.rules.specs.Puts.{PutOrTake, a_put, a_take}
@@ -29,7 +28,7 @@ as_demanded {limit} {q} {log} k = record {
   once = k.fits.once;
   in_order = by_ahead k.fits;
   turn = λ pre mid post p s x e.
-      (k.past (pre ++ (a_put p ∷ mid) ++ (a_take s (some x) ∷ [])) post (e ∙ rw (append_assoc (pre ++ (a_put p ∷ mid)) (a_take s (some x) ∷ []) post))).turn pre mid p s x refl;
+      (k.past (pre ++ (a_put p ∷ mid) ++ (a_take s (Some x) ∷ [])) post (e ∙ rw (append_assoc (pre ++ (a_put p ∷ mid)) (a_take s (Some x) ∷ []) post))).turn pre mid p s x refl;
   waits = λ pre mid post p e. (k.past (pre ++ (a_put p ∷ mid)) post e).still pre mid p refl;
   own = λ pre post o e. (k.past (pre ++ (a_take false o ∷ [])) post (e ∙ rw (append_assoc pre (a_take false o ∷ []) post))).own pre o refl;
   stealing = λ pre post o e. (k.past (pre ++ (a_take true o ∷ [])) post (e ∙ rw (append_assoc pre (a_take true o ∷ []) post))).stealing pre o refl;

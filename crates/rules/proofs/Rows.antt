@@ -1,14 +1,14 @@
 -- "Edge table (rows to be proved)": the ten rows, as numbers, checked against the definitions by one theorem over the table.
-use Rattle.std.specs.Prelude.{ℕ, zero, suc, ltb, ◌≡◌, refl, true, false, List, [], ◌∷◌, ◌++◌}
+use Rattle.std.specs.Prelude.{ℕ, zero, suc, ltb, ◌≡◌, refl, true, false, List, [], ◌∷◌, ◌++◌, Option, None, Some}
 use Rattle.std.proofs.Common.{arith, lt-ltb}
-use Rattle.std.proofs.Math.Option.{Option, none, some}
+use Rattle.rules.specs.declared.choice.Pair.{Pair}
 use Rattle.rules.specs.declared.PriorityClass.TheVariants as class
 use Rattle.rules.specs.declared.Priority.{Priority}
 use Rattle.rules.specs.Priority.{class_number, from_raw}
 use Rattle.rules.specs.Draw.{next_state, draw}
 use Rattle.rules.specs.Times.{timeslice}
 use Rattle.rules.specs.Queue.{Queue, no_queue, insert, take, timeshare_bucket}
-use Rattle.rules.specs.Choice.{score, weigh, extremes, Pair, no_pair, pair, pair_of, choose_cpu_balance}
+use Rattle.rules.specs.Choice.{score, weigh, extremes, pair_of, choose_cpu_balance}
 use Rattle.rules.specs.Laws.Computed.{computed}
 
 -- a priority as its class and its value
@@ -31,16 +31,16 @@ put_realtime v q = insert q (record { thread = v; class = class.Realtime; value 
 
 -- who is handed out first
 number : Option ℕ → List ℕ
-number none = []
-number (some x) = x ∷ []
+number None = []
+number (Some x) = x ∷ []
 
 first_out : Queue → List ℕ
 first_out q = number (take (λ x. false) q false).out
 
 -- a donor and a recipient
-pair_numbers : Pair → List ℕ
-pair_numbers no_pair = []
-pair_numbers (pair d r) = d ∷ r ∷ []
+pair_numbers : Option Pair → List ℕ
+pair_numbers None = []
+pair_numbers (Some p) = p.donor ∷ p.recipient ∷ []
 
 -- row 10: loads 1, 2, 3 on CPUs 0, 1, 2
 unfoldable pub row_10_load : ℕ → ℕ
@@ -90,6 +90,6 @@ above_0 : (a : ℕ) → ltb 0 (score 1 a) ≡ true
 unfolding score
 above_0 a = lt-ltb 0 (score 1 a) (omega arith)
 
-pub row_10 : (us draws : ℕ) → (choose_cpu_balance us (λ c. true) row_10_load (0 ∷ 1 ∷ 2 ∷ []) draws).found ≡ no_pair
+pub row_10 : (us draws : ℕ) → (choose_cpu_balance us (λ c. true) row_10_load (0 ∷ 1 ∷ 2 ∷ []) draws).found ≡ None
 unfolding choose_cpu_balance extremes weigh row_10_load pair_of
 row_10 us draws = rw (above_0, rises 1, rises 2)

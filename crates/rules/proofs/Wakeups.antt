@@ -1,9 +1,8 @@
 -- 2026-01: "The last field of a line counts every call of `wakeup`, also a donation's call to the CPU that runs the command. It shall count only calls to a
 -- different CPU." A put and a donation call it, nothing else. In what follows: the limits, the topology, the tick, and us, the CPU that runs the command.
-use Rattle.std.specs.Prelude.{ℕ, ◌+◌, ◌≡◌, ◌≢◌, Bool, cond, ◌&&◌, eqb}
+use Rattle.std.specs.Prelude.{ℕ, ◌+◌, ◌≡◌, ◌≢◌, Bool, cond, ◌&&◌, eqb, Option, None, Some}
 use Rattle.std.proofs.Math.Path.{refl}
 use Rattle.std.proofs.Math.Bool.{not}
-use Rattle.std.proofs.Math.Option.{Option, none, some}
 use borrow.Author.Tests.{eq-eqb, ne_eqb}
 use Rattle.rules.specs.declared.Priority.{Priority}
 use Rattle.rules.specs.Priority.{less, donation_accepted}
@@ -25,8 +24,8 @@ module _ (limits : Limits) (topology : Topology) (tick us : ℕ) where
   maybe_reads_no_count : (w : World) (n x : ℕ) (o : Option ℕ)
       → with_count (sched.maybe_wakeup limits topology tick us (with_count w n) x o) 0 ≡ with_count (sched.maybe_wakeup limits topology tick us w x o) 0
   unfolding with_count sched.maybe_wakeup wakeup
-  maybe_reads_no_count w n x none = refl
-  maybe_reads_no_count w n x (some c) = refl
+  maybe_reads_no_count w n x None = refl
+  maybe_reads_no_count w n x (Some c) = refl
 
   -- "choices and queues compare as before": of what a put and a donation leave, nothing but the count depends on the count.
   pub put_reads_no_count : (w : World) (n c x : ℕ) → with_count (put (with_count w n) c x) 0 ≡ with_count (put w c x) 0
@@ -47,7 +46,7 @@ module _ (limits : Limits) (topology : Topology) (tick us : ℕ) where
   put_counts_each_call w c x = both (eqb c us) (λ e. rw e) (λ e. rw e)
 
   -- A donation to a thread that was put in the queue of the CPU that runs the command counts nothing.
-  pub donation_to_own_queue_counts_nothing : (w : World) (x : ℕ) (p : Priority) → (w.threads x).queue_cpu ≡ some us → (donate w x p).wakeups ≡ w.wakeups
+  pub donation_to_own_queue_counts_nothing : (w : World) (x : ℕ) (p : Priority) → (w.threads x).queue_cpu ≡ Some us → (donate w x p).wakeups ≡ w.wakeups
   unfolding sched.donate_priority sched.maybe_wakeup wakeup with_thread
   donation_to_own_queue_counts_nothing w x p own =
       both (donation_accepted (w.threads x).donated p)
@@ -60,18 +59,18 @@ module _ (limits : Limits) (topology : Topology) (tick us : ℕ) where
   abbrev calls : World → ℕ → Priority → ℕ → Bool
   calls w x p c =
       donation_accepted (w.threads x).donated p && (less (effective_priority (w.threads x)) p && not (same_cpu x (w.cpus us).running)
-      && (not (is_empty (w.cpus c)) && less (effective_priority (donated_to (w.threads x) (some p))) (w.cpus c).advertised))
+      && (not (is_empty (w.cpus c)) && less (effective_priority (donated_to (w.threads x) (Some p))) (w.cpus c).advertised))
 
-  maybe_elsewhere : (w : World) (x c : ℕ) (o : Option ℕ) (t : Thread) → o ≡ some c → w.threads x ≡ t → c ≢ us
+  maybe_elsewhere : (w : World) (x c : ℕ) (o : Option ℕ) (t : Thread) → o ≡ Some c → w.threads x ≡ t → c ≢ us
       → (sched.maybe_wakeup limits topology tick us w x o).wakeups ≡ cond (not (is_empty (w.cpus c)) && less (effective_priority t) (w.cpus c).advertised) (w.wakeups + 1) w.wakeups
   unfolding sched.maybe_wakeup wakeup
   maybe_elsewhere w x c o t put_there is other = rw (put_there, is, ne_eqb c us other)
 
-  pub donation_elsewhere_counts_each_call : (w : World) (x : ℕ) (p : Priority) (c : ℕ) → (w.threads x).queue_cpu ≡ some c → c ≢ us
+  pub donation_elsewhere_counts_each_call : (w : World) (x : ℕ) (p : Priority) (c : ℕ) → (w.threads x).queue_cpu ≡ Some c → c ≢ us
       → (donate w x p).wakeups ≡ cond (calls w x p c) (w.wakeups + 1) w.wakeups
   unfolding sched.donate_priority with_thread
   donation_elsewhere_counts_each_call w x p c put_there other =
       both (donation_accepted (w.threads x).donated p)
       (λ e. both (less (effective_priority (w.threads x)) p && not (same_cpu x (w.cpus us).running))
-      (λ h. rw (e, h) (maybe_elsewhere (with_thread w x (donated_to (w.threads x) (some p))) x c (w.threads x).queue_cpu _ put_there (at_here w.threads x _) other)) (λ h. rw (e, h)))
+      (λ h. rw (e, h) (maybe_elsewhere (with_thread w x (donated_to (w.threads x) (Some p))) x c (w.threads x).queue_cpu _ put_there (at_here w.threads x _) other)) (λ h. rw (e, h)))
       (λ e. rw e)

@@ -1,7 +1,6 @@
 -- What document 01 says over the puts and takes of one queue, and over nothing else: who waits, who is ahead of whom, a, b, the takes by number, and what
 -- the bound asks of the arrivals.
-use Rattle.std.specs.Prelude.{ℕ, suc, ◌+◌, ◌-◌, ◌%◌, ◌≡◌, ◌⊎◌, Bool, true, false, cond, not, ◌&&◌, ◌||◌, List, [], ◌∷◌, ◌++◌, length, eqb, ltb}
-use Rattle.std.proofs.Math.Option.{Option, none, some}
+use Rattle.std.specs.Prelude.{ℕ, suc, ◌+◌, ◌-◌, ◌%◌, ◌≡◌, ◌⊎◌, Bool, true, false, cond, not, ◌&&◌, ◌||◌, List, [], ◌∷◌, ◌++◌, length, eqb, ltb, Option, None, Some}
 use Rattle.rules.specs.declared.Part.{Part}
 use Rattle.rules.specs.declared.Part.TheVariants as part
 use Rattle.rules.specs.Line.{count}
@@ -109,8 +108,8 @@ b_of pre p mid = puts_ahead (put_after pre p) (suc (length pre)) mid
 
 -- "The later takes that hand out a thread, own or stealing, are numbered from 1": how many of the takes hand out a thread
 unfoldable pub counts : Option ℕ → ℕ
-counts none = 0
-counts (some y) = 1
+counts None = 0
+counts (Some y) = 1
 
 unfoldable pub served : List PutOrTake → ℕ
 served [] = 0

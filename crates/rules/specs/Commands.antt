@@ -1,6 +1,7 @@
 -- What each obeyed command does, and the answer that is shown.
-use Rattle.std.specs.Prelude.{ℕ, ◌+◌, Bool, true, cond, List, [], ◌∷◌, ◌++◌, eqb}
-use Rattle.std.proofs.Math.Option.{Option, none, some}
+use Rattle.std.specs.Prelude.{ℕ, ◌+◌, Bool, true, cond, List, [], ◌∷◌, ◌++◌, eqb, Option, None, Some}
+use Rattle.rules.specs.declared.Running.{Running}
+use Rattle.rules.specs.declared.Running.TheVariants as running
 use Rattle.rules.specs.Priority.{priority, class_at}
 use Rattle.rules.specs.Times.{Thread, donated_to, critical_at}
 use Rattle.rules.specs.Queue.{load}
@@ -14,10 +15,6 @@ use Rattle.rules.specs.Questions.{refusal}
 -- ---- the answer
 
 -- What a CPU runs.
-pub data Running : Type 0 where
-  thread : ℕ → Running
-  idle : Running
-
 -- "number from 0, refusal (0 if obeyed), CPU, thread it now runs or `idle`, queue load, calls of `wakeup` made by this command": none is shown as `-`.
 -- Of the calls, those to a different CPU (Schedule, `wakeup`).
 pub record Answer : Type 0 where
@@ -28,15 +25,15 @@ pub record Answer : Type 0 where
   pub wakeups : Option ℕ
 
 unfoldable pub nothing_shown : ℕ → Answer
-nothing_shown refusal = record { refused = refusal; cpu = none; running = none; load = none; wakeups = none }
+nothing_shown refusal = record { refused = refusal; cpu = None; running = None; load = None; wakeups = None }
 
 unfoldable pub running_of : Option ℕ → Running
-running_of none = idle
-running_of (some x) = thread x
+running_of None = running.Idle
+running_of (Some x) = running.Thread x
 
 unfoldable pub shown : World → ℕ → Answer
 shown w c =
-    record { refused = 0; cpu = some c; running = some (running_of (w.cpus c).running); load = some (load (w.cpus c).queue); wakeups = some w.wakeups }
+    record { refused = 0; cpu = Some c; running = Some (running_of (w.cpus c).running); load = Some (load (w.cpus c).queue); wakeups = Some w.wakeups }
 
 -- ---- what a command leaves: the state, the answer, and the puts and takes of each CPU's queue, in their order
 
@@ -97,7 +94,7 @@ unfoldable pub with_node : Topology → ℕ → ℕ → Topology
 with_node t p k = record { nodes = t.nodes ++ (record { parent = p; type = k } ∷ []); declared = t.declared; placed = t.placed }
 
 unfoldable pub with_placed : Topology → ℕ → ℕ → Topology
-with_placed t n c = record { nodes = t.nodes; declared = t.declared; placed = at t.placed c (some n) }
+with_placed t n c = record { nodes = t.nodes; declared = t.declared; placed = at t.placed c (Some n) }
 
 -- ---- 05: "sets the shortest User timeslice"
 
@@ -117,14 +114,14 @@ shortened s n = record {
 
 -- none: no CPU found. Once sealed one always is (demands' Selects), so this clause is never taken.
 unfoldable pub scheduled_on : State → ℕ → ℕ → World → Option ℕ → Step
-scheduled_on s us x w none = ran s w (shown w us)
-scheduled_on s us x w (some c) =
+scheduled_on s us x w None = ran s w (shown w us)
+scheduled_on s us x w (Some c) =
     let v : World = sched.schedule_thread_on_cpu s.limits s.topology s.tick us w c x in
     ran s v (shown v c)
 
 unfoldable pub schedules : State → ℕ → ℕ → Step
 schedules s us x =
-    let g : Got = sched.select_cpu s.limits s.topology s.tick us (world_of s) x none in
+    let g : Got = sched.select_cpu s.limits s.topology s.tick us (world_of s) x None in
     scheduled_on s us x g.world g.got
 
 -- a command whose line shows its operand
@@ -146,7 +143,7 @@ obeys s (stattick c n) = ran_on s c (sched.schedule_stattick s.limits s.topology
 obeys s (resched c) = ran_on s c (sched.schedule_resched s.limits s.topology s.tick c (world_of s))
 obeys s (maybe_preempt c) = ran_on s c (sched.schedule_maybe_preempt s.limits s.topology s.tick c (world_of s))
 obeys s (donate c x k v) = ran_on s c (sched.donate_priority s.limits s.topology s.tick c (world_of s) x (priority (class_at k) v))
-obeys s (remove_donation x) = changed s s.topology s.sealed s.tick s.known (at s.threads x (donated_to (s.threads x) none))
+obeys s (remove_donation x) = changed s s.topology s.sealed s.tick s.known (at s.threads x (donated_to (s.threads x) None))
 obeys s (set_critical x m) = changed s s.topology s.sealed s.tick s.known (at s.threads x (critical_at (s.threads x) (eqb m 1)))
 
 -- ---- one call: "A no gives the number, changes nothing"

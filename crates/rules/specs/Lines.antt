@@ -1,9 +1,10 @@
 -- "What the program prints": lines as bytes, and the whole output of a run.
-use Rattle.std.specs.Prelude.{ℕ, zero, suc, ◌+◌, ◌/◌, ◌%◌, Bool, true, false, cond, ◌||◌, List, [], ◌∷◌, ◌++◌, length, eqb, ltb}
-use Rattle.std.proofs.Math.Option.{Option, none, some}
+use Rattle.std.specs.Prelude.{ℕ, zero, suc, ◌+◌, ◌/◌, ◌%◌, Bool, true, false, cond, ◌||◌, List, [], ◌∷◌, ◌++◌, length, eqb, ltb, Option, None, Some}
 use Rattle.rules.specs.State.{State, Limits, start}
 use Rattle.rules.specs.Requests.{Reading, unknown, cut_short, asks, read, past}
-use Rattle.rules.specs.Commands.{Running, thread, idle, Answer, Step, step}
+use Rattle.rules.specs.declared.Running.{Running}
+use Rattle.rules.specs.declared.Running.TheVariants as running
+use Rattle.rules.specs.Commands.{Answer, Step, step}
 
 -- the decimal digits of n, with at most k of them
 unfoldable pub digits : ℕ → ℕ → List ℕ
@@ -35,13 +36,13 @@ unfoldable pub end_word : List ℕ
 end_word = 101 ∷ 110 ∷ 100 ∷ []
 
 unfoldable pub number_or_dash : Option ℕ → List ℕ
-number_or_dash none = dash
-number_or_dash (some n) = decimal n
+number_or_dash None = dash
+number_or_dash (Some n) = decimal n
 
 unfoldable pub running_or_dash : Option Running → List ℕ
-running_or_dash none = dash
-running_or_dash (some idle) = idle_word
-running_or_dash (some (thread x)) = decimal x
+running_or_dash None = dash
+running_or_dash (Some running.Idle) = idle_word
+running_or_dash (Some (running.Thread x)) = decimal x
 
 -- "Per command: number from 0, refusal (0 if obeyed), CPU, thread it now runs or `idle`, queue load, calls of `wakeup` made by this command."
 -- 2026-01: "It shall count only calls to a different CPU."

@@ -1,6 +1,5 @@
 -- Priorities (thread/priority.rs).
-use Rattle.std.specs.Prelude.{ℕ, ◌+◌, ◌*◌, ◌/◌, ◌%◌, Bool, true, cond, not, ◌&&◌, ◌||◌, eqb, ltb}
-use Rattle.std.proofs.Math.Option.{Option, none, some}
+use Rattle.std.specs.Prelude.{ℕ, ◌+◌, ◌*◌, ◌/◌, ◌%◌, Bool, true, cond, not, ◌&&◌, ◌||◌, eqb, ltb, Option, None, Some}
 use Rattle.rules.specs.declared.PriorityClass.{PriorityClass}
 use Rattle.rules.specs.declared.PriorityClass.TheVariants as class
 use Rattle.rules.specs.declared.Priority.{Priority}
@@ -46,10 +45,10 @@ greater_of p q = cond (less p q) q p
 
 -- "The effective priority is the greater of own and donated."
 unfoldable pub effective : Priority → Option Priority → Priority
-effective own none = own
-effective own (some donated) = greater_of own donated
+effective own None = own
+effective own (Some donated) = greater_of own donated
 
 -- "`donate_priority` answers false only if a donation held is greater."
 unfoldable pub donation_accepted : Option Priority → Priority → Bool
-donation_accepted none p = true
-donation_accepted (some held) p = not (less p held)
+donation_accepted None p = true
+donation_accepted (Some held) p = not (less p held)

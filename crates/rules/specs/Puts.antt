@@ -1,6 +1,5 @@
 -- Document 01's puts and takes, as the rules give them beside state and answer.
-use Rattle.std.specs.Prelude.{ℕ, Bool, ◌&&◌}
-use Rattle.std.proofs.Math.Option.{Option}
+use Rattle.std.specs.Prelude.{ℕ, Bool, ◌&&◌, Option}
 use Rattle.rules.specs.declared.Part.{Part}
 use Rattle.rules.specs.Queue.{Queue, Arrival, part_for, bucket_for, is_timeshare}
 

@@ -1,7 +1,5 @@
 -- "Questions put to each command, in order. A no gives the number, changes nothing, and no later question is put."
-use Rattle.std.specs.Prelude.{ℕ, zero, suc, ◌^◌, Bool, true, false, cond, not, ◌&&◌, ◌||◌, List, [], ◌∷◌, ◌++◌, length, eqb, ltb, leb}
-use Rattle.std.proofs.Math.Option.{Option, none, some}
-use Rattle.rules.specs.Times.{is_some}
+use Rattle.std.specs.Prelude.{ℕ, zero, suc, ◌^◌, Bool, true, false, cond, not, ◌&&◌, ◌||◌, List, [], ◌∷◌, ◌++◌, length, eqb, ltb, leb, Option, None, Some, is_some}
 use Rattle.rules.specs.State.{State, any_below, is_number, blocked}
 use Rattle.rules.specs.Topology.{leaf}
 use Rattle.rules.specs.Requests.{Request, declare_cpu, add_node, place_cpu, seal, set_shortest, declare_thread, set_tick, schedule_thread, schedule, hardtick, stattick, resched, maybe_preempt, donate, remove_donation, set_critical, Reading, unknown, cut_short, asks}
@@ -35,8 +33,8 @@ unfoldable pub cpu_unplaced : State → ℕ → Question
 cpu_unplaced s c = question 4 (declared s c && not (is_some (s.topology.placed c)))
 
 unfoldable pub pin_declared : State → Option ℕ → Question
-pin_declared s none = question 4 true
-pin_declared s (some c) = cpu_declared s c
+pin_declared s None = question 4 true
+pin_declared s (Some c) = cpu_declared s c
 
 -- 5: "Is the thread declared; for 10 below 1,024 and new?"
 unfoldable pub thread_declared : State → ℕ → Question

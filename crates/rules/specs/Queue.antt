@@ -1,7 +1,6 @@
 -- A run queue by document 01, its buckets as lists of thread numbers: what a put, a take and `advance_insert_index` do to it, the order of those who
 -- wait, and the priority that a CPU advertises.
-use Rattle.std.specs.Prelude.{ℕ, zero, suc, ◌+◌, ◌-◌, ◌*◌, ◌/◌, ◌%◌, Bool, true, false, cond, not, ◌&&◌, List, [], ◌∷◌, ◌++◌, replicate, length, eqb, ltb}
-use Rattle.std.proofs.Math.Option.{Option, none, some}
+use Rattle.std.specs.Prelude.{ℕ, zero, suc, ◌+◌, ◌-◌, ◌*◌, ◌/◌, ◌%◌, Bool, true, false, cond, not, ◌&&◌, List, [], ◌∷◌, ◌++◌, replicate, length, eqb, ltb, Option, None, Some}
 use Rattle.rules.specs.declared.PriorityClass.{PriorityClass}
 use Rattle.rules.specs.declared.PriorityClass.TheVariants as class
 use Rattle.rules.specs.declared.Priority.{Priority}
@@ -180,8 +179,8 @@ pub record Done : Type 0 where
   pub left : Queue
 
 unfoldable pub hand_out : Queue → Next → Done
-hand_out q nobody = record { out = none; left = q }
-hand_out q (next_in p j x) = record { out = some x; left = leave p q j }
+hand_out q nobody = record { out = None; left = q }
+hand_out q (next_in p j x) = record { out = Some x; left = leave p q j }
 
 -- "Passing over pinned threads in a steal. Only the movable count is asked": a stealing take finds nothing at movable count 0
 unfoldable pub asked : (ℕ → Bool) → Queue → Bool → Next

@@ -1,6 +1,5 @@
 -- The commands: their bytes, their operands, what they ask.
-use Rattle.std.specs.Prelude.{ℕ, zero, suc, ◌+◌, ◌*◌, ◌/◌, ◌%◌, Bool, true, false, cond, List, [], ◌∷◌, eqb}
-use Rattle.std.proofs.Math.Option.{Option, none, some}
+use Rattle.std.specs.Prelude.{ℕ, zero, suc, ◌+◌, ◌*◌, ◌/◌, ◌%◌, Bool, true, false, cond, List, [], ◌∷◌, eqb, Option, None, Some}
 use Rattle.rules.specs.State.{Limits}
 use Rattle.rules.specs.Schedule.{Flags}
 
@@ -52,27 +51,27 @@ all_ones (suc n) = 255 + 256 * all_ones n
 -- How many bytes each operand of a command has; none: the byte is not in the table.
 unfoldable pub widths : Limits → ℕ → Option (List ℕ)
 widths l byte =
-    cond (eqb byte 0x01) (some (l.cpu_bytes ∷ []))
-    (cond (eqb byte 0x02) (some (l.node_bytes ∷ 1 ∷ []))
-    (cond (eqb byte 0x03) (some (l.node_bytes ∷ l.cpu_bytes ∷ []))
-    (cond (eqb byte 0x04) (some [])
-    (cond (eqb byte 0x05) (some (1 ∷ []))
-    (cond (eqb byte 0x10) (some (2 ∷ 1 ∷ 1 ∷ l.cpu_bytes ∷ []))
-    (cond (eqb byte 0x11) (some (8 ∷ []))
-    (cond (eqb byte 0x12) (some (l.cpu_bytes ∷ 2 ∷ []))
-    (cond (eqb byte 0x13) (some (l.cpu_bytes ∷ 1 ∷ []))
-    (cond (eqb byte 0x14) (some (l.cpu_bytes ∷ []))
-    (cond (eqb byte 0x15) (some (l.cpu_bytes ∷ 4 ∷ []))
-    (cond (eqb byte 0x16) (some (l.cpu_bytes ∷ []))
-    (cond (eqb byte 0x17) (some (l.cpu_bytes ∷ []))
-    (cond (eqb byte 0x18) (some (l.cpu_bytes ∷ 2 ∷ 1 ∷ 1 ∷ []))
-    (cond (eqb byte 0x19) (some (2 ∷ []))
-    (cond (eqb byte 0x1a) (some (2 ∷ 1 ∷ [])) none)))))))))))))))
+    cond (eqb byte 0x01) (Some (l.cpu_bytes ∷ []))
+    (cond (eqb byte 0x02) (Some (l.node_bytes ∷ 1 ∷ []))
+    (cond (eqb byte 0x03) (Some (l.node_bytes ∷ l.cpu_bytes ∷ []))
+    (cond (eqb byte 0x04) (Some [])
+    (cond (eqb byte 0x05) (Some (1 ∷ []))
+    (cond (eqb byte 0x10) (Some (2 ∷ 1 ∷ 1 ∷ l.cpu_bytes ∷ []))
+    (cond (eqb byte 0x11) (Some (8 ∷ []))
+    (cond (eqb byte 0x12) (Some (l.cpu_bytes ∷ 2 ∷ []))
+    (cond (eqb byte 0x13) (Some (l.cpu_bytes ∷ 1 ∷ []))
+    (cond (eqb byte 0x14) (Some (l.cpu_bytes ∷ []))
+    (cond (eqb byte 0x15) (Some (l.cpu_bytes ∷ 4 ∷ []))
+    (cond (eqb byte 0x16) (Some (l.cpu_bytes ∷ []))
+    (cond (eqb byte 0x17) (Some (l.cpu_bytes ∷ []))
+    (cond (eqb byte 0x18) (Some (l.cpu_bytes ∷ 2 ∷ 1 ∷ 1 ∷ []))
+    (cond (eqb byte 0x19) (Some (2 ∷ []))
+    (cond (eqb byte 0x1a) (Some (2 ∷ 1 ∷ [])) None)))))))))))))))
 
 -- the row of a byte, and another list where the byte is not in the table
 unfoldable pub widths_or : List ℕ → Option (List ℕ) → List ℕ
-widths_or other none = other
-widths_or other (some ns) = ns
+widths_or other None = other
+widths_or other (Some ns) = ns
 
 unfoldable pub sum : List ℕ → ℕ
 sum [] = 0
@@ -90,7 +89,7 @@ nth zero (v ∷ vs) = v
 nth (suc i) (v ∷ vs) = nth i vs
 
 unfoldable pub pin_of : Limits → ℕ → Option ℕ
-pin_of l v = cond (eqb v (all_ones l.cpu_bytes)) none (some v)
+pin_of l v = cond (eqb v (all_ones l.cpu_bytes)) None (Some v)
 
 -- what the byte asks with these operands
 unfoldable pub request : Limits → ℕ → List ℕ → Request
@@ -118,8 +117,8 @@ pub data Reading : Type 0 where
   asks : Request → ℕ → Reading
 
 unfoldable pub read_operands : Limits → ℕ → List ℕ → Option (List ℕ) → Reading
-read_operands l byte bytes none = unknown
-read_operands l byte bytes (some ns) = cond (at_least (sum ns) bytes) (asks (request l byte (operands ns bytes)) (1 + sum ns)) cut_short
+read_operands l byte bytes None = unknown
+read_operands l byte bytes (Some ns) = cond (at_least (sum ns) bytes) (asks (request l byte (operands ns bytes)) (1 + sum ns)) cut_short
 
 unfoldable pub read : Limits → List ℕ → Reading
 read l [] = unknown

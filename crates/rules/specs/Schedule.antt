@@ -1,15 +1,18 @@
 -- Scheduling (sched.rs): puts, takes, steals, `balance`, `do_schedule`, ticks, preemption and donation, each in the order of the Rust.
-use Rattle.std.specs.Prelude.{ℕ, zero, suc, ◌+◌, ◌-◌, ◌%◌, Bool, true, false, cond, not, ◌&&◌, ◌||◌, List, [], ◌∷◌, ◌++◌, eqb, ltb, leb}
-use Rattle.std.proofs.Math.Option.{Option, none, some}
+use Rattle.std.specs.Prelude.{ℕ, zero, suc, ◌+◌, ◌-◌, ◌%◌, Bool, true, false, cond, not, ◌&&◌, ◌||◌, List, [], ◌∷◌, ◌++◌, eqb, ltb, leb, Option, None, Some, is_some}
+use Rattle.rules.specs.declared.choice.Searched.{Searched}
+use Rattle.rules.specs.declared.choice.Pair.{Pair}
+use Rattle.rules.specs.declared.choice.Chosen.{Chosen}
+use Rattle.rules.specs.declared.choice.Best.{Best}
 use Rattle.rules.specs.declared.Priority.{Priority}
 use Rattle.rules.specs.Priority.{less, at_most, greater_of, donation_accepted}
 use Rattle.rules.specs.Draw.{next_state, draw}
-use Rattle.rules.specs.Times.{timeslice, deadline_distance, Paid, pay_ticks, Thread, effective_priority, preferred_cpu, pinned, is_some, donated_to, steadied, moving_to_queue, moving_to_active, reset_time, paid_to}
+use Rattle.rules.specs.Times.{timeslice, deadline_distance, Paid, pay_ticks, Thread, effective_priority, preferred_cpu, pinned, donated_to, steadied, moving_to_queue, moving_to_active, reset_time, paid_to}
 use Rattle.rules.specs.Queue.{Queue, order, load, timeshare_load, empty, movable, Arrival, part_for, insert, Next, nobody, next_in, asked, leave, said_after_put, said_after_take, advance_insert_index, is_timeshare}
 use Rattle.rules.specs.Puts.{PutOrTake, a_put, a_take, put_made}
 use Rattle.rules.specs.State.{at, Limits, Topology, Cpu, idle_priority}
 use Rattle.rules.specs.Topology.{cpus_of, visited, nearest}
-use Rattle.rules.specs.Choice.{Best, none_yet, best, Searched, find_cpu, first_that, may_steal_from, Pair, no_pair, pair, Chosen, choose_cpu_balance}
+use Rattle.rules.specs.Choice.{find_cpu, first_that, may_steal_from, choose_cpu_balance}
 
 -- What a command may change: the CPUs and the threads. Beside them its puts and takes so far, in their order, for each CPU's queue,
 -- and its calls of `wakeup` to a different CPU.
@@ -155,8 +158,8 @@ with_ticks p last paid = record {
 
 -- "`current_load` is queue load plus 1 unless idle."
 unfoldable pub one_unless_idle : Option ℕ → ℕ
-one_unless_idle none = 0
-one_unless_idle (some x) = 1
+one_unless_idle None = 0
+one_unless_idle (Some x) = 1
 
 unfoldable pub current_load : Cpu → ℕ
 current_load p = load p.queue + one_unless_idle p.running
@@ -176,16 +179,16 @@ movable_on w c = movable (λ x. pinned (w.threads x)) (order (w.cpus c).queue)
 
 -- the effective priority of the thread running, the idle thread's if none is
 unfoldable pub priority_running : World → Option ℕ → Priority
-priority_running w none = idle_priority
-priority_running w (some x) = effective_priority (w.threads x)
+priority_running w None = idle_priority
+priority_running w (Some x) = effective_priority (w.threads x)
 
 unfoldable pub critical_running : World → Option ℕ → Bool
-critical_running w none = false
-critical_running w (some x) = (w.threads x).critical
+critical_running w None = false
+critical_running w (Some x) = (w.threads x).critical
 
 unfoldable pub same_cpu : ℕ → Option ℕ → Bool
-same_cpu c none = false
-same_cpu c (some d) = eqb d c
+same_cpu c None = false
+same_cpu c (Some d) = eqb d c
 
 -- In what follows: the limits, the topology, the tick, and us, the CPU that runs the command.
 module _ (limits : Limits) (topology : Topology) (tick us : ℕ) where
@@ -209,13 +212,13 @@ module _ (limits : Limits) (topology : Topology) (tick us : ℕ) where
 
   -- `take`: a thread is asked of the queue of CPU c
   unfoldable pub handed_out : World → ℕ → Bool → Next → Got
-  handed_out w c stealing nobody = record { got = none; world = noted w c (a_take stealing none) }
+  handed_out w c stealing nobody = record { got = None; world = noted w c (a_take stealing None) }
   handed_out w c stealing (next_in part j x) =
       let p : Cpu = w.cpus c in
       let q : Queue = leave part p.queue j in
       record {
-        got = some x;
-        world = noted (with_cpu w c (with_queue p q (said_after_take part (λ y. (w.threads y).stable.value) p.advertised q))) c (a_take stealing (some x));
+        got = Some x;
+        world = noted (with_cpu w c (with_queue p q (said_after_take part (λ y. (w.threads y).stable.value) p.advertised q))) c (a_take stealing (Some x));
       }
 
   unfoldable pub take_thread : World → ℕ → Bool → Got
@@ -241,34 +244,34 @@ module _ (limits : Limits) (topology : Topology) (tick us : ℕ) where
 
   -- a search of the tree: the CPUs that pass over the thread's priority are skipped, if a priority is given
   unfoldable pub skips : World → Option Priority → ℕ → Bool
-  skips w none c = false
-  skips w (some p) c = less p (current_priority (w.cpus c))
+  skips w None c = false
+  skips w (Some p) c = less p (current_priority (w.cpus c))
 
-  unfoldable pub cpu_of : Best → Option ℕ
-  cpu_of none_yet = none
-  cpu_of (best s c) = some c
+  unfoldable pub cpu_of : Option Best → Option ℕ
+  cpu_of None = None
+  cpu_of (Some b) = Some b.cpu
 
   unfoldable pub find_cpu_from_topo : World → Option Priority → Got
   find_cpu_from_topo w p =
-      let f : Searched = find_cpu us (skips w p) (λ c. current_load (w.cpus c)) (visited limits topology) (record { found = none_yet; draws = (w.cpus us).draw_state }) in
+      let f : Searched = find_cpu us (skips w p) (λ c. current_load (w.cpus c)) (visited limits topology) (record { found = None; draws = (w.cpus us).draw_state }) in
       record { got = cpu_of f.found; world = with_cpu w us (with_draws (w.cpus us) f.draws) }
 
   -- 1: the preferred CPU, if it is not to be avoided, and nobody waits there or the thread is above its priority
   unfoldable pub preferred : World → ℕ → Option ℕ → Option ℕ → Option ℕ
-  preferred w x avoid none = none
-  preferred w x avoid (some c) =
-      cond (not (same_cpu c avoid) && (eqb (load (w.cpus c).queue) 0 || less (current_priority (w.cpus c)) (effective_priority (w.threads x)))) (some c) none
+  preferred w x avoid None = None
+  preferred w x avoid (Some c) =
+      cond (not (same_cpu c avoid) && (eqb (load (w.cpus c).queue) 0 || less (current_priority (w.cpus c)) (effective_priority (w.threads x)))) (Some c) None
 
   -- 2: the least loaded that will run the thread at once, if it is not to be avoided; else 3: the least loaded of all
   unfoldable pub found_or_any : World → Option ℕ → Option ℕ → Got
-  found_or_any w avoid none = find_cpu_from_topo w none
-  found_or_any w avoid (some c) = cond (same_cpu c avoid) (find_cpu_from_topo w none) (record { got = some c; world = w })
+  found_or_any w avoid None = find_cpu_from_topo w None
+  found_or_any w avoid (Some c) = cond (same_cpu c avoid) (find_cpu_from_topo w None) (record { got = Some c; world = w })
 
   unfoldable pub select_from : World → ℕ → Option ℕ → Option ℕ → Got
-  select_from w x avoid none =
-      let g : Got = find_cpu_from_topo w (some (effective_priority (w.threads x))) in
+  select_from w x avoid None =
+      let g : Got = find_cpu_from_topo w (Some (effective_priority (w.threads x))) in
       found_or_any g.world avoid g.got
-  select_from w x avoid (some c) = record { got = some c; world = w }
+  select_from w x avoid (Some c) = record { got = Some c; world = w }
 
   unfoldable pub select_cpu : World → ℕ → Option ℕ → Got
   select_cpu w x avoid = select_from w x avoid (preferred w x avoid (preferred_cpu (w.threads x)))
@@ -280,8 +283,8 @@ module _ (limits : Limits) (topology : Topology) (tick us : ℕ) where
 
   -- a thread taken from CPU c for CPU d
   unfoldable pub moved_for : ℕ → Option ℕ → World → Got
-  moved_for d none w = record { got = none; world = w }
-  moved_for d (some x) w = record { got = some x; world = with_thread w x (moving_to_queue (w.threads x) d) }
+  moved_for d None w = record { got = None; world = w }
+  moved_for d (Some x) w = record { got = Some x; world = with_thread w x (moving_to_queue (w.threads x) d) }
 
   unfoldable pub take_a_thread_from_cpu : World → ℕ → ℕ → Got
   take_a_thread_from_cpu w c d =
@@ -289,8 +292,8 @@ module _ (limits : Limits) (topology : Topology) (tick us : ℕ) where
       moved_for d g.got g.world
 
   unfoldable pub steal_from : World → Option ℕ → Got
-  steal_from w none = record { got = none; world = w }
-  steal_from w (some c) = take_a_thread_from_cpu w c us
+  steal_from w None = record { got = None; world = w }
+  steal_from w (Some c) = take_a_thread_from_cpu w c us
 
   unfoldable pub try_steal : World → Got
   try_steal w = steal_from w (choose_cpu_steal_via_topo w)
@@ -302,8 +305,8 @@ module _ (limits : Limits) (topology : Topology) (tick us : ℕ) where
   max_steps = 20
 
   unfoldable pub received : World → (ℕ → Bool) → ℕ → ℕ → Option ℕ → Balancing
-  received w allowed steps recipient none = record { world = w; allowed = allowed; steps = steps + 1; goes_on = true }
-  received w allowed steps recipient (some x) = record { world = schedule_thread_on_cpu w recipient x; allowed = allowed; steps = steps + 11; goes_on = true }
+  received w allowed steps recipient None = record { world = w; allowed = allowed; steps = steps + 1; goes_on = true }
+  received w allowed steps recipient (Some x) = record { world = schedule_thread_on_cpu w recipient x; allowed = allowed; steps = steps + 11; goes_on = true }
 
   -- the donor is marked; the recipient leaves the allowed set before the take is tried
   unfoldable pub move_one : World → (ℕ → Bool) → ℕ → ℕ → ℕ → Balancing
@@ -311,14 +314,14 @@ module _ (limits : Limits) (topology : Topology) (tick us : ℕ) where
       let g : Got = take_a_thread_from_cpu w donor recipient in
       received g.world (at allowed recipient false) steps recipient g.got
 
-  unfoldable pub balance_pair : World → (ℕ → Bool) → ℕ → Pair → Balancing
-  balance_pair w allowed steps no_pair = record { world = w; allowed = allowed; steps = steps + 1; goes_on = true }
-  balance_pair w allowed steps (pair donor recipient) =
-      let p : Cpu = w.cpus donor in
-      let v : World = with_cpu w donor (set_rebalance p) in
+  unfoldable pub balance_pair : World → (ℕ → Bool) → ℕ → Option Pair → Balancing
+  balance_pair w allowed steps None = record { world = w; allowed = allowed; steps = steps + 1; goes_on = true }
+  balance_pair w allowed steps (Some p0) =
+      let p : Cpu = w.cpus p0.donor in
+      let v : World = with_cpu w p0.donor (set_rebalance p) in
       cond (eqb (current_load p) 0) (record { world = w; allowed = allowed; steps = steps; goes_on = false })
-      (cond (ltb 0 (load p.queue)) (move_one v allowed steps donor recipient)
-      (record { world = v; allowed = cond (eqb (current_load p) 1) (at allowed donor false) allowed; steps = steps + 1; goes_on = true }))
+      (cond (ltb 0 (load p.queue)) (move_one v allowed steps p0.donor p0.recipient)
+      (record { world = v; allowed = cond (eqb (current_load p) 1) (at allowed p0.donor false) allowed; steps = steps + 1; goes_on = true }))
 
   unfoldable pub balance_step : Balancing → Balancing
   balance_step b =
@@ -337,22 +340,22 @@ module _ (limits : Limits) (topology : Topology) (tick us : ℕ) where
   -- ---- `switch_to`, `do_schedule`, `schedule`
 
   unfoldable pub activated : World → Option ℕ → World
-  activated w none = w
-  activated w (some x) = with_thread w x (moving_to_active (w.threads x) us)
+  activated w None = w
+  activated w (Some x) = with_thread w x (moving_to_active (w.threads x) us)
 
   unfoldable pub switch_to : World → Option ℕ → World
   switch_to w x = activated (with_cpu w us (with_running (w.cpus us) x (priority_running w x))) x
 
   -- nobody was found to steal: the idle thread runs on, or is switched to
   unfoldable pub run_stolen : World → Option ℕ → Option ℕ → World
-  run_stolen w cur (some y) = switch_to w (some y)
-  run_stolen w none none = w
-  run_stolen w (some x) none = switch_to w none
+  run_stolen w cur (Some y) = switch_to w (Some y)
+  run_stolen w None None = w
+  run_stolen w (Some x) None = switch_to w None
 
   -- the next thread of the own queue; one that takes itself back is not switched to
   unfoldable pub run_taken : World → Option ℕ → Option ℕ → World
-  run_taken w cur (some y) = cond (same_cpu y cur) w (switch_to w (some y))
-  run_taken w cur none =
+  run_taken w cur (Some y) = cond (same_cpu y cur) w (switch_to w (Some y))
+  run_taken w cur None =
       let g : Got = try_steal w in
       run_stolen g.world cur g.got
 
@@ -370,11 +373,11 @@ module _ (limits : Limits) (topology : Topology) (tick us : ℕ) where
 
   -- none: no CPU found. Once sealed one always is (demands' Selects), so this clause is never taken.
   unfoldable pub reinserted : World → ℕ → Option ℕ → World
-  reinserted w x none = w
-  reinserted w x (some c) = schedule_thread_on_cpu w c x
+  reinserted w x None = w
+  reinserted w x (Some c) = schedule_thread_on_cpu w c x
 
   unfoldable pub reinsert_at : World → ℕ → Got
-  reinsert_at w x = cond (w.cpus us).must_rebalance (select_cpu w x (some us)) (record { got = some us; world = w })
+  reinsert_at w x = cond (w.cpus us).must_rebalance (select_cpu w x (Some us)) (record { got = Some us; world = w })
 
   -- the thread running goes back into a queue, and the next is picked; or it runs on with its deadline set anew
   unfoldable pub reinsert : World → ℕ → Bool → Bool → World
@@ -384,8 +387,8 @@ module _ (limits : Limits) (topology : Topology) (tick us : ℕ) where
       (cond yield (pick_next (schedule_thread_on_cpu w us x)) (reset_thread_time w us x))
 
   unfoldable pub do_schedule_of : World → Option ℕ → Flags → World
-  do_schedule_of w none f = pick_next w
-  do_schedule_of w (some x) f = cond f.again (reinsert w x f.yield f.preempt) (pick_next w)
+  do_schedule_of w None f = pick_next w
+  do_schedule_of w (Some x) f = cond f.again (reinsert w x f.yield f.preempt) (pick_next w)
 
   unfoldable pub do_schedule : World → Flags → World
   do_schedule w f = do_schedule_of w (w.cpus us).running f
@@ -407,12 +410,12 @@ module _ (limits : Limits) (topology : Topology) (tick us : ℕ) where
 
   -- the thread running pays for the ticks since the CPU's last hard tick
   unfoldable pub paid_by : World → Option ℕ → ℕ → World
-  paid_by w none paid = with_cpu w us (with_ticks (w.cpus us) tick paid)
-  paid_by w (some x) paid = with_thread (with_cpu w us (with_ticks (w.cpus us) tick (w.cpus us).idle_timeslice)) x (paid_to (w.threads x) paid)
+  paid_by w None paid = with_cpu w us (with_ticks (w.cpus us) tick paid)
+  paid_by w (Some x) paid = with_thread (with_cpu w us (with_ticks (w.cpus us) tick (w.cpus us).idle_timeslice)) x (paid_to (w.threads x) paid)
 
   unfoldable pub paid_so_far : World → Option ℕ → ℕ
-  paid_so_far w none = (w.cpus us).idle_timeslice
-  paid_so_far w (some x) = (w.threads x).timeslice
+  paid_so_far w None = (w.cpus us).idle_timeslice
+  paid_so_far w (Some x) = (w.threads x).timeslice
 
   unfoldable pub schedule_hardtick : World → World
   schedule_hardtick w =
@@ -452,13 +455,13 @@ module _ (limits : Limits) (topology : Topology) (tick us : ℕ) where
 
   -- a wake-up is sent to the CPU in whose queue the thread was put, if somebody waits there and it advertises more than the thread's priority
   unfoldable pub maybe_wakeup : World → ℕ → Option ℕ → World
-  maybe_wakeup w x none = w
-  maybe_wakeup w x (some c) = wakeup us w c (not (is_empty (w.cpus c)) && less (effective_priority (w.threads x)) (w.cpus c).advertised)
+  maybe_wakeup w x None = w
+  maybe_wakeup w x (Some c) = wakeup us w c (not (is_empty (w.cpus c)) && less (effective_priority (w.threads x)) (w.cpus c).advertised)
 
   unfoldable pub donate_priority : World → ℕ → Priority → World
   donate_priority w x p =
       let t : Thread = w.threads x in
-      let v : World = with_thread w x (donated_to t (some p)) in
+      let v : World = with_thread w x (donated_to t (Some p)) in
       cond (donation_accepted t.donated p)
       (cond (less (effective_priority t) p && not (same_cpu x (w.cpus us).running)) (maybe_wakeup v x t.queue_cpu) v)
       w

@@ -1,6 +1,5 @@
 -- What the rules keep: limits, topology, CPUs, threads, and beside them the puts and takes that a command makes.
-use Rattle.std.specs.Prelude.{ℕ, zero, suc, Bool, false, cond, not, ◌||◌, List, [], ◌∷◌, ◌++◌, eqb}
-use Rattle.std.proofs.Math.Option.{Option, none, some}
+use Rattle.std.specs.Prelude.{ℕ, zero, suc, Bool, false, cond, not, ◌||◌, List, [], ◌∷◌, ◌++◌, eqb, Option, None, Some}
 use Rattle.rules.specs.declared.PriorityClass.TheVariants as class
 use Rattle.rules.specs.declared.Priority.{Priority}
 use Rattle.rules.specs.Line.{has}
@@ -30,8 +29,8 @@ join_all f [] = []
 join_all f (x ∷ l) = f x ++ join_all f l
 
 unfoldable pub is_number : ℕ → Option ℕ → Bool
-is_number x none = false
-is_number x (some y) = eqb y x
+is_number x None = false
+is_number x (Some y) = eqb y x
 
 -- ---- limits
 
@@ -91,7 +90,7 @@ new_cpu = record {
   queue = no_queue;
   advertised = idle_priority;
   own_priority = idle_priority;
-  running = none;
+  running = None;
   must_rebalance = false;
   preempt = false;
   draw_state = 0;
@@ -105,11 +104,11 @@ new_cpu = record {
 unfoldable pub new_thread : Priority → Option ℕ → Thread
 new_thread p pin = record {
   own = p;
-  donated = none;
+  donated = None;
   stable = p;
   pin = pin;
-  last = none;
-  queue_cpu = none;
+  last = None;
+  queue_cpu = None;
   deadline = 0;
   timeslice = 0;
   critical = false;
@@ -131,13 +130,13 @@ pub record State : Type 0 where
 unfoldable pub start : Limits → State
 start limits = record {
   limits = limits;
-  topology = record { nodes = record { parent = 0; type = 0 } ∷ []; declared = λ c. false; placed = λ c. none };
+  topology = record { nodes = record { parent = 0; type = 0 } ∷ []; declared = λ c. false; placed = λ c. None };
   sealed = false;
   tick = 0;
   accepted = 0;
   known = λ x. false;
   cpus = λ c. new_cpu;
-  threads = λ x. new_thread idle_priority none;
+  threads = λ x. new_thread idle_priority None;
 }
 
 -- Thread x runs on CPU c; waits in its queue.

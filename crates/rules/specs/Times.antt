@@ -1,6 +1,5 @@
 -- Timeslices, deadlines and what a thread keeps of its times (thread/time.rs, rq.rs).
-use Rattle.std.specs.Prelude.{ℕ, ◌+◌, ◌*◌, ◌/◌, ◌%◌, ◌^◌, Bool, true, false, cond, eqb, ltb, leb}
-use Rattle.std.proofs.Math.Option.{Option, none, some}
+use Rattle.std.specs.Prelude.{ℕ, ◌+◌, ◌*◌, ◌/◌, ◌%◌, ◌^◌, Bool, true, false, cond, eqb, ltb, leb, Option, None, Some, is_some}
 use Rattle.rules.specs.declared.PriorityClass.{PriorityClass}
 use Rattle.rules.specs.declared.PriorityClass.TheVariants as class
 use Rattle.rules.specs.declared.Priority.{Priority}
@@ -47,16 +46,12 @@ effective_priority t = effective t.own t.donated
 
 -- the first that there is
 unfoldable pub either : Option ℕ → Option ℕ → Option ℕ
-either none d = d
-either (some c) d = some c
+either None d = d
+either (Some c) d = Some c
 
 -- the pin, else the CPU last used
 unfoldable pub preferred_cpu : Thread → Option ℕ
 preferred_cpu t = either t.pin t.last
-
-unfoldable pub is_some : Option ℕ → Bool
-is_some none = false
-is_some (some c) = true
 
 unfoldable pub pinned : Thread → Bool
 pinned t = is_some t.pin
@@ -97,7 +92,7 @@ moving_to_queue t c = record {
   stable = t.stable;
   pin = t.pin;
   last = t.last;
-  queue_cpu = some c;
+  queue_cpu = Some c;
   deadline = t.deadline;
   timeslice = t.timeslice;
   critical = t.critical;
@@ -109,8 +104,8 @@ moving_to_active t c = record {
   donated = t.donated;
   stable = t.stable;
   pin = t.pin;
-  last = some c;
-  queue_cpu = none;
+  last = Some c;
+  queue_cpu = None;
   deadline = t.deadline;
   timeslice = t.timeslice;
   critical = t.critical;

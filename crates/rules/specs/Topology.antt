@@ -1,6 +1,5 @@
 -- The tree of nodes: children, what lies below, the CPUs of a node (sched.rs, CPUTopoNode).
-use Rattle.std.specs.Prelude.{ℕ, zero, suc, Bool, true, false, cond, ◌&&◌, ◌||◌, List, [], ◌∷◌, length, get_or, eqb, ltb}
-use Rattle.std.proofs.Math.Option.{Option, none, some}
+use Rattle.std.specs.Prelude.{ℕ, zero, suc, Bool, true, false, cond, ◌&&◌, ◌||◌, List, [], ◌∷◌, length, get_or, eqb, ltb, Option, None, Some}
 use Rattle.rules.specs.State.{Topology, Limits, those_below, join_all}
 
 module _ (limits : Limits) (t : Topology) where
@@ -35,8 +34,8 @@ module _ (limits : Limits) (t : Topology) where
 
   -- "put the CPU on that node and all nodes above": CPU c is on node n if n is the node on which it was put, or above that one
   unfoldable pub on_node : Option ℕ → ℕ → Bool
-  on_node none n = false
-  on_node (some m) n = holds n (above m)
+  on_node None n = false
+  on_node (Some m) n = holds n (above m)
 
   -- the CPUs of a node, ascending
   unfoldable pub cpus_of : ℕ → List ℕ
@@ -52,8 +51,8 @@ module _ (limits : Limits) (t : Topology) where
 
   -- The order in which stealing looks: the CPUs of CPU c's own leaf, ascending, then those of each node above it.
   unfoldable pub nearest_from : Option ℕ → List ℕ
-  nearest_from none = []
-  nearest_from (some m) = join_all cpus_of (above m)
+  nearest_from None = []
+  nearest_from (Some m) = join_all cpus_of (above m)
 
   unfoldable pub nearest : ℕ → List ℕ
   nearest c = nearest_from (t.placed c)

@@ -1,14 +1,13 @@
 -- Who waits in a world, and who waits nowhere.
-use Rattle.std.specs.Prelude.{ℕ, ◌<◌, ◌≡◌, Bool, false}
-use Rattle.std.proofs.Math.Option.{Option, none, some}
+use Rattle.std.specs.Prelude.{ℕ, ◌<◌, ◌≡◌, Bool, false, Option, None, Some}
 use Rattle.rules.specs.Line.{has}
 use Rattle.rules.specs.Queue.{order}
 use Rattle.rules.specs.Schedule.{World}
 
 -- none, or a number below n
 unfoldable pub Under : ℕ → Option ℕ → Type 0
-Under n none = Unit
-Under n (some c) = c < n
+Under n None = Unit
+Under n (Some c) = c < n
 
 -- thread x waits in the queue of CPU c
 abbrev pub waits : World → ℕ → ℕ → Bool

@@ -1,7 +1,6 @@
 -- Lists of calls that meet the hypotheses of demand 3, computed by the definitions.
-use Rattle.std.specs.Prelude.{ℕ, ◌+◌, Bool, true, false, cond, ◌&&◌, List, [], ◌∷◌, ◌++◌, eqb}
+use Rattle.std.specs.Prelude.{ℕ, ◌+◌, Bool, true, false, cond, ◌&&◌, List, [], ◌∷◌, ◌++◌, eqb, Option, None, Some}
 use Rattle.std.specs.Bool.{beq}
-use Rattle.std.proofs.Math.Option.{Option, none, some}
 use Rattle.rules.specs.Line.{count}
 use Rattle.rules.specs.Puts.{Put, PutOrTake, a_put, a_take}
 use Rattle.rules.specs.State.{Limits, is_number}
@@ -24,8 +23,8 @@ turn_of x pre (a_take s o ∷ es) = turn_of x (pre ++ (a_take s o ∷ [])) es
 
 -- how many of the own takes, or of the stealing ones, found nothing
 unfoldable pub nothing_out : Option ℕ → Bool
-nothing_out none = true
-nothing_out (some x) = false
+nothing_out None = true
+nothing_out (Some x) = false
 
 unfoldable pub found_nothing : Bool → List PutOrTake → ℕ
 found_nothing stealing [] = 0

@@ -1,7 +1,6 @@
 -- 2026-02: "Add a writer that takes one command with its fields and writes its bytes into a lent buffer." A command is given as its byte and a list of numbers: its
 -- operands in the order of document 01's table, then zeros.
-use Rattle.std.specs.Prelude.{ℕ, zero, suc, ◌/◌, ◌%◌, ◌^◌, ◌<◌, Bool, true, false, cond, ◌&&◌, List, [], ◌∷◌, ◌++◌, length, get_or, eqb, ltb, leb}
-use Rattle.std.proofs.Math.Option.{Option, none, some}
+use Rattle.std.specs.Prelude.{ℕ, zero, suc, ◌/◌, ◌%◌, ◌^◌, ◌<◌, Bool, true, false, cond, ◌&&◌, List, [], ◌∷◌, ◌++◌, length, get_or, eqb, ltb, leb, Option, None, Some}
 use Rattle.std.proofs.lemmas.List.Edits.{sets}
 use Rattle.rules.specs.State.{Limits}
 use Rattle.rules.specs.Requests.{Request, declare_cpu, add_node, place_cpu, seal, set_shortest, declare_thread, set_tick, schedule_thread, schedule, hardtick, stattick, resched, maybe_preempt, donate, remove_donation, set_critical, widths, widths_or, request}
@@ -65,8 +64,8 @@ names_node (set_critical x mark) = false
 
 -- "An unknown byte is refused with 1, another misfit with 6." "Refused: 12, buffer shorter than the command, put after 6."
 unfoldable pub has_row : Option (List ℕ) → Bool
-has_row none = false
-has_row (some ns) = true
+has_row None = false
+has_row (Some ns) = true
 
 unfoldable pub in_table : Limits → ℕ → Question
 in_table l byte = question 1 (has_row (widths l byte))

@@ -1,8 +1,10 @@
 // The types that document 01 names, shared by its definitions (specs/) and by the code. No functions.
 #![tactic(auto)]
 
+pub mod choice;
+
 // Document 01's numbers are those of `class-number` in specs/Priority.antt.
-#[derive(Clone, Copy)]
+#[derive(Clone, Copy, PartialEq, Eq, PartialOrd, Ord)]
 pub enum PriorityClass {
     Idle,
     Background,
@@ -10,7 +12,7 @@ pub enum PriorityClass {
     Realtime,
 }
 
-#[derive(Clone, Copy)]
+#[derive(Clone, Copy, PartialEq, Eq, PartialOrd, Ord)]
 pub struct Priority {
     pub class: PriorityClass,
     pub value: u64,
@@ -21,5 +23,12 @@ pub struct Priority {
 pub enum Part {
     Realtime,
     Timeshare,
+    Idle,
+}
+
+// "thread it now runs or `idle`"
+#[derive(Clone, Copy)]
+pub enum Running {
+    Thread(u64),
     Idle,
 }

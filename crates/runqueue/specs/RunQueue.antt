@@ -1,18 +1,16 @@
 -- The run queue as the code has it.
-use Rattle.std.specs.Prelude.{ℕ, Bool, true, cond, ◌&&◌, ◌==◌}
+use Rattle.std.specs.Prelude.{◌≡◌, refl, ℕ, Bool, true, cond, ◌&&◌, ◌==◌, Option, None, Some}
+use Rattle.std.proofs.Common.{◌∙◌}
 use Rattle.rules.specs.declared.PriorityClass.TheVariants as class
 use Rattle.rules.specs.declared.Priority.{Priority}
 use Rattle.rules.specs.declared.Part.{Part}
 use Rattle.rules.specs.declared.Part.TheVariants as part
 use Rattle.rules.specs.Priority.{priority, from_raw, raw, less}
 use Rattle.rules.specs.Queue.{is_class, part_of}
-use Rattle.thread.specs.Thread.{NONE}
 use Rattle.queue.specs.declared.lists.Found.{Found}
-use Rattle.queue.specs.declared.lists.Found.TheVariants as found
+use Rattle.queue.specs.declared.lists.Put as part_put
 use Rattle.queue.specs.declared.pq.PriorityQueue.{PriorityQueue}
-use Rattle.queue.specs.declared.pq.PriorityPut.{PriorityPut}
 use Rattle.queue.specs.declared.timeshare.TimeshareQueue.{TimeshareQueue}
-use Rattle.queue.specs.declared.timeshare.TimesharePut.{TimesharePut}
 use Rattle.queue.specs.Num.{sum, difference}
 use Rattle.queue.specs.Timeshare.{no_timeshare, ts_empty, ts_highest, ts_insert, ts_front, ts_taken, ts_advance}
 use Rattle.queue.specs.PriorityQueue.{no_priority, pq_empty, pq_highest, pq_insert, pq_front, pq_taken}
@@ -20,7 +18,6 @@ use Rattle.runqueue.specs.declared.rq.RunQueue.{RunQueue}
 use Rattle.runqueue.specs.declared.rq.Arrival.{Arrival}
 use Rattle.runqueue.specs.declared.rq.Put.{Put}
 use Rattle.runqueue.specs.declared.rq.Front.{Front}
-use Rattle.runqueue.specs.declared.rq.Front.TheVariants as front
 use Rattle.runqueue.specs.declared.rq.Hardtick.{Hardtick}
 
 -- newly made
@@ -118,17 +115,17 @@ counted q p pinned = record {
 
 unfoldable pub rq_insert_realtime : RunQueue → Arrival → Put
 rq_insert_realtime q a =
-    let u : PriorityPut = pq_insert q.realtime a.thread a.priority.class a.priority.value in
+    let u : part_put.Put PriorityQueue = pq_insert q.realtime a.thread a.priority.class a.priority.value in
     record { queue = with_realtime (counted q a.priority a.pinned) u.queue; behind = u.behind; part = part.Realtime }
 
 unfoldable pub rq_insert_timeshare : RunQueue → Arrival → Put
 rq_insert_timeshare q a =
-    let u : TimesharePut = ts_insert q.timeshare a.thread a.priority.value a.current in
+    let u : part_put.Put TimeshareQueue = ts_insert q.timeshare a.thread a.priority.value a.current in
     record { queue = with_timeshare (counted q a.priority a.pinned) u.queue (sum q.timeshare_load 1); behind = u.behind; part = part.Timeshare }
 
 unfoldable pub rq_insert_idle : RunQueue → Arrival → Put
 rq_insert_idle q a =
-    let u : PriorityPut = pq_insert q.idle a.thread a.priority.class a.priority.value in
+    let u : part_put.Put PriorityQueue = pq_insert q.idle a.thread a.priority.class a.priority.value in
     record { queue = with_idle (counted q a.priority a.pinned) u.queue; behind = u.behind; part = part.Idle }
 
 unfoldable pub rq_insert_into : Part → RunQueue → Arrival → Put
@@ -142,28 +139,33 @@ rq_insert q a = rq_insert_into (part_of a.priority.class a.due) q a
 
 -- ---- who leaves next
 
+-- who leaves: a thread at the head of a bucket of a part
+abbrev pub front_at : Part → ℕ → ℕ → Option Front
+front_at p b x = Some (record { part = p; bucket = b; thread = x })
+
 -- what a part's front is of the run queue: where it has none, the next part's
-unfoldable pub first_in_def : Part → Found → Front → Front
-first_in_def p (found.At b x) later = front.At p b x
-first_in_def p found.Nothing later = later
+unfoldable pub first_in_def : Part → Option Found → Option Front → Option Front
+first_in_def p (Some f) later = front_at p f.bucket f.thread
+first_in_def p None later = later
 
-unfoldable pub rq_front_idle : RunQueue → Front
-rq_front_idle q = first_in_def part.Idle (pq_front q.idle) front.Nothing
+-- who leaves next from one part
+unfoldable pub front_of : Part → RunQueue → Option Front
+front_of part.Realtime q = first_in_def part.Realtime (pq_front q.realtime) None
+front_of part.Timeshare q = first_in_def part.Timeshare (ts_front q.timeshare) None
+front_of part.Idle q = first_in_def part.Idle (pq_front q.idle) None
 
-unfoldable pub rq_front_timeshare : RunQueue → Front
+unfoldable pub rq_front_idle : RunQueue → Option Front
+rq_front_idle q = first_in_def part.Idle (pq_front q.idle) None
+
+unfoldable pub rq_front_timeshare : RunQueue → Option Front
 rq_front_timeshare q = first_in_def part.Timeshare (ts_front q.timeshare) (rq_front_idle q)
 
-unfoldable pub rq_front_realtime : RunQueue → Front
+unfoldable pub rq_front_realtime : RunQueue → Option Front
 rq_front_realtime q = first_in_def part.Realtime (pq_front q.realtime) (rq_front_timeshare q)
 
 -- "a stealing take finds nothing only at movable count 0"
-unfoldable pub rq_front : RunQueue → Bool → Front
-rq_front q stealing = cond stealing (cond (q.movable == 0) front.Nothing (rq_front_realtime q)) (rq_front_realtime q)
-
--- the thread that leaves, NONE if none does
-unfoldable pub front_thread : Front → ℕ
-front_thread (front.At p b x) = x
-front_thread front.Nothing = NONE
+unfoldable pub rq_front : RunQueue → Bool → Option Front
+rq_front q stealing = cond stealing (cond (q.movable == 0) None (rq_front_realtime q)) (rq_front_realtime q)
 
 -- ---- a thread has left
 
@@ -204,9 +206,9 @@ rq_taken_from part.Timeshare q b previous next v pinned = rq_taken_timeshare q b
 rq_taken_from part.Idle q b previous next v pinned = rq_taken_idle q b previous next pinned
 
 -- the thread that `front` answered has left from behind `previous`: its link was `next`, its value when it was put in v
-unfoldable pub rq_taken : RunQueue → Front → ℕ → ℕ → ℕ → Bool → RunQueue
-rq_taken q (front.At p b x) previous next v pinned = rq_taken_from p q b previous next v pinned
-rq_taken q front.Nothing previous next v pinned = q
+unfoldable pub rq_taken : RunQueue → Option Front → ℕ → ℕ → ℕ → Bool → RunQueue
+rq_taken q (Some f) previous next v pinned = rq_taken_from f.part q f.bucket previous next v pinned
+rq_taken q None previous next v pinned = q
 
 -- ---- clock and hard tick
 
@@ -229,3 +231,30 @@ rq_hardtick q now = record {
   };
   ticks = difference now q.last_tick;
 }
+
+-- ---- for the proofs of the code
+
+first_had : (p : Part) (f : Option Found) (later : Option Front) (x : Front) → first_in_def p f None ≡ Some x → first_in_def p f later ≡ Some x
+unfolding first_in_def
+first_had p (Some f) later x e = e
+first_had p None later x e = cc
+
+first_not : (p : Part) (f : Option Found) (later : Option Front) → first_in_def p f None ≡ None → first_in_def p f later ≡ later
+unfolding first_in_def
+first_not p (Some f) later e = cc
+first_not p None later e = refl
+
+-- the front of the queue is that of the first part that has one
+pub front_first : (q : RunQueue) (x : Front) → front_of part.Realtime q ≡ Some x → rq_front_realtime q ≡ Some x
+unfolding front_of rq_front_realtime
+front_first q x e = first_had part.Realtime (pq_front q.realtime) (rq_front_timeshare q) x e
+
+pub front_second : (q : RunQueue) (x : Front) → front_of part.Realtime q ≡ None → front_of part.Timeshare q ≡ Some x → rq_front_realtime q ≡ Some x
+unfolding front_of rq_front_realtime rq_front_timeshare
+front_second q x e f =
+    first_not part.Realtime (pq_front q.realtime) (rq_front_timeshare q) e ∙ first_had part.Timeshare (ts_front q.timeshare) (rq_front_idle q) x f
+
+pub front_third : (q : RunQueue) → front_of part.Realtime q ≡ None → front_of part.Timeshare q ≡ None → rq_front_realtime q ≡ front_of part.Idle q
+unfolding front_of rq_front_realtime rq_front_timeshare rq_front_idle
+front_third q e f =
+    first_not part.Realtime (pq_front q.realtime) (rq_front_timeshare q) e ∙ first_not part.Timeshare (ts_front q.timeshare) (rq_front_idle q) f

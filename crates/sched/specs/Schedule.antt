@@ -1,15 +1,11 @@
 -- `switch_to`, `do_schedule` and `schedule`, and the command that schedules a blocked thread. cur is the thread running, NONE the idle thread.
-use Rattle.std.specs.Prelude.{ℕ, Bool, false, cond, ◌||◌, List, set, eqb}
+use Rattle.std.specs.Prelude.{ℕ, Bool, false, cond, ◌||◌, List, set, eqb, Option, None, is_none, unwrap_or}
 use Rattle.thread.specs.declared.Thread.{Thread}
-use Rattle.thread.specs.declared.time.OptionCpu.{OptionCpu}
-use Rattle.thread.specs.declared.time.OptionCpu.TheVariants as cpu
 use Rattle.thread.specs.Thread.{NONE}
 use Rattle.thread.specs.Reads.{critical_in}
 use Rattle.thread.specs.Time.{moving_to_active}
-use Rattle.records.specs.declared.rq.Taken.{Taken}
 use Rattle.records.specs.Left.{Words, Memory, Left}
 use Rattle.records.specs.Rq.{record_at, take_def}
-use Rattle.sched_words.specs.Option.{is_none, cpu_of_def}
 use Rattle.sched_words.specs.Choose.{select_for, selected_for, reinsert_at_def}
 use Rattle.sched_words.specs.Preempt.{rq_has_higher}
 use Rattle.sched_words.specs.Running.{running_at, must_rebalance_def, ran_by_def, ran_idle_def}
@@ -17,7 +13,7 @@ use Rattle.sched_words.specs.Time.{reset_time_def}
 use Rattle.sched_words.specs.declared.context.Context.{Context}
 use Rattle.sched_words.specs.declared.context.SchedFlags.{SchedFlags}
 use Rattle.sched_words.specs.declared.context.Scheduled.{Scheduled}
-use Rattle.sched_queues.specs.Queues.{is_nobody, thread_of, schedule_thread_on_cpu_def, wake_def, block_def, try_steal_def}
+use Rattle.sched_queues.specs.Queues.{schedule_thread_on_cpu_def, wake_def, block_def, try_steal_def}
 
 -- thread x runs on CPU us
 unfoldable pub switch_to_def : ℕ → ℕ → Memory → Memory
@@ -34,17 +30,17 @@ run_taken_def us cur y m = cond (eqb y cur) m (switch_to_def us y m)
 unfoldable pub idle_unless : ℕ → ℕ → Words → Words
 idle_unless us cur cs = cond (eqb cur NONE) cs (ran_idle_def cs us)
 
-unfoldable pub run_stolen_def : ℕ → ℕ → Taken → Memory → Memory
+unfoldable pub run_stolen_def : ℕ → ℕ → Option ℕ → Memory → Memory
 run_stolen_def us cur stolen m =
-    cond (is_nobody stolen) (record { threads = m.threads; cpus = idle_unless us cur m.cpus }) (switch_to_def us (thread_of stolen) m)
+    cond (is_none stolen) (record { threads = m.threads; cpus = idle_unless us cur m.cpus }) (switch_to_def us (unwrap_or stolen NONE) m)
 
 -- the next thread of the own queue, else one that is stolen
-unfoldable pub pick_stolen : Context → ℕ → Left Taken Memory → Memory
+unfoldable pub pick_stolen : Context → ℕ → Left (Option ℕ) Memory → Memory
 pick_stolen k cur g = run_stolen_def k.us cur g.answer g.memory
 
-unfoldable pub pick_taken : Context → ℕ → Words → Left Taken Memory → Memory
+unfoldable pub pick_taken : Context → ℕ → Words → Left (Option ℕ) Memory → Memory
 pick_taken k cur ns g =
-    cond (is_nobody g.answer) (pick_stolen k cur (try_steal_def k ns g.memory)) (run_taken_def k.us cur (thread_of g.answer) g.memory)
+    cond (is_none g.answer) (pick_stolen k cur (try_steal_def k ns g.memory)) (run_taken_def k.us cur (unwrap_or g.answer NONE) g.memory)
 
 unfoldable pub pick_next_def : Context → ℕ → Words → Memory → Memory
 pick_next_def k cur ns m = pick_taken k cur ns (take_def k.us false m)
@@ -53,8 +49,8 @@ pick_next_def k cur ns m = pick_taken k cur ns (take_def k.us false m)
 unfoldable pub must_move_def : List (List ℕ) → ℕ → Thread → SchedFlags → Bool
 must_move_def cs us t f = f.preempt || (must_rebalance_def cs us || rq_has_higher cs us t f.yields)
 
-unfoldable pub reinserted_def : Context → OptionCpu → ℕ → ℕ → Memory → Left ℕ Memory
-reinserted_def k chosen x wakeups m = cond (is_none chosen) (record { answer = wakeups; memory = m }) (schedule_thread_on_cpu_def k (cpu_of_def chosen) x wakeups m)
+unfoldable pub reinserted_def : Context → Option ℕ → ℕ → ℕ → Memory → Left ℕ Memory
+reinserted_def k chosen x wakeups m = cond (is_none chosen) (record { answer = wakeups; memory = m }) (schedule_thread_on_cpu_def k (unwrap_or chosen NONE) x wakeups m)
 
 -- the deadline of thread x is set anew on CPU us
 unfoldable pub reset_thread_time_def : Context → ℕ → Words → List Thread → List Thread
@@ -96,11 +92,11 @@ scheduled c wakeups = record { cpu = c; wakeups = wakeups }
 abbrev pub woken : ℕ → Left ℕ Memory → Left Scheduled Memory
 woken c w = record { answer = scheduled c w.answer; memory = w.memory }
 
-unfoldable pub scheduled_on_def : Context → ℕ → OptionCpu → Memory → Left Scheduled Memory
+unfoldable pub scheduled_on_def : Context → ℕ → Option ℕ → Memory → Left Scheduled Memory
 scheduled_on_def k x chosen m =
-    cond (is_none chosen) (record { answer = scheduled k.us 0; memory = m }) (woken (cpu_of_def chosen) (wake_def k (cpu_of_def chosen) x 0 m))
+    cond (is_none chosen) (record { answer = scheduled k.us 0; memory = m }) (woken (unwrap_or chosen NONE) (wake_def k (unwrap_or chosen NONE) x 0 m))
 
 unfoldable pub schedule_thread_def : Context → ℕ → Words → Memory → Left Scheduled Memory
 schedule_thread_def k x ns m =
-    scheduled_on_def k x (select_for m.cpus ns k.us k.limit (record_at m.threads x) cpu.None)
-    (record { threads = m.threads; cpus = selected_for m.cpus ns k.us k.limit (record_at m.threads x) cpu.None })
+    scheduled_on_def k x (select_for m.cpus ns k.us k.limit (record_at m.threads x) None)
+    (record { threads = m.threads; cpus = selected_for m.cpus ns k.us k.limit (record_at m.threads x) None })

@@ -1,5 +1,4 @@
-// A CPU switches from one thread to the next (processor/sched.rs), over the lent thread records and the words of the CPUs. Each function is a straight line:
-// what it decides, it asks of the crates below.
+// A CPU switches from one thread to the next (processor/sched.rs), over the lent thread records and the words of the CPUs.
 #![tactic(auto)]
 
 pub mod preempt;

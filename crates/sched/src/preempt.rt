@@ -32,11 +32,9 @@ pub fn schedule_maybe_preempt(
 ) -> u64
     ensures { LeavesOver (schedule_maybe_preempt_def k wakeups) result threads cpus nodes }
 {
-    let us = k.us;
-    let marked = swap_preempt(cpus, us);
-    if marked {
-        let flags = preempting();
-        return schedule(threads, cpus, nodes, k, flags, wakeups);
+    if swap_preempt(cpus, k.us) {
+        schedule(threads, cpus, nodes, k, preempting(), wakeups)
+    } else {
+        wakeups
     }
-    wakeups
 }

@@ -1,12 +1,10 @@
 -- THE COMMANDS THAT A CPU RUNS, over records and words: hex 12, 14, 16 and 17; 13 is in Schedule.antt.
-use Rattle.std.specs.Prelude.{ℕ, ◌≤◌, ◌<◌, ◌≡◌, ◌≢◌, Bool, true, List, eqb}
+use Rattle.std.specs.Prelude.{ℕ, ◌≤◌, ◌<◌, ◌≡◌, ◌≢◌, Bool, true, List, eqb, None, Some, Option, is_some}
 use Rattle.std.proofs.Math.Path.{refl, sym, ap}
 use Rattle.std.proofs.Common.{◌∙◌, true≢false, eqb-true}
 use Rattle.std.proofs.Math.Bool.{false}
-use Rattle.std.proofs.Math.Option.{none, some}
 use Rattle.std.proofs.lemmas.Bool.{eqb-false}
 use Rattle.rules.proofs.Laws.Line.{both}
-use Rattle.rules.specs.Times.{is_some}
 use Rattle.rules.specs.Puts.{PutOrTake}
 use Rattle.rules.specs.State.{at, any_below, is_number, Limits, Topology, Cpu}
 use Rattle.rules.specs.Schedule as sched
@@ -15,9 +13,6 @@ use Rattle.rules.proofs.Laws.Sound.{at_here, at_there, at_keeps, same_cpu_change
 use Rattle.rules.proofs.Laws.Steps.{nobody_but, Selected, select_cpu_selected, new_same}
 use Rattle.rules.proofs.Laws.Reached.{any_not, number_is as is_number_of}
 use Rattle.thread.specs.declared.Thread.{Thread}
-use Rattle.thread.specs.declared.time.OptionCpu.{OptionCpu}
-use Rattle.thread.specs.declared.time.OptionCpu.TheVariants as cpu
-use Rattle.thread.specs.Reads.{named}
 use Rattle.thread.specs.Thread.{NONE}
 use Rattle.records.specs.Left.{mem}
 use Rattle.records.specs.Rq.{record_at}
@@ -25,8 +20,6 @@ use Rattle.represents.specs.World.{Small, WorldRep, most_tick}
 use Rattle.represents.specs.Topology.{TopologyRep}
 use Rattle.represents.proofs.Laws.Topology.{number_is}
 use Rattle.represents.proofs.Laws.NumberLists.{any_at}
-use Rattle.choice.specs.Reads.{as_cpu}
-use Rattle.sched_words.specs.Option.{is_none, cpu_of_def}
 use Rattle.sched_words.specs.Choose.{select_for, selected_for}
 use Rattle.sched_words.specs.Preempt.{swapped}
 use Rattle.sched_words.specs.declared.context.Context.{Context}
@@ -70,14 +63,14 @@ shows_active active' e s = record {
   };
 }
 
-pub settled_is : (limits : Limits) (active : ℕ → Bool) (w : World) → ((c x : ℕ) → (w.cpus c).running ≡ some x → c < limits.cpus) → Settled no_one active w → (x : ℕ) → runs_somewhere limits w x ≡ active x
+pub settled_is : (limits : Limits) (active : ℕ → Bool) (w : World) → ((c x : ℕ) → (w.cpus c).running ≡ Some x → c < limits.cpus) → Settled no_one active w → (x : ℕ) → runs_somewhere limits w x ≡ active x
 unfolding runs_somewhere
 settled_is limits active w near s x =
     both (any_below limits.cpus (λ c. is_number x (w.cpus c).running))
     (λ e. e ∙ sym (any_at limits.cpus _ e (λ c h t. s.runs c x refl (number_is x (w.cpus c).running t))))
     (λ e. e ∙ sym (s.others x (λ c b r. true≢false (sym (is_number_of x (w.cpus c).running r) ∙ any_not limits.cpus _ e c (near c x r)))))
 
-pub settled_runs : (limits : Limits) (w : World) → ((c x : ℕ) → (w.cpus c).running ≡ some x → c < limits.cpus) → Settled no_one (runs_somewhere limits w) w
+pub settled_runs : (limits : Limits) (w : World) → ((c x : ℕ) → (w.cpus c).running ≡ Some x → c < limits.cpus) → Settled no_one (runs_somewhere limits w) w
 unfolding runs_somewhere
 settled_runs limits w near = record {
   runs = λ c x b r. both (any_below limits.cpus (λ d. is_number x (w.cpus d).running)) (λ e. e) (λ e. absurd (true≢false (sym (is_number_of x (w.cpus c).running r) ∙ any_not limits.cpus _ e c (near c x r))));
@@ -85,12 +78,12 @@ settled_runs limits w near = record {
 }
 
 -- WHAT A COMMAND LEFT, with those active that run
-pub ends_runs : {limits : Limits} {topology : Topology} {known : ℕ → Bool} {ts : List Thread} {cs : List (List ℕ)} {v : World} → ((c x : ℕ) → (v.cpus c).running ≡ some x → c < limits.cpus)
+pub ends_runs : {limits : Limits} {topology : Topology} {known : ℕ → Bool} {ts : List Thread} {cs : List (List ℕ)} {v : World} → ((c x : ℕ) → (v.cpus c).running ≡ Some x → c < limits.cpus)
     → Ends limits topology known ts cs v → WorldRep limits topology known (runs_somewhere limits v) ts cs v
 ends_runs {limits} {v = v} near e = shows_active (runs_somewhere limits v) (settled_is limits e.active v near e.settled) e.shows
 
 module _ (limits : Limits) (topology : Topology) (tick us : ℕ) (known : ℕ → Bool) (numbered : (x : ℕ) → known x ≡ true → x < limits.threads) (small : Small limits)
-    (early : tick ≤ most_tick) (us_in : us < limits.cpus) (H : ℕ → List PutOrTake) (ns : List (List ℕ)) (tree : TopologyRep limits ns topology) (node : ℕ) (put_on : topology.placed us ≡ some node) where
+    (early : tick ≤ most_tick) (us_in : us < limits.cpus) (H : ℕ → List PutOrTake) (ns : List (List ℕ)) (tree : TopologyRep limits ns topology) (node : ℕ) (put_on : topology.placed us ≡ Some node) where
   abbrev k : Context
   k = context limits tick us
 
@@ -116,7 +109,7 @@ module _ (limits : Limits) (topology : Topology) (tick us : ℕ) (known : ℕ �
         (record { ends = record { active = active; shows = s; settled = st }; counted = count }))
 
     -- 16: `schedule_resched`
-    runs_known : (x : ℕ) → (w.cpus us).running ≡ some x → known x ≡ true
+    runs_known : (x : ℕ) → (w.cpus us).running ≡ Some x → known x ≡ true
     runs_known x e = (safe.runs us x e).1
 
     pub ends_resched : Ends limits topology known ts (schedule_resched_def us ts cs) (sched.schedule_resched limits topology tick us w)
@@ -138,40 +131,38 @@ module _ (limits : Limits) (topology : Topology) (tick us : ℕ) (known : ℕ �
     -- 12: `schedule_thread`: a blocked thread goes into the queue of the CPU selected for it
     module _ (x : ℕ) (is_Known : known x ≡ true) (new : (c : ℕ) → c < limits.cpus → New limits known nobody_but w c x) where
       abbrev selected : Got
-      selected = sched.select_cpu limits topology tick us w x none
+      selected = sched.select_cpu limits topology tick us w x None
 
-      chosen_is : select_for cs ns us limits.cpus (record_at ts x) cpu.None ≡ as_cpu selected.got
-      unfolding named
-      chosen_is = select_shown limits topology tick us known numbered small early us_in H ns tree node put_on s safe x (numbered x is_Known) cpu.None
+      chosen_is : select_for cs ns us limits.cpus (record_at ts x) None ≡ selected.got
+      chosen_is = select_shown limits topology tick us known numbered small early us_in H ns tree node put_on s safe x (numbered x is_Known) None
 
       abbrev selection : Selected limits topology tick us known numbered H us_in w selected
-      selection = select_cpu_selected limits topology tick us known numbered H us_in w x none (safe.mild x)
+      selection = select_cpu_selected limits topology tick us known numbered H us_in w x None (safe.mild x)
 
-      shows_selection : WorldRep limits topology known active ts (selected_for cs ns us limits.cpus (record_at ts x) cpu.None) selected.world
-      unfolding named
-      shows_selection = shows_selected limits topology tick us known numbered small early us_in H ns tree node put_on s safe x (numbered x is_Known) cpu.None
+      shows_selection : WorldRep limits topology known active ts (selected_for cs ns us limits.cpus (record_at ts x) None) selected.world
+      shows_selection = shows_selected limits topology tick us known numbered small early us_in H ns tree node put_on s safe x (numbered x is_Known) None
 
       pub woken_on : is_some selected.got ≡ true
-      woken_on = select_finds limits topology tick us known numbered small early us_in H ns tree node put_on (visited_placed limits topology tree.sound us node put_on) w x none
+      woken_on = select_finds limits topology tick us known numbered small early us_in H ns tree node put_on (visited_placed limits topology tree.sound us node put_on) w x None
 
       woken_settled : (v : World) → ((c : ℕ) → (v.cpus c).running ≡ (w.cpus c).running) → Settled no_one (at active x false) v
       unfolding nobody_but
       woken_settled v e = record {
         runs = λ c y b r.
-            let n : y ≢ x = λ q. (new us us_in).runs_not c refl (sym (e c) ∙ r ∙ ap some q) in
+            let n : y ≢ x = λ q. (new us us_in).runs_not c refl (sym (e c) ∙ r ∙ ap Some q) in
             at_there active x false y n ∙ st.runs c y refl (sym (e c) ∙ r);
         others = λ y h. both (eqb y x)
             (λ q. rw (eqb-true y x q) (at_here active x false))
             (λ q. at_there active x false y (eqb-false y x q) ∙ st.others y (λ c b r. h c b (e c ∙ r)));
       }
 
-      pub wakes : (c : ℕ) → selected.got ≡ some c → c < limits.cpus → 0 ≡ w.wakeups
-          → (let d = wake_def k c x 0 (mem ts (selected_for cs ns us limits.cpus (record_at ts x) cpu.None)) in
+      pub wakes : (c : ℕ) → selected.got ≡ Some c → c < limits.cpus → 0 ≡ w.wakeups
+          → (let d = wake_def k c x 0 (mem ts (selected_for cs ns us limits.cpus (record_at ts x) None)) in
           Leaves limits topology known d (sched.schedule_thread_on_cpu limits topology tick us selected.world c x))
       unfolding wake_def
       wakes c g near zero_now =
           let n : New limits known nobody_but selected.world c x = new_same limits topology tick us known numbered H us_in selection.same (new c near) in
-          let e : selected.world.wakeups ≡ w.wakeups = select_wakeups limits topology tick us w x none in
+          let e : selected.world.wakeups ≡ w.wakeups = select_wakeups limits topology tick us w x None in
           record {
             ends = record {
               active = at active x false;
@@ -182,8 +173,8 @@ module _ (limits : Limits) (topology : Topology) (tick us : ℕ) (known : ℕ �
           }
 
       -- what the definition answers and leaves, once the CPU is known
-      pub scheduled_thread : (c : ℕ) → selected.got ≡ some c
-          → (let d = wake_def k c x 0 (mem ts (selected_for cs ns us limits.cpus (record_at ts x) cpu.None)) in
+      pub scheduled_thread : (c : ℕ) → selected.got ≡ Some c
+          → (let d = wake_def k c x 0 (mem ts (selected_for cs ns us limits.cpus (record_at ts x) None)) in
           schedule_thread_def k x ns (mem ts cs) ≡ record { answer = record { cpu = c; wakeups = d.answer }; memory = d.memory })
-      unfolding schedule_thread_def scheduled_on_def context is_none cpu_of_def as_cpu
-      scheduled_thread c g = ap (λ (o : OptionCpu). scheduled_on_def k x o (mem ts (selected_for cs ns us limits.cpus (record_at ts x) cpu.None))) (chosen_is ∙ ap as_cpu g)
+      unfolding schedule_thread_def scheduled_on_def context
+      scheduled_thread c g = ap (λ (o : Option ℕ). scheduled_on_def k x o (mem ts (selected_for cs ns us limits.cpus (record_at ts x) None))) (chosen_is ∙ g)

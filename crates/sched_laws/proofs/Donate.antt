@@ -1,10 +1,9 @@
 -- DONATION (hex 18) over records and words; its removal (19) and the critical mark (1A) are in represents' Laws/Frames.antt.
 use Prim.Native.Nat.{ℕ, ◌≤◌, ◌<◌}
-use Rattle.std.specs.Prelude.{◌≡◌, refl, Bool, true, false, ◌&&◌, List, set, eqb}
+use Rattle.std.specs.Prelude.{◌≡◌, refl, Bool, true, false, ◌&&◌, List, set, eqb, Option, None, Some}
 use Rattle.std.proofs.Math.Path.{sym, ap, subst}
 use Rattle.std.proofs.Common.{◌∙◌}
 use Rattle.std.proofs.Math.Bool.{cond, not}
-use Rattle.std.proofs.Math.Option.{Option, none, some}
 use Rattle.rules.specs.declared.Priority.{Priority}
 use Rattle.rules.proofs.Laws.Line.{both}
 use Rattle.rules.specs.Priority.{nr_values, from_raw, less, donation_accepted}
@@ -16,10 +15,8 @@ use Rattle.rules.specs.Schedule.{World, with_thread, wakeup, is_empty}
 use Rattle.rules.proofs.Laws.Sound.{at_here}
 use Rattle.rules.specs.Waits.{Under}
 use Rattle.thread.specs.declared.Thread.{Thread}
-use Rattle.thread.specs.declared.time.OptionCpu.{OptionCpu}
-use Rattle.thread.specs.declared.time.OptionCpu.TheVariants as cpu
 use Rattle.thread.specs.Thread.{NONE, with_donated}
-use Rattle.thread.specs.Reads.{reads, held, donated_in, named, cpu_in}
+use Rattle.thread.specs.Reads.{reads, donated_in, cpu_in}
 use Rattle.thread.specs.Priority.{donate_priority, reads_donated}
 use Rattle.processor.specs.Queue.{queue_at}
 use Rattle.records.specs.Rq.{record_at}
@@ -36,22 +33,22 @@ use Rattle.sched_laws.proofs.Words.{shows_wakeup, signal_counts, same_at_work}
 module _ (t : Thread) (p : Priority) where
   donated_next : (donate_priority t p).thread.next ≡ t.next
   unfolding donate_priority with_donated
-  donated_next = both (donation_accepted (held (donated_in t)) p) (λ e. rw e) (λ e. rw e)
+  donated_next = both (donation_accepted (donated_in t) p) (λ e. rw e) (λ e. rw e)
 
   donated_place : (donate_priority t p).thread.place ≡ t.place
   unfolding donate_priority with_donated
-  donated_place = both (donation_accepted (held (donated_in t)) p) (λ e. rw e) (λ e. rw e)
+  donated_place = both (donation_accepted (donated_in t) p) (λ e. rw e) (λ e. rw e)
 
   donated_queue : (donate_priority t p).thread.current_processor_queue ≡ t.current_processor_queue
   unfolding donate_priority with_donated
-  donated_queue = both (donation_accepted (held (donated_in t)) p) (λ e. rw e) (λ e. rw e)
+  donated_queue = both (donation_accepted (donated_in t) p) (λ e. rw e) (λ e. rw e)
 
   -- it is accepted, and raises the thread
   donated_resched : (donate_priority t p).needs_resched ≡ (donation_accepted (reads t).donated p && less (effective_priority (reads t)) p)
   unfolding donate_priority reads
-  donated_resched = both (donation_accepted (held (donated_in t)) p) (λ e. rw e) (λ e. rw e)
+  donated_resched = both (donation_accepted (donated_in t) p) (λ e. rw e) (λ e. rw e)
 
-queue_reads : (t : Thread) → named (cpu_in t.current_processor_queue) ≡ (reads t).queue_cpu
+queue_reads : (t : Thread) → (cpu_in t.current_processor_queue) ≡ (reads t).queue_cpu
 unfolding reads
 queue_reads t = refl
 
@@ -74,20 +71,20 @@ module _ (limits : Limits) (topology : Topology) (tick us : ℕ) (known : ℕ �
       accepted = donation_accepted u.donated p
 
       abbrev after : times.Thread
-      after = cond accepted (donated_to u (some p)) u
+      after = cond accepted (donated_to u (Some p)) u
 
       donated_reads : reads (donate_priority r p).thread ≡ after
-      donated_reads = reads_donated r p low ∙ ap (λ (t : times.Thread). cond (donation_accepted t.donated p) (donated_to t (some p)) t) (s.threads x below)
+      donated_reads = reads_donated r p low ∙ ap (λ (t : times.Thread). cond (donation_accepted t.donated p) (donated_to t (Some p)) t) (s.threads x below)
 
       first : WorldRep limits topology known active (set ts x (donate_priority r p).thread) cs (with_thread w x after)
       first =
           shows_fields s x (donate_priority r p).thread after below donated_reads (donated_next r p) (donated_place r p)
-          (cond_same pinned accepted (donated_to u (some p)) u (pinned u) (unfold donated_to pinned in refl) refl)
-          (cond_same (λ (t : times.Thread). t.stable.value) accepted (donated_to u (some p)) u u.stable.value (unfold donated_to in refl) refl)
-          (subst (Under limits.cpus) (sym (cond_same (λ (t : times.Thread). t.queue_cpu) accepted (donated_to u (some p)) u u.queue_cpu (unfold donated_to in refl) refl)) (s.queue_cpus x below))
+          (cond_same pinned accepted (donated_to u (Some p)) u (pinned u) (unfold donated_to pinned in refl) refl)
+          (cond_same (λ (t : times.Thread). t.stable.value) accepted (donated_to u (Some p)) u u.stable.value (unfold donated_to in refl) refl)
+          (subst (Under limits.cpus) (sym (cond_same (λ (t : times.Thread). t.queue_cpu) accepted (donated_to u (Some p)) u u.queue_cpu (unfold donated_to in refl) refl)) (s.queue_cpus x below))
 
       abbrev v : World
-      v = with_thread w x (donated_to u (some p))
+      v = with_thread w x (donated_to u (Some p))
 
       abbrev raises : Bool
       raises = less (effective_priority u) p && not (sched.same_cpu x (w.cpus us).running)
@@ -95,8 +92,8 @@ module _ (limits : Limits) (topology : Topology) (tick us : ℕ) (known : ℕ �
       shows_maybe : (q : Option ℕ) → WorldRep limits topology known active (set ts x (donate_priority r p).thread) cs v
           → WorldRep limits topology known active (set ts x (donate_priority r p).thread) cs (sched.maybe_wakeup limits topology tick us v x q)
       unfolding sched.maybe_wakeup
-      shows_maybe none a = a
-      shows_maybe (some c) a = shows_wakeup us c _ a
+      shows_maybe None a = a
+      shows_maybe (Some c) a = shows_wakeup us c _ a
 
       pub shows_donated : (wakeups : ℕ) → WorldRep limits topology known active (donate_priority_def us x p wakeups cs ts).memory cs (sched.donate_priority limits topology tick us w x p)
       unfolding donate_priority_def sched.donate_priority
@@ -104,15 +101,15 @@ module _ (limits : Limits) (topology : Topology) (tick us : ℕ) (known : ℕ �
           both accepted
           (λ e.
           let f : WorldRep limits topology known active (set ts x (donate_priority r p).thread) cs v =
-          subst (λ (b : Bool). WorldRep limits topology known active (set ts x (donate_priority r p).thread) cs (with_thread w x (cond b (donated_to u (some p)) u))) e first in
+          subst (λ (b : Bool). WorldRep limits topology known active (set ts x (donate_priority r p).thread) cs (with_thread w x (cond b (donated_to u (Some p)) u))) e first in
           rw e (both raises (λ h. rw h (shows_maybe u.queue_cpu f)) (λ h. rw h f)))
           (λ e.
           let f : WorldRep limits topology known active (set ts x (donate_priority r p).thread) cs (with_thread w x u) =
-          subst (λ (b : Bool). WorldRep limits topology known active (set ts x (donate_priority r p).thread) cs (with_thread w x (cond b (donated_to u (some p)) u))) e first in
+          subst (λ (b : Bool). WorldRep limits topology known active (set ts x (donate_priority r p).thread) cs (with_thread w x (cond b (donated_to u (Some p)) u))) e first in
           rw e (shows_same_thread w x f))
 
       -- its count of wake-ups
-      module _ (runs : (y : ℕ) → (w.cpus us).running ≡ some y → known y ≡ true) (wakeups : ℕ) (count : wakeups ≡ w.wakeups) (few : w.wakeups < NONE) (yes : accepted ≡ true) where
+      module _ (runs : (y : ℕ) → (w.cpus us).running ≡ Some y → known y ≡ true) (wakeups : ℕ) (count : wakeups ≡ w.wakeups) (few : w.wakeups < NONE) (yes : accepted ≡ true) where
         abbrev t : Thread
         t = (donate_priority r p).thread
 
@@ -122,19 +119,19 @@ module _ (limits : Limits) (topology : Topology) (tick us : ℕ) (known : ℕ �
             ap (λ (b : Bool). not b && less (effective_priority (reads t)) (from_raw (queue_at cs c).current_priority)) (empty_shown s small c h)
             ∙ ap (λ (q : Priority). not (is_empty (w.cpus c)) && less (effective_priority (reads t)) q) (advertised_shown s small c h)
             ∙ ap (λ (z : times.Thread). not (is_empty (w.cpus c)) && less (effective_priority z) (w.cpus c).advertised)
-            (donated_reads ∙ ap (λ (b : Bool). cond b (donated_to u (some p)) u) yes ∙ sym (at_here w.threads x (donated_to u (some p))))
+            (donated_reads ∙ ap (λ (b : Bool). cond b (donated_to u (Some p)) u) yes ∙ sym (at_here w.threads x (donated_to u (Some p))))
 
-        woken : (o : OptionCpu) (q : Option ℕ) → named o ≡ q → Under limits.cpus q → maybe_reschedule cs us t wakeups o ≡ (sched.maybe_wakeup limits topology tick us v x q).wakeups
-        unfolding named maybe_reschedule woken_in sched.maybe_wakeup Under with_thread
-        woken (cpu.Some c) (some d) e h =
+        woken : (o : Option ℕ) (q : Option ℕ) → o ≡ q → Under limits.cpus q → maybe_reschedule cs us t wakeups o ≡ (sched.maybe_wakeup limits topology tick us v x q).wakeups
+        unfolding maybe_reschedule woken_in sched.maybe_wakeup Under with_thread
+        woken (Some c) (Some d) e h =
             let z : c ≡ d = cc in
             rw z (signal_counts v wakeups us d (wakeup_due cs d t) count few ∙ ap (λ (b : Bool). (wakeup us v d b).wakeups) (due_shown d h))
-        woken (cpu.Some c) none e h = cc
-        woken cpu.None (some d) e h = cc
-        woken cpu.None none e h = count
+        woken (Some c) None e h = cc
+        woken None (Some d) e h = cc
+        woken None None e h = count
 
-        queue_is : named (cpu_in t.current_processor_queue) ≡ u.queue_cpu
-        queue_is = ap (λ z. named (cpu_in z)) (donated_queue r p) ∙ queue_reads r ∙ ap (λ (z : times.Thread). z.queue_cpu) (s.threads x below)
+        queue_is : (cpu_in t.current_processor_queue) ≡ u.queue_cpu
+        queue_is = ap (λ z. (cpu_in z)) (donated_queue r p) ∙ queue_reads r ∙ ap (λ (z : times.Thread). z.queue_cpu) (s.threads x below)
 
         raised : cond (less (effective_priority u) p) (cond (sched.same_cpu x (w.cpus us).running) wakeups (maybe_reschedule cs us t wakeups (cpu_in t.current_processor_queue))) wakeups
             ≡ (cond raises (sched.maybe_wakeup limits topology tick us v x u.queue_cpu) v).wakeups
@@ -143,7 +140,7 @@ module _ (limits : Limits) (topology : Topology) (tick us : ℕ) (known : ℕ �
             (λ l. rw l (both (sched.same_cpu x (w.cpus us).running) (λ m. rw m (unfold with_thread in count)) (λ m. rw m (woken (cpu_in t.current_processor_queue) u.queue_cpu queue_is (s.queue_cpus x below)))))
             (λ l. rw l (unfold with_thread in count))
 
-      module _ (runs : (y : ℕ) → (w.cpus us).running ≡ some y → known y ≡ true) (wakeups : ℕ) (count : wakeups ≡ w.wakeups) (few : w.wakeups < NONE) where
+      module _ (runs : (y : ℕ) → (w.cpus us).running ≡ Some y → known y ≡ true) (wakeups : ℕ) (count : wakeups ≡ w.wakeups) (few : w.wakeups < NONE) where
         resched_shown : (donate_priority r p).needs_resched ≡ (accepted && less (effective_priority u) p)
         resched_shown = donated_resched r p ∙ ap (λ (t : times.Thread). donation_accepted t.donated p && less (effective_priority t) p) (s.threads x below)
 

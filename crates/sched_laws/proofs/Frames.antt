@@ -1,17 +1,17 @@
 -- Frame lemmas: fields of a world that a put, a take, a choice, a switch, a mark, a hard tick, a donation or `balance` leaves unchanged.
 use Prim.Native.Nat.{ℕ, zero, suc, ◌+◌, ◌≤◌}
-use Rattle.std.specs.Prelude.{◌≡◌, Bool, ◌&&◌, eqb}
+use Rattle.std.specs.Prelude.{◌≡◌, Bool, ◌&&◌, eqb, Option, None, Some}
 use Rattle.std.proofs.Math.Path.{refl}
 use Rattle.std.proofs.Common.{◌∙◌, arith}
 use Rattle.std.proofs.Math.Bool.{false, not, true}
-use Rattle.std.proofs.Math.Option.{Option, none, some}
 use Rattle.std.proofs.Math.Dec.{ltb}
+use Rattle.rules.specs.declared.choice.Pair.{Pair}
 use Rattle.rules.specs.declared.Priority.{Priority}
 use Rattle.rules.proofs.Laws.Line.{both}
 use Rattle.rules.specs.Times.{effective_priority}
 use Rattle.rules.specs.Queue.{Queue, load, Next, nobody, next_in}
 use Rattle.rules.specs.State.{Limits, Topology, Cpu}
-use Rattle.rules.specs.Choice.{Pair, no_pair, pair}
+use Rattle.rules.specs.Choice.{pair_at}
 use Rattle.rules.specs.Schedule as sched
 use Rattle.rules.specs.Schedule.{World, Balancing, with_cpu, with_thread, with_queue, with_draws, with_running, set_rebalance, noted, wakeup, with_preempt, with_ticks}
 use Rattle.rules.proofs.Laws.Sound.{at_keeps}
@@ -27,8 +27,8 @@ module _ (limits : Limits) (topology : Topology) (tick us : ℕ) where
 
     moved : (d : ℕ) (o : Option ℕ) (w : World) → f (sched.moved_for limits topology tick us d o w).world ≡ f w
     unfolding sched.moved_for
-    moved d none w = refl
-    moved d (some x) w = a.thread w x _
+    moved d None w = refl
+    moved d (Some x) w = a.thread w x _
 
     from : (w : World) (c d : ℕ) → f (sched.take_a_thread_from_cpu limits topology tick us w c d).world ≡ f w
     unfolding sched.take_a_thread_from_cpu sched.take_thread
@@ -36,8 +36,8 @@ module _ (limits : Limits) (topology : Topology) (tick us : ℕ) where
 
     steal : (w : World) (o : Option ℕ) → f (sched.steal_from limits topology tick us w o).world ≡ f w
     unfolding sched.steal_from
-    steal w none = refl
-    steal w (some c) = from w c us
+    steal w None = refl
+    steal w (Some c) = from w c us
 
     topo : (w : World) (p : Option Priority) → f (sched.find_cpu_from_topo limits topology tick us w p).world ≡ f w
     unfolding sched.find_cpu_from_topo
@@ -45,13 +45,13 @@ module _ (limits : Limits) (topology : Topology) (tick us : ℕ) where
 
     or_any : (w : World) (avoid o : Option ℕ) → f (sched.found_or_any limits topology tick us w avoid o).world ≡ f w
     unfolding sched.found_or_any
-    or_any w avoid none = topo w none
-    or_any w avoid (some c) = both (sched.same_cpu c avoid) (λ e. rw e (topo w none)) (λ e. rw e)
+    or_any w avoid None = topo w None
+    or_any w avoid (Some c) = both (sched.same_cpu c avoid) (λ e. rw e (topo w None)) (λ e. rw e)
 
     select_from : (w : World) (x : ℕ) (avoid o : Option ℕ) → f (sched.select_from limits topology tick us w x avoid o).world ≡ f w
     unfolding sched.select_from
-    select_from w x avoid none = or_any _ avoid _ ∙ topo w _
-    select_from w x avoid (some c) = refl
+    select_from w x avoid None = or_any _ avoid _ ∙ topo w _
+    select_from w x avoid (Some c) = refl
 
     select : (w : World) (x : ℕ) (avoid : Option ℕ) → f (sched.select_cpu limits topology tick us w x avoid).world ≡ f w
     unfolding sched.select_cpu
@@ -61,19 +61,19 @@ module _ (limits : Limits) (topology : Topology) (tick us : ℕ) where
     module _ (runs : (w : World) (o : Option ℕ) (p : Priority) → f (with_cpu w us (with_running (w.cpus us) o p)) ≡ f w) where
       switch : (w : World) (o : Option ℕ) → f (sched.switch_to limits topology tick us w o) ≡ f w
       unfolding sched.switch_to sched.activated
-      switch w none = runs w none _
-      switch w (some x) = a.thread _ x _ ∙ runs w (some x) _
+      switch w None = runs w None _
+      switch w (Some x) = a.thread _ x _ ∙ runs w (Some x) _
 
       stolen : (w : World) (cur o : Option ℕ) → f (sched.run_stolen limits topology tick us w cur o) ≡ f w
       unfolding sched.run_stolen
-      stolen w cur (some y) = switch w (some y)
-      stolen w none none = refl
-      stolen w (some x) none = switch w none
+      stolen w cur (Some y) = switch w (Some y)
+      stolen w None None = refl
+      stolen w (Some x) None = switch w None
 
       taken : (w : World) (cur o : Option ℕ) → f (sched.run_taken limits topology tick us w cur o) ≡ f w
       unfolding sched.run_taken sched.try_steal
-      taken w cur (some y) = both (sched.same_cpu y cur) (λ e. rw e) (λ e. rw e (switch w (some y)))
-      taken w cur none = stolen _ cur _ ∙ steal w _
+      taken w cur (Some y) = both (sched.same_cpu y cur) (λ e. rw e) (λ e. rw e (switch w (Some y)))
+      taken w cur None = stolen _ cur _ ∙ steal w _
 
       pick : (w : World) → f (sched.pick_next limits topology tick us w) ≡ f w
       unfolding sched.pick_next sched.take_thread
@@ -94,8 +94,8 @@ module _ (limits : Limits) (topology : Topology) (tick us : ℕ) where
       module _ (pays : (w : World) (last paid : ℕ) → f (with_cpu w us (with_ticks (w.cpus us) last paid)) ≡ f w) where
         paid_by : (w : World) (o : Option ℕ) (n : ℕ) → f (sched.paid_by limits topology tick us w o n) ≡ f w
         unfolding sched.paid_by
-        paid_by w none n = pays w _ _
-        paid_by w (some x) n = a.thread _ x _ ∙ pays w _ _
+        paid_by w None n = pays w _ _
+        paid_by w (Some x) n = a.thread _ x _ ∙ pays w _ _
 
         hardtick : (w : World) → f (sched.schedule_hardtick limits topology tick us w) ≡ f w
         unfolding sched.schedule_hardtick
@@ -109,8 +109,8 @@ module _ (limits : Limits) (topology : Topology) (tick us : ℕ) where
 
       maybe_wakeup : (w : World) (x : ℕ) (o : Option ℕ) → f (sched.maybe_wakeup limits topology tick us w x o) ≡ f w
       unfolding sched.maybe_wakeup
-      maybe_wakeup w x none = refl
-      maybe_wakeup w x (some c) = wakes w c _
+      maybe_wakeup w x None = refl
+      maybe_wakeup w x (Some c) = wakes w c _
 
       donate : (w : World) (x : ℕ) (p : Priority) → f (sched.donate_priority limits topology tick us w x p) ≡ f w
       unfolding sched.donate_priority
@@ -122,16 +122,16 @@ module _ (limits : Limits) (topology : Topology) (tick us : ℕ) where
 
       received : (w : World) (allowed : ℕ → Bool) (n recipient : ℕ) (o : Option ℕ) → f (sched.received limits topology tick us w allowed n recipient o).world ≡ f w
       unfolding sched.received
-      received w allowed n recipient none = refl
-      received w allowed n recipient (some x) = put w recipient x
+      received w allowed n recipient None = refl
+      received w allowed n recipient (Some x) = put w recipient x
 
-      balance_pair : (w : World) (allowed : ℕ → Bool) (n : ℕ) (p : Pair) → f (sched.balance_pair limits topology tick us w allowed n p).world ≡ f w
+      balance_pair : (w : World) (allowed : ℕ → Bool) (n : ℕ) (p : Option Pair) → f (sched.balance_pair limits topology tick us w allowed n p).world ≡ f w
       unfolding sched.balance_pair sched.move_one
-      balance_pair w allowed n no_pair = refl
-      balance_pair w allowed n (pair donor recipient) =
-          both (eqb (sched.current_load (w.cpus donor)) 0)
+      balance_pair w allowed n None = refl
+      balance_pair w allowed n (Some p) =
+          both (eqb (sched.current_load (w.cpus p.donor)) 0)
           (λ e. rw e)
-          (λ e. rw e (both (ltb 0 (load (w.cpus donor).queue)) (λ h. rw h (received _ _ n recipient _ ∙ from _ donor recipient ∙ a.mark w donor)) (λ h. rw h (a.mark w donor))))
+          (λ e. rw e (both (ltb 0 (load (w.cpus p.donor).queue)) (λ h. rw h (received _ _ n p.recipient _ ∙ from _ p.donor p.recipient ∙ a.mark w p.donor)) (λ h. rw h (a.mark w p.donor))))
 
       balance_step : (b : Balancing) → f (sched.balance_step limits topology tick us b).world ≡ f b.world
       unfolding sched.balance_step

@@ -1,12 +1,10 @@
 -- `schedule_hardtick` OVER RECORDS AND WORDS IS THE RULES'.
-use Rattle.std.specs.Prelude.{ℕ, ◌≤◌, ◌<◌, ◌≡◌, Bool, ◌||◌, List, set}
+use Rattle.std.specs.Prelude.{ℕ, ◌≤◌, ◌<◌, ◌≡◌, Bool, ◌||◌, List, set, Option, None, Some, is_some}
 use Rattle.std.proofs.Math.Path.{refl, ap}
 use Rattle.std.proofs.Common.{sym, subst, ◌∙◌, arith}
 use Rattle.std.proofs.Math.Bool.{true, false, not}
-use Rattle.std.proofs.Math.Option.{Option, none, some}
 use Rattle.std.proofs.Math.Dec.{eqb}
 use borrow.Author.Tests.{ne_eqb}
-use Rattle.rules.specs.Times.{is_some}
 use Rattle.rules.specs.State.{Limits, Topology}
 use Rattle.rules.specs.Schedule as sched
 use Rattle.rules.specs.Schedule.{World}
@@ -30,7 +28,7 @@ module _ (limits : Limits) (topology : Topology) (tick us : ℕ) (known : ℕ �
   k = context limits tick us
 
   module _ {active : ℕ → Bool} {ts : List Thread} {cs : List (List ℕ)} {w : World} (s : WorldRep limits topology known active ts cs w)
-      (runs : (x : ℕ) → (w.cpus us).running ≡ some x → known x ≡ true) (late : (w.cpus us).last_tick ≤ tick) where
+      (runs : (x : ℕ) → (w.cpus us).running ≡ Some x → known x ≡ true) (late : (w.cpus us).last_tick ≤ tick) where
     abbrev Ends : Memory → World → Type 0
     Ends m v = WorldRep limits topology known active m.threads m.cpus v
 
@@ -42,24 +40,24 @@ module _ (limits : Limits) (topology : Topology) (tick us : ℕ) (known : ℕ �
         (sched.mark_preempt limits topology tick us (sched.paid_by limits topology tick us w o (pay limits topology tick us known numbered small early us_in s runs late o).timeslice)
         (sched.needs_reschedule limits topology tick us w true || (pay limits topology tick us known numbered small early us_in s runs late o).expired))
     unfolding paid_by_def context expires
-    pays none e =
-        let i : eqb (running_at cs us) NONE ≡ true = idle_at_work limits topology tick us known numbered small early s us us_in runs ∙ ap (λ (o : Option ℕ). not (is_some o)) e ∙ (unfold is_some in refl) in
+    pays None e =
+        let i : eqb (running_at cs us) NONE ≡ true = idle_at_work limits topology tick us known numbered small early s us us_in runs ∙ ap (λ (o : Option ℕ). not (is_some o)) e ∙ refl in
         rw i
         (subst (λ (b : Bool). WorldRep limits topology known active ts (marked (idle_paid (hardtick_def us tick cs).memory us limits.shortest (hardtick_def us tick cs).answer).cpus us b)
-        (sched.mark_preempt limits topology tick us (sched.paid_by limits topology tick us w none (pay limits topology tick us known numbered small early us_in s runs late none).timeslice)
-        (sched.needs_reschedule limits topology tick us w true || (pay limits topology tick us known numbered small early us_in s runs late none).expired)))
+        (sched.mark_preempt limits topology tick us (sched.paid_by limits topology tick us w None (pay limits topology tick us known numbered small early us_in s runs late None).timeslice)
+        (sched.needs_reschedule limits topology tick us w true || (pay limits topology tick us known numbered small early us_in s runs late None).expired)))
         (sym (ap (λ (b : Bool). b || (idle_paid (hardtick_def us tick cs).memory us limits.shortest (hardtick_def us tick cs).answer).mark) needs
         ∙ ap (λ (b : Bool). sched.needs_reschedule limits topology tick us w true || b) (idle_expired limits topology tick us known numbered small early us_in s runs late)))
         (shows_marked limits topology tick us known numbered small early (shows_idle_paid limits topology tick us known numbered small early us_in s runs late) us_in _))
-    pays (some x) e =
+    pays (Some x) e =
         let r : running_at cs us ≡ x = running_is limits topology tick us known numbered small early s us us_in runs ∙ ap number_or_none e ∙ (unfold number_or_none in refl) in
         let i : eqb x NONE ≡ false = ne_eqb x NONE (λ z. omega (arith, numbered x (runs x e), small.threads)) in
         let d : needs_reschedule_def cs us (record_at ts x) true ≡ sched.needs_reschedule limits topology tick us w true = ap (λ n. needs_reschedule_def cs us (record_at ts n) true) (sym r) ∙ needs in
         let p : Thread = (pay_ticks (record_at ts x) (hardtick_def us tick cs).answer (allowed_at (hardtick_def us tick cs).memory us limits.shortest (record_at ts x))).thread in
         rw (r, i)
         (subst (λ (b : Bool). WorldRep limits topology known active (set ts x p) (marked (hardtick_def us tick cs).memory us b)
-        (sched.mark_preempt limits topology tick us (sched.paid_by limits topology tick us w (some x) (pay limits topology tick us known numbered small early us_in s runs late (some x)).timeslice)
-        (sched.needs_reschedule limits topology tick us w true || (pay limits topology tick us known numbered small early us_in s runs late (some x)).expired)))
+        (sched.mark_preempt limits topology tick us (sched.paid_by limits topology tick us w (Some x) (pay limits topology tick us known numbered small early us_in s runs late (Some x)).timeslice)
+        (sched.needs_reschedule limits topology tick us w true || (pay limits topology tick us known numbered small early us_in s runs late (Some x)).expired)))
         (sym (ap (λ (b : Bool). b || (pay_ticks (record_at ts x) (hardtick_def us tick cs).answer (allowed_at (hardtick_def us tick cs).memory us limits.shortest (record_at ts x))).expired) d
         ∙ ap (λ (b : Bool). sched.needs_reschedule limits topology tick us w true || b) (expired_of limits topology tick us known numbered small early us_in s runs late x e)))
         (shows_marked limits topology tick us known numbered small early (shows_paid limits topology tick us known numbered small early us_in s runs late x e) us_in _))

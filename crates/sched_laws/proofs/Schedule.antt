@@ -1,13 +1,13 @@
 -- `do_schedule`, `schedule` AND `schedule_thread` OVER RECORDS AND WORDS ARE THE RULES'.
-use Rattle.std.specs.Prelude.{ℕ, ◌≤◌, ◌<◌, ◌≡◌, Bool, true, false, cond, ◌||◌, List}
+use Rattle.std.proofs.lemmas.Option.{none-some}
+use Rattle.std.specs.Prelude.{ℕ, ◌≤◌, ◌<◌, ◌≡◌, Bool, true, false, cond, ◌||◌, List, Option, None, Some, is_some}
 use Rattle.std.proofs.Math.Path.{refl, sym, ap, subst}
 use Rattle.std.proofs.Common.{◌∙◌, eqb-true}
 use Rattle.std.proofs.Math.Bool.{not}
 use Rattle.std.proofs.lemmas.Bool.{false≢true}
-use Rattle.std.proofs.Math.Option.{Option, none, some, none-ne-some}
 use Rattle.std.proofs.Math.Dec.{eqb}
 use Rattle.rules.proofs.Laws.Line.{both}
-use Rattle.rules.specs.Times.{effective_priority, is_some}
+use Rattle.rules.specs.Times.{effective_priority}
 use Rattle.rules.specs.Puts.{PutOrTake}
 use Rattle.rules.specs.State.{Limits, Topology}
 use Rattle.rules.specs.Schedule as sched
@@ -16,15 +16,10 @@ use Rattle.rules.specs.Waits.{Under}
 use Rattle.rules.proofs.Laws.Sound.{Same, same_self, sound_same, New, Sound}
 use Rattle.rules.proofs.Laws.Steps.{nobody_but, Selected, select_cpu_selected, weaker, running_new, new_same, ok_put}
 use Rattle.thread.specs.declared.Thread.{Thread}
-use Rattle.thread.specs.declared.time.OptionCpu.{OptionCpu}
-use Rattle.thread.specs.declared.time.OptionCpu.TheVariants as cpu
-use Rattle.thread.specs.Reads.{named}
 use Rattle.thread.specs.Thread.{NONE}
 use Rattle.records.specs.Rq.{record_at}
 use Rattle.represents.specs.World.{number_or_none, Small, WorldRep, most_tick}
 use Rattle.represents.specs.Topology.{TopologyRep}
-use Rattle.choice.specs.Reads.{as_cpu}
-use Rattle.sched_words.specs.Option.{is_none, cpu_of_def}
 use Rattle.sched_words.specs.Choose.{selected_for, reinsert_at_def}
 use Rattle.sched_words.specs.Preempt.{rq_has_higher}
 use Rattle.sched_words.specs.Running.{running_at, must_rebalance_def}
@@ -43,30 +38,27 @@ use Rattle.sched_laws.proofs.DoSchedule.{unsettle, select_finds, shows_blocked, 
 use Rattle.sched_laws.proofs.Frames.{pick_wakeups, select_wakeups, put_running}
 use Rattle.sched_laws.specs.Schedule.{Leaves, flags_in}
 
-named_some : {c : ℕ} → named (cpu.Some c) ≡ some c
-unfolding named
+named_some : {c : ℕ} → (Some c) ≡ Some c
 named_some = refl
 
-idle_is : not (is_some none) ≡ true
-unfolding is_some
+idle_is : not (is_some {T = ℕ} None) ≡ true
 idle_is = refl
 
-some_is : (x : ℕ) → not (is_some (some x)) ≡ false
-unfolding is_some
+some_is : (x : ℕ) → not (is_some (Some x)) ≡ false
 some_is x = refl
 
 module _ (limits : Limits) (topology : Topology) (tick us : ℕ) (known : ℕ → Bool) (numbered : (x : ℕ) → known x ≡ true → x < limits.threads) (small : Small limits)
-    (early : tick ≤ most_tick) (us_in : us < limits.cpus) (H : ℕ → List PutOrTake) (ns : List (List ℕ)) (tree : TopologyRep limits ns topology) (node : ℕ) (put_on : topology.placed us ≡ some node) where
+    (early : tick ≤ most_tick) (us_in : us < limits.cpus) (H : ℕ → List PutOrTake) (ns : List (List ℕ)) (tree : TopologyRep limits ns topology) (node : ℕ) (put_on : topology.placed us ≡ Some node) where
   abbrev k : Context
   k = context limits tick us
 
   module _ {active : ℕ → Bool} {ts : List Thread} {cs : List (List ℕ)} {w : World} (s : WorldRep limits topology known active ts cs w) (safe : Sound limits known H nobody_but w) (st : Settled no_one active w)
       (wakeups : ℕ) (count : wakeups ≡ w.wakeups) (few : w.wakeups < NONE) where
-    runs_known : (x : ℕ) → (w.cpus us).running ≡ some x → known x ≡ true
+    runs_known : (x : ℕ) → (w.cpus us).running ≡ Some x → known x ≡ true
     runs_known x e = (safe.runs us x e).1
 
     -- the thread running, x, goes into the queue of CPU c, and the next is picked
-    put_and_pick : (cs₁ : List (List ℕ)) (v : World) (c x : ℕ) → WorldRep limits topology known active ts cs₁ v → Same limits w v → v.wakeups ≡ w.wakeups → c < limits.cpus → (w.cpus us).running ≡ some x
+    put_and_pick : (cs₁ : List (List ℕ)) (v : World) (c x : ℕ) → WorldRep limits topology known active ts cs₁ v → Same limits w v → v.wakeups ≡ w.wakeups → c < limits.cpus → (w.cpus us).running ≡ Some x
         → Leaves limits topology known (then_next_def k x ns (schedule_thread_on_cpu_def k c x wakeups (mem ts cs₁))) (sched.pick_next limits topology tick us (sched.schedule_thread_on_cpu limits topology tick us v c x))
     unfolding then_next_def
     put_and_pick cs₁ v c x s₁ same e near r =
@@ -86,7 +78,7 @@ module _ (limits : Limits) (topology : Topology) (tick us : ℕ) (known : ℕ �
 
     -- ---- where it goes back into a queue
 
-    module _ (x : ℕ) (r : (w.cpus us).running ≡ some x) where
+    module _ (x : ℕ) (r : (w.cpus us).running ≡ Some x) where
       below : x < limits.threads
       below = numbered x (runs_known x r)
 
@@ -96,52 +88,52 @@ module _ (limits : Limits) (topology : Topology) (tick us : ℕ) (known : ℕ �
       must : must_rebalance_def cs us ≡ (w.cpus us).must_rebalance
       must = must_rebalance_shown limits topology tick us known numbered small early s us us_in runs_known
 
-      reinsert_chosen : (reinsert_at_def cs ns us limits.cpus (record_at ts x)).chosen ≡ as_cpu at_queue.got
+      reinsert_chosen : (reinsert_at_def cs ns us limits.cpus (record_at ts x)).chosen ≡ at_queue.got
       unfolding reinsert_at_def sched.reinsert_at
       reinsert_chosen =
           both (w.cpus us).must_rebalance
-          (λ e. rw (must ∙ e, e) (select_shown limits topology tick us known numbered small early us_in H ns tree node put_on s safe x below (cpu.Some us) ∙ ap (λ (o : Option ℕ). as_cpu (sched.select_cpu limits topology tick us w x o).got) named_some))
-          (λ e. rw (must ∙ e, e) (unfold as_cpu in refl))
+          (λ e. rw (must ∙ e, e) (select_shown limits topology tick us known numbered small early us_in H ns tree node put_on s safe x below (Some us) ∙ ap (λ (o : Option ℕ). (sched.select_cpu limits topology tick us w x o).got) named_some))
+          (λ e. rw (must ∙ e, e) refl)
 
       reinsert_shown : WorldRep limits topology known active ts (reinsert_at_def cs ns us limits.cpus (record_at ts x)).cpus at_queue.world
       unfolding reinsert_at_def sched.reinsert_at
       reinsert_shown =
           both (w.cpus us).must_rebalance
-          (λ e. rw (must ∙ e, e) (subst (λ (o : Option ℕ). WorldRep limits topology known active ts (selected_for cs ns us limits.cpus (record_at ts x) (cpu.Some us)) (sched.select_cpu limits topology tick us w x o).world) named_some
-          (shows_selected limits topology tick us known numbered small early us_in H ns tree node put_on s safe x below (cpu.Some us))))
+          (λ e. rw (must ∙ e, e) (subst (λ (o : Option ℕ). WorldRep limits topology known active ts (selected_for cs ns us limits.cpus (record_at ts x) (Some us)) (sched.select_cpu limits topology tick us w x o).world) named_some
+          (shows_selected limits topology tick us known numbered small early us_in H ns tree node put_on s safe x below (Some us))))
           (λ e. rw (must ∙ e, e) s)
 
       -- it finds a CPU below the limit, and changes draws alone
       reinsert_finds : is_some at_queue.got ≡ true
       unfolding sched.reinsert_at
       reinsert_finds =
-          both (w.cpus us).must_rebalance (λ e. rw e (select_finds limits topology tick us known numbered small early us_in H ns tree node put_on (visited_placed limits topology tree.sound us node put_on) w x (some us))) (λ e. rw e (unfold is_some in refl))
+          both (w.cpus us).must_rebalance (λ e. rw e (select_finds limits topology tick us known numbered small early us_in H ns tree node put_on (visited_placed limits topology tree.sound us node put_on) w x (Some us))) (λ e. rw e refl)
 
       reinsert_wakeups : at_queue.world.wakeups ≡ w.wakeups
       unfolding sched.reinsert_at
-      reinsert_wakeups = both (w.cpus us).must_rebalance (λ e. rw e (select_wakeups limits topology tick us w x (some us))) (λ e. rw e)
+      reinsert_wakeups = both (w.cpus us).must_rebalance (λ e. rw e (select_wakeups limits topology tick us w x (Some us))) (λ e. rw e)
 
       reinsert_selected : Selected limits topology tick us known numbered H us_in w at_queue
       unfolding sched.reinsert_at
       reinsert_selected =
           both (w.cpus us).must_rebalance
-          (λ e. rw e (select_cpu_selected limits topology tick us known numbered H us_in w x (some us) (safe.mild x)))
+          (λ e. rw e (select_cpu_selected limits topology tick us known numbered H us_in w x (Some us) (safe.mild x)))
           (λ e. rw e (record { same = same_self limits w; under = unfold Under in us_in }))
 
       -- `reinsert`, once it has to move
       moves : (o : Option ℕ) → at_queue.got ≡ o → is_some o ≡ true → Under limits.cpus o
           → Leaves limits topology known
-          (then_next_def k x ns (reinserted_def k (as_cpu o) x wakeups (mem ts (reinsert_at_def cs ns us limits.cpus (record_at ts x)).cpus)))
+          (then_next_def k x ns (reinserted_def k o x wakeups (mem ts (reinsert_at_def cs ns us limits.cpus (record_at ts x)).cpus)))
           (sched.pick_next limits topology tick us (sched.reinserted limits topology tick us at_queue.world x o))
-      unfolding is_some Under sched.reinserted reinserted_def is_none cpu_of_def as_cpu
-      moves none e i u = absurd (false≢true i)
-      moves (some c) e i u = put_and_pick (reinsert_at_def cs ns us limits.cpus (record_at ts x)).cpus at_queue.world c x reinsert_shown reinsert_selected.same reinsert_wakeups u r
+      unfolding Under sched.reinserted reinserted_def
+      moves None e i u = absurd (false≢true i)
+      moves (Some c) e i u = put_and_pick (reinsert_at_def cs ns us limits.cpus (record_at ts x)).cpus at_queue.world c x reinsert_shown reinsert_selected.same reinsert_wakeups u r
 
       moves_shown : Leaves limits topology known
           (then_next_def k x ns (reinserted_def k (reinsert_at_def cs ns us limits.cpus (record_at ts x)).chosen x wakeups (mem ts (reinsert_at_def cs ns us limits.cpus (record_at ts x)).cpus)))
           (sched.pick_next limits topology tick us (sched.reinserted limits topology tick us at_queue.world x at_queue.got))
       moves_shown =
-          subst (λ (o : OptionCpu). Leaves limits topology known (then_next_def k x ns (reinserted_def k o x wakeups (mem ts (reinsert_at_def cs ns us limits.cpus (record_at ts x)).cpus)))
+          subst (λ (o : Option ℕ). Leaves limits topology known (then_next_def k x ns (reinserted_def k o x wakeups (mem ts (reinsert_at_def cs ns us limits.cpus (record_at ts x)).cpus)))
           (sched.pick_next limits topology tick us (sched.reinserted limits topology tick us at_queue.world x at_queue.got))) (sym reinsert_chosen)
           (moves at_queue.got refl reinsert_finds reinsert_selected.under)
 
@@ -178,21 +170,21 @@ module _ (limits : Limits) (topology : Topology) (tick us : ℕ) (known : ℕ �
     abbrev Picked : List Thread → ℕ → Type 0
     Picked ts' n = Ends limits topology known (pick_next_def k n ns (mem ts' cs)).threads (pick_next_def k n ns (mem ts' cs)).cpus (sched.pick_next limits topology tick us w)
 
-    idle_picks : (w.cpus us).running ≡ none → Leaves limits topology known (record { answer = wakeups; memory = pick_next_def k (running_at cs us) ns (mem ts cs) }) (sched.pick_next limits topology tick us w)
+    idle_picks : (w.cpus us).running ≡ None → Leaves limits topology known (record { answer = wakeups; memory = pick_next_def k (running_at cs us) ns (mem ts cs) }) (sched.pick_next limits topology tick us w)
     idle_picks e = record {
       ends = subst (Picked ts) (sym (running_is limits topology tick us known numbered small early s us us_in runs_known))
           (shows_picked limits topology tick us known numbered small early us_in H ns tree node put_on
           (record {
             runs = λ c y b q. st.runs c y refl q;
             others = λ y h. st.others y (λ c b q. both (eqb c us)
-                (λ p. none-ne-some y (sym e ∙ ap (λ d. (w.cpus d).running) (sym (eqb-true c us p)) ∙ q))
+                (λ p. none-some y (sym e ∙ ap (λ d. (w.cpus d).running) (sym (eqb-true c us p)) ∙ q))
                 (λ p. h c p q));
           })
           s (weaker limits topology tick us known numbered H us_in w safe));
       counted = count ∙ sym (pick_wakeups limits topology tick us w);
     }
 
-    block_picks : (x : ℕ) → (w.cpus us).running ≡ some x → Leaves limits topology known (record { answer = wakeups; memory = pick_next_def k x ns (mem (block_def x ts) cs) }) (sched.pick_next limits topology tick us w)
+    block_picks : (x : ℕ) → (w.cpus us).running ≡ Some x → Leaves limits topology known (record { answer = wakeups; memory = pick_next_def k x ns (mem (block_def x ts) cs) }) (sched.pick_next limits topology tick us w)
     block_picks x r = record {
       ends = subst (Picked (block_def x ts)) (ap number_or_none r ∙ some_number x)
           (shows_picked limits topology tick us known numbered small early us_in H ns tree node put_on (unsettle us x active w w r safe.one (λ c. refl) st)
@@ -201,7 +193,7 @@ module _ (limits : Limits) (topology : Topology) (tick us : ℕ) (known : ℕ �
       counted = count ∙ sym (pick_wakeups limits topology tick us w);
     }
 
-    goes_on : (f : SchedFlags) (x : ℕ) → (w.cpus us).running ≡ some x → (b : Bool) → Leaves limits topology known
+    goes_on : (f : SchedFlags) (x : ℕ) → (w.cpus us).running ≡ Some x → (b : Bool) → Leaves limits topology known
         (cond b (reinsert_def k x f wakeups ns (mem ts cs)) (record { answer = wakeups; memory = pick_next_def k x ns (mem (block_def x ts) cs) }))
         (cond b (sched.reinsert limits topology tick us w x f.yields f.preempt) (sched.pick_next limits topology tick us w))
     goes_on f x e true = shows_reinserted x e f
@@ -209,8 +201,8 @@ module _ (limits : Limits) (topology : Topology) (tick us : ℕ) (known : ℕ �
 
     do_schedules : (f : SchedFlags) (o : Option ℕ) → (w.cpus us).running ≡ o → Leaves limits topology known (do_schedule_def k f wakeups ns (mem ts cs)) (sched.do_schedule_of limits topology tick us w o (flags_in f))
     unfolding do_schedule_def sched.do_schedule_of context flags_in
-    do_schedules f none e = rw (idle_at_work limits topology tick us known numbered small early s us us_in runs_known ∙ ap (λ (o : Option ℕ). not (is_some o)) e ∙ idle_is) (idle_picks e)
-    do_schedules f (some x) e =
+    do_schedules f None e = rw (idle_at_work limits topology tick us known numbered small early s us us_in runs_known ∙ ap (λ (o : Option ℕ). not (is_some o)) e ∙ idle_is) (idle_picks e)
+    do_schedules f (Some x) e =
         let n : running_at cs us ≡ x = running_is limits topology tick us known numbered small early s us us_in runs_known ∙ ap number_or_none e ∙ some_number x in
         rw (idle_at_work limits topology tick us known numbered small early s us us_in runs_known ∙ ap (λ (o : Option ℕ). not (is_some o)) e ∙ some_is x, n)
         (goes_on f x e f.reinsert)

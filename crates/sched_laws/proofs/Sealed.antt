@@ -1,10 +1,8 @@
 -- ONCE SEALED, EVERY DECLARED CPU IS ON A NODE, whatever calls are made.
-use Rattle.std.specs.Prelude.{ℕ, ◌<◌, ◌≡◌, true, false, not, List, [], ◌∷◌, ◌++◌, eqb}
+use Rattle.std.specs.Prelude.{ℕ, ◌<◌, ◌≡◌, true, false, not, List, [], ◌∷◌, ◌++◌, eqb, Option, None, Some, is_some}
 use Rattle.std.proofs.Common.{sym, ◌∙◌, true≢false, eqb-true, lt-ltb}
 use Rattle.std.proofs.lemmas.Bool.{false≢true, not-true}
-use Rattle.std.proofs.Math.Option.{Option, none, some}
 use Rattle.rules.proofs.Laws.Line.{both}
-use Rattle.rules.specs.Times.{is_some}
 use Rattle.rules.specs.State.{Limits, State, start}
 use Rattle.rules.specs.Schedule.{World}
 use Rattle.rules.specs.Requests.{Request, declare_cpu, add_node, place_cpu, seal, set_shortest, declare_thread, set_tick, schedule_thread, schedule, hardtick, stattick, resched, maybe_preempt, donate, remove_donation, set_critical, Reading, unknown, cut_short, asks, read}
@@ -29,8 +27,8 @@ open_rest s l e = (yes 2 (not s.sealed) l e).1
 module _ (s : State) (k : Sealed s) where
   on_cpu : (us x : ℕ) (w : World) (o : Option ℕ) → Sealed (scheduled_on s us x w o).state
   unfolding scheduled_on ran
-  on_cpu us x w none = record { on_node = k.on_node }
-  on_cpu us x w (some c) = record { on_node = k.on_node }
+  on_cpu us x w None = record { on_node = k.on_node }
+  on_cpu us x w (Some c) = record { on_node = k.on_node }
 
   all_on_nodes : first_no (open_yet s ∷ all_placed s ∷ room s ∷ []) ≡ 0 → (c : ℕ) → c < s.limits.cpus → s.topology.declared c ≡ true → is_some (s.topology.placed c) ≡ true
   unfolding all_placed question placed declared

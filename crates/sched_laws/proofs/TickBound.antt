@@ -1,8 +1,7 @@
 -- NO CPU'S LAST HARD TICK IS PAST THE TICK, whatever calls are made.
-use Rattle.std.specs.Prelude.{ℕ, ◌^◌, ◌≤◌, ◌≡◌, Bool, true, false, cond, ◌&&◌, ◌||◌, List, [], ◌∷◌, ◌++◌, eqb, ltb, leb}
+use Rattle.std.specs.Prelude.{ℕ, ◌^◌, ◌≤◌, ◌≡◌, Bool, true, false, cond, ◌&&◌, ◌||◌, List, [], ◌∷◌, ◌++◌, eqb, ltb, leb, Option, None, Some}
 use Rattle.std.proofs.Math.Path.{refl}
 use Rattle.std.proofs.Common.{◌∙◌, eqb-true, leb-true, arith}
-use Rattle.std.proofs.Math.Option.{Option, none, some}
 use Rattle.rules.proofs.Laws.Line.{both}
 use Rattle.rules.specs.State.{at, Limits, Topology, Cpu, new_cpu, State, start}
 use Rattle.rules.specs.Schedule as sched
@@ -30,12 +29,12 @@ module _ (limits : Limits) (topology : Topology) (tick us : ℕ) where
 
   at_same : (w : World) (x : ℕ) → Same w (sched.reinsert_at limits topology tick us w x).world
   unfolding sched.reinsert_at
-  at_same w x c = both (w.cpus us).must_rebalance (λ e. rw e (select_last limits topology tick us w x (some us) c)) (λ e. rw e)
+  at_same w x c = both (w.cpus us).must_rebalance (λ e. rw e (select_last limits topology tick us w x (Some us) c)) (λ e. rw e)
 
   reinserted_same : (w : World) (x : ℕ) (o : Option ℕ) → Same w (sched.reinserted limits topology tick us w x o)
   unfolding sched.reinserted
-  reinserted_same w x none c = refl
-  reinserted_same w x (some d) c = put_last limits topology tick us w d x c
+  reinserted_same w x None c = refl
+  reinserted_same w x (Some d) c = put_last limits topology tick us w d x c
 
   reset_same : (w : World) (d x : ℕ) → Same w (sched.reset_thread_time limits topology tick us w d x)
   unfolding sched.reset_thread_time with_thread
@@ -49,8 +48,8 @@ module _ (limits : Limits) (topology : Topology) (tick us : ℕ) where
 
   of_same : (w : World) (o : Option ℕ) (f : Flags) → Same w (sched.do_schedule_of limits topology tick us w o f)
   unfolding sched.do_schedule_of
-  of_same w none f c = pick_last limits topology tick us w c
-  of_same w (some x) f c = if_same w _ _ f.again (reinsert_same w x f.yield f.preempt) (pick_last limits topology tick us w) c
+  of_same w None f c = pick_last limits topology tick us w c
+  of_same w (Some x) f c = if_same w _ _ f.again (reinsert_same w x f.yield f.preempt) (pick_last limits topology tick us w) c
 
   pub schedule_same : (w : World) (f : Flags) → Same w (sched.schedule limits topology tick us w f)
   unfolding sched.schedule sched.do_schedule
@@ -67,8 +66,8 @@ module _ (limits : Limits) (topology : Topology) (tick us : ℕ) where
   -- a hard tick sets it to the tick
   paid_late : (w : World) (o : Option ℕ) (n : ℕ) → ((c : ℕ) → (w.cpus c).last_tick ≤ tick) → (c : ℕ) → ((sched.paid_by limits topology tick us w o n).cpus c).last_tick ≤ tick
   unfolding sched.paid_by with_cpu with_thread with_ticks at
-  paid_late w none n h c = both (eqb c us) (λ e. rw e (omega arith)) (λ e. rw e (h c))
-  paid_late w (some x) n h c = both (eqb c us) (λ e. rw e (omega arith)) (λ e. rw e (h c))
+  paid_late w None n h c = both (eqb c us) (λ e. rw e (omega arith)) (λ e. rw e (h c))
+  paid_late w (Some x) n h c = both (eqb c us) (λ e. rw e (omega arith)) (λ e. rw e (h c))
 
   hard_late : (w : World) → ((c : ℕ) → (w.cpus c).last_tick ≤ tick) → (c : ℕ) → ((sched.schedule_hardtick limits topology tick us w).cpus c).last_tick ≤ tick
   unfolding sched.schedule_hardtick
@@ -95,8 +94,8 @@ module _ (s : State) (k : TickBound s) where
 
   on_cpu : (us x : ℕ) (w : World) (o : Option ℕ) → ((c : ℕ) → (w.cpus c).last_tick ≡ (s.cpus c).last_tick) → TickBound (scheduled_on s us x w o).state
   unfolding scheduled_on
-  on_cpu us x w none e = kept_late w _ e
-  on_cpu us x w (some d) e = kept_late _ _ (λ c. put_last s.limits s.topology s.tick us w d x c ∙ e c)
+  on_cpu us x w None e = kept_late w _ e
+  on_cpu us x w (Some d) e = kept_late _ _ (λ c. put_last s.limits s.topology s.tick us w d x c ∙ e c)
 
   goes : (r : Request) → first_no (concerning s r ++ (room s ∷ [])) ≡ 0 → TickBound (obeys s r).state
   unfolding concerning obeys changed shortened ran_on schedules world_of
@@ -107,7 +106,7 @@ module _ (s : State) (k : TickBound s) where
   goes (set_shortest n) e = record { last = k.last }
   goes (declare_thread x c v p) e = record { last = k.last }
   goes (set_tick t) e = record { last = λ c. let h : s.tick ≤ t = tick_grows s t _ e in omega (arith, k.last c) }
-  goes (schedule_thread us x) e = on_cpu us x _ _ (λ c. select_last s.limits s.topology s.tick us (world_of s) x none c)
+  goes (schedule_thread us x) e = on_cpu us x _ _ (λ c. select_last s.limits s.topology s.tick us (world_of s) x None c)
   goes (schedule us f) e = kept_late _ _ (λ c. schedule_same s.limits s.topology s.tick us (world_of s) (flags_of f) c)
   goes (hardtick us) e = unfold ran in record { last = λ c. hard_late s.limits s.topology s.tick us (world_of s) k.last c }
   goes (stattick us n) e = kept_late _ _ (λ c. stattick_same s.limits s.topology s.tick us (world_of s) n c)

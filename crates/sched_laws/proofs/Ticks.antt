@@ -1,18 +1,17 @@
 -- HARD TICKS, RESCHEDULING AND THE TIME UNTIL THE CPUS ARE BALANCED.
 use Prim.Native.Nat.{ℕ, ◌+◌, ◌-◌, ◌%◌, ◌≤◌, ◌<◌}
-use Rattle.std.specs.Prelude.{◌≡◌, Bool, true, ◌&&◌, ◌||◌, List, set, leb}
+use Rattle.std.specs.Prelude.{◌≡◌, Bool, true, ◌&&◌, ◌||◌, List, set, leb, Option, None, Some, is_some}
 use Rattle.std.proofs.Math.Path.{refl, sym, ap, subst}
 use Rattle.std.proofs.Common.{◌∙◌, true≢false, arith}
 use Rattle.std.proofs.Math.Bool.{false, not}
 use Rattle.std.proofs.lemmas.Bool.{false≢true}
-use Rattle.std.proofs.Math.Option.{Option, none, some}
 use Rattle.std.proofs.Math.Dec.{eqb, ltb}
 use Rattle.rules.proofs.Laws.Line.{both}
 use Rattle.rules.specs.declared.Priority.{Priority}
 use Rattle.rules.specs.Priority.{effective}
 use Rattle.rules.specs.Draw.{next_state, draw}
 use Rattle.rules.specs.Times as times
-use Rattle.rules.specs.Times.{timeslice, effective_priority, is_some, pinned, paid_to, Paid}
+use Rattle.rules.specs.Times.{timeslice, effective_priority, pinned, paid_to, Paid}
 use Rattle.rules.specs.Queue.{timeshare_load}
 use Rattle.rules.specs.State.{Limits, Topology, Cpu, idle_priority, new_thread}
 use Rattle.rules.specs.Schedule as sched
@@ -81,7 +80,7 @@ ticked_queue p last n = refl
 module _ (limits : Limits) (topology : Topology) (tick us : ℕ) (known : ℕ → Bool) (numbered : (x : ℕ) → known x ≡ true → x < limits.threads) (small : Small limits)
     (early : tick ≤ most_tick) (us_in : us < limits.cpus) where
   module _ {active : ℕ → Bool} {ts : List Thread} {cs : List (List ℕ)} {w : World} (s : WorldRep limits topology known active ts cs w)
-      (runs : (x : ℕ) → (w.cpus us).running ≡ some x → known x ≡ true) where
+      (runs : (x : ℕ) → (w.cpus us).running ≡ Some x → known x ≡ true) where
     -- `schedule_resched`
     pub shows_resched : WorldRep limits topology known active ts (rescheds cs us (record_at ts (running_at cs us))) (sched.schedule_resched limits topology tick us w)
     unfolding rescheds sched.schedule_resched
@@ -123,29 +122,29 @@ module _ (limits : Limits) (topology : Topology) (tick us : ℕ) (known : ℕ �
           ∙ ap (λ n. times.pay_ticks (sched.paid_so_far limits topology tick us w o) (tick - (w.cpus us).last_tick) n) (allowed_shown t o e)
 
       -- the idle thread pays
-      payer_priority : effective_priority (reads (idle_payer hard.memory us)) ≡ priority_running w none
+      payer_priority : effective_priority (reads (idle_payer hard.memory us)) ≡ priority_running w None
       unfolding idle_payer priority_running
       payer_priority = slice_priority blank _ ∙ blank_priority
 
-      payer_paid : (idle_payer hard.memory us).timeslice ≡ sched.paid_so_far limits topology tick us w none
+      payer_paid : (idle_payer hard.memory us).timeslice ≡ sched.paid_so_far limits topology tick us w None
       unfolding idle_payer with_timeslice sched.paid_so_far
       payer_paid = (s1.words us us_in).idle_timeslice ∙ ap (λ (p : Cpu). p.idle_timeslice) (cpu_here w us _) ∙ (unfold with_ticks in refl)
 
-      pub shows_idle_paid : WorldRep limits topology known active ts (idle_paid hard.memory us limits.shortest hard.answer).cpus (sched.paid_by limits topology tick us w none (pay none).timeslice)
+      pub shows_idle_paid : WorldRep limits topology known active ts (idle_paid hard.memory us limits.shortest hard.answer).cpus (sched.paid_by limits topology tick us w None (pay None).timeslice)
       unfolding idle_paid sched.paid_by with_cpu
       shows_idle_paid =
           let n : ℕ = (pay_ticks (idle_payer hard.memory us) hard.answer (allowed_at hard.memory us limits.shortest (idle_payer hard.memory us))).thread.timeslice in
-          let e : n ≡ (pay none).timeslice = paid_timeslice _ _ _ ∙ ap (λ (q : times.Paid). q.timeslice) (pay_shown (idle_payer hard.memory us) none payer_priority payer_paid) in
-          shows_alike (with_cpu ticked us (with_ticks (ticked.cpus us) (ticked.cpus us).last_tick n)) (with_cpu w us (with_ticks (w.cpus us) tick (pay none).timeslice))
+          let e : n ≡ (pay None).timeslice = paid_timeslice _ _ _ ∙ ap (λ (q : times.Paid). q.timeslice) (pay_shown (idle_payer hard.memory us) None payer_priority payer_paid) in
+          shows_alike (with_cpu ticked us (with_ticks (ticked.cpus us) (ticked.cpus us).last_tick n)) (with_cpu w us (with_ticks (w.cpus us) tick (pay None).timeslice))
           (λ c. sym (cpu_twice w us _ _ c ∙ ap (λ (q : Cpu). (with_cpu w us q).cpus c) (ap (λ (q : Cpu). with_ticks q q.last_tick n) (cpu_here w us _) ∙ ticked_twice (w.cpus us) tick (w.cpus us).idle_timeslice n ∙ ap (with_ticks (w.cpus us) tick) e))) (λ x. refl)
           (shows_idle_timeslice s1 us us_in n)
 
-      pub idle_expired : (idle_paid hard.memory us limits.shortest hard.answer).mark ≡ (pay none).expired
+      pub idle_expired : (idle_paid hard.memory us limits.shortest hard.answer).mark ≡ (pay None).expired
       unfolding idle_paid
-      idle_expired = expired_pay_ticks _ _ _ ∙ ap (λ (q : times.Paid). q.expired) (pay_shown (idle_payer hard.memory us) none payer_priority payer_paid)
+      idle_expired = expired_pay_ticks _ _ _ ∙ ap (λ (q : times.Paid). q.expired) (pay_shown (idle_payer hard.memory us) None payer_priority payer_paid)
 
       -- a thread pays
-      module _ (x : ℕ) (e : (w.cpus us).running ≡ some x) where
+      module _ (x : ℕ) (e : (w.cpus us).running ≡ Some x) where
         abbrev r : Thread
         r = record_at ts x
 
@@ -155,21 +154,21 @@ module _ (limits : Limits) (topology : Topology) (tick us : ℕ) (known : ℕ �
         in_records_x : x < limits.threads
         in_records_x = numbered x (runs x e)
 
-        pay_of : times.pay_ticks r.timeslice hard.answer (allowed_at hard.memory us limits.shortest r) ≡ pay (some x)
+        pay_of : times.pay_ticks r.timeslice hard.answer (allowed_at hard.memory us limits.shortest r) ≡ pay (Some x)
         unfolding priority_running sched.paid_so_far
-        pay_of = pay_shown r (some x) (ap effective_priority (s.threads x in_records_x)) (slice_reads r ∙ ap (λ (t : times.Thread). t.timeslice) (s.threads x in_records_x))
+        pay_of = pay_shown r (Some x) (ap effective_priority (s.threads x in_records_x)) (slice_reads r ∙ ap (λ (t : times.Thread). t.timeslice) (s.threads x in_records_x))
 
-        paid_reads : reads paid ≡ paid_to (ticked.threads x) (pay (some x)).timeslice
+        paid_reads : reads paid ≡ paid_to (ticked.threads x) (pay (Some x)).timeslice
         unfolding with_cpu
         paid_reads =
             reads_pay_ticks r _ _ ∙ ap (λ (t : times.Thread). paid_to t (times.pay_ticks r.timeslice hard.answer (allowed_at hard.memory us limits.shortest r)).timeslice) (s.threads x in_records_x)
             ∙ ap (λ (q : times.Paid). paid_to (w.threads x) q.timeslice) pay_of
 
-        pub shows_paid : WorldRep limits topology known active (set ts x paid) hard.memory (sched.paid_by limits topology tick us w (some x) (pay (some x)).timeslice)
+        pub shows_paid : WorldRep limits topology known active (set ts x paid) hard.memory (sched.paid_by limits topology tick us w (Some x) (pay (Some x)).timeslice)
         unfolding sched.paid_by paid_to pinned with_cpu
         shows_paid = shows_fields s1 x paid _ in_records_x paid_reads (paid_next r _ _) (paid_place r _ _) refl refl (s.queue_cpus x in_records_x)
 
-        pub expired_of : (pay_ticks r hard.answer (allowed_at hard.memory us limits.shortest r)).expired ≡ (pay (some x)).expired
+        pub expired_of : (pay_ticks r hard.answer (allowed_at hard.memory us limits.shortest r)).expired ≡ (pay (Some x)).expired
         expired_of = expired_pay_ticks r _ _ ∙ ap (λ (q : times.Paid). q.expired) pay_of
 
   -- ---- the time until the CPUs are balanced

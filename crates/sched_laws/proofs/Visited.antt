@@ -1,9 +1,8 @@
 -- A CPU THAT WAS PUT ON A NODE IS VISITED, so that a search of the whole tree finds a CPU.
 use Prim.Native.Nat.{ℕ, zero, suc}
-use Rattle.std.specs.Prelude.{◌≡◌, refl, ◌≢◌, true, List, [], ◌∷◌, ◌++◌, eqb}
+use Rattle.std.specs.Prelude.{◌≡◌, refl, ◌≢◌, true, List, [], ◌∷◌, ◌++◌, eqb, Some}
 use Rattle.std.proofs.Common.{◌∙◌, arith}
 use Rattle.std.proofs.lemmas.Bool.{false≢true}
-use Rattle.std.proofs.Math.Option.{some}
 use borrow.Author.Tests.{eqb-true, eqb-false, eq-eqb}
 use Rattle.rules.specs.Line.{has}
 use Rattle.rules.proofs.Laws.Line.{both, has_left, has_right}
@@ -27,7 +26,7 @@ unfolding has
 not_nobody x [] h e = false≢true h
 not_nobody x (y ∷ l) h e = let z : ◌≡◌ {A = ℕ} 0 1 = cc in omega arith
 
-module _ (limits : Limits) (t : Topology) (sound : TopologySound limits t) (c m : ℕ) (put_on : t.placed c ≡ some m) where
+module _ (limits : Limits) (t : Topology) (sound : TopologySound limits t) (c m : ℕ) (put_on : t.placed c ≡ Some m) where
   itself : (k : ℕ) → has m (upward limits t k m) ≡ true
   unfolding upward has
   itself zero = rw (eq-eqb m m refl)

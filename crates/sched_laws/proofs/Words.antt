@@ -1,10 +1,9 @@
 -- WHAT THE SCHEDULER DECIDES of words and records is what the rules decide, and each change of them is the rules'.
-use Rattle.std.specs.Prelude.{ℕ, ◌+◌, ◌≤◌, ◌<◌, ◌≡◌, Bool, cond, ◌&&◌, ◌||◌, eqb}
+use Rattle.std.specs.Prelude.{ℕ, ◌+◌, ◌≤◌, ◌<◌, ◌≡◌, Bool, cond, ◌&&◌, ◌||◌, eqb, Option, None, Some, is_some}
 use Rattle.std.proofs.Math.Path.{refl, ap, subst}
 use Rattle.std.proofs.Common.{◌∙◌, true≢false, get_or-set_same, ne_eqb, arith}
 use Rattle.std.proofs.Math.Bool.{true, false, not}
 use Rattle.std.proofs.lemmas.Bool.{false≢true}
-use Rattle.std.proofs.Math.Option.{Option, none, some}
 use mathlib.Core.List.{List}
 use Rattle.std.proofs.Math.ListN.{set, get_or-eq_default}
 use Rattle.std.proofs.Math.Seq.{set-set}
@@ -12,7 +11,7 @@ use Rattle.rules.specs.declared.Priority.{Priority}
 use Rattle.rules.proofs.Laws.Line.{both}
 use Rattle.rules.specs.Priority.{from_raw, raw, class_at, cut, nr_values, less, at_most, effective}
 use Rattle.rules.specs.Times as times
-use Rattle.rules.specs.Times.{deadline_distance, effective_priority, is_some, pinned, reset_time}
+use Rattle.rules.specs.Times.{deadline_distance, effective_priority, pinned, reset_time}
 use Rattle.rules.specs.Queue.{load, timeshare_load}
 use Rattle.rules.specs.State.{at, Limits, Topology, idle_priority, new_thread}
 use Rattle.rules.specs.Schedule as sched
@@ -70,8 +69,8 @@ active_effective t c = refl
 
 same_number : (x : ℕ) (o : Option ℕ) → x < NONE → eqb (number_or_none o) x ≡ sched.same_cpu x o
 unfolding number_or_none sched.same_cpu
-same_number x none h = ne_eqb NONE x (λ e. omega arith)
-same_number x (some y) h = refl
+same_number x None h = ne_eqb NONE x (λ e. omega arith)
+same_number x (Some y) h = refl
 
 module _ (limits : Limits) (topology : Topology) (tick us : ℕ) (known : ℕ → Bool) (numbered : (x : ℕ) → known x ≡ true → x < limits.threads) (small : Small limits)
     (early : tick ≤ most_tick) where
@@ -146,7 +145,7 @@ module _ (limits : Limits) (topology : Topology) (tick us : ℕ) (known : ℕ �
   -- ---- the thread running
 
   module _ {active : ℕ → Bool} {ts : List Thread} {cs : List (List ℕ)} {w : World} (s : WorldRep limits topology known active ts cs w) (c : ℕ) (near : c < limits.cpus)
-      (runs : (x : ℕ) → (w.cpus c).running ≡ some x → known x ≡ true) where
+      (runs : (x : ℕ) → (w.cpus c).running ≡ Some x → known x ≡ true) where
     abbrev at_work : Thread
     at_work = record_at ts (running_at cs c)
 
@@ -156,13 +155,13 @@ module _ (limits : Limits) (topology : Topology) (tick us : ℕ) (known : ℕ �
     -- the record of the thread running is that of the rules, and that of the idle thread is blank
     priority_record : (o : Option ℕ) → (w.cpus c).running ≡ o → effective_priority (reads (record_at ts (number_or_none o))) ≡ priority_running w o
     unfolding number_or_none priority_running effective_priority effective new_thread
-    priority_record none e = ap (λ (t : Thread). effective_priority (reads t)) none_blank ∙ ap effective_priority reads_blank
-    priority_record (some x) e = ap effective_priority (s.threads x (numbered x (runs x e)))
+    priority_record None e = ap (λ (t : Thread). effective_priority (reads t)) none_blank ∙ ap effective_priority reads_blank
+    priority_record (Some x) e = ap effective_priority (s.threads x (numbered x (runs x e)))
 
     critical_record : (o : Option ℕ) → (w.cpus c).running ≡ o → critical_in (record_at ts (number_or_none o)).critical ≡ critical_running w o
     unfolding number_or_none critical_running
-    critical_record none e = ap (λ (t : Thread). critical_in t.critical) none_blank ∙ critical_blank
-    critical_record (some x) e = critical_reads (record_at ts x) ∙ ap (λ (t : times.Thread). t.critical) (s.threads x (numbered x (runs x e)))
+    critical_record None e = ap (λ (t : Thread). critical_in t.critical) none_blank ∙ critical_blank
+    critical_record (Some x) e = critical_reads (record_at ts x) ∙ ap (λ (t : times.Thread). t.critical) (s.threads x (numbered x (runs x e)))
 
     pub running_is : running_at cs c ≡ number_or_none (w.cpus c).running
     unfolding running_at
@@ -250,10 +249,10 @@ module _ (limits : Limits) (topology : Topology) (tick us : ℕ) (known : ℕ �
     was = s.words us us_in
 
     -- a thread runs now
-    pub shows_ran_by : (x : ℕ) (t : Thread) → WorldRep limits topology known active ts (ran_by_def cs us x t) (with_cpu w us (with_running (w.cpus us) (some x) (effective_priority (reads t))))
-    unfolding with_running reading_of mark_in number_or_none is_some
+    pub shows_ran_by : (x : ℕ) (t : Thread) → WorldRep limits topology known active ts (ran_by_def cs us x t) (with_cpu w us (with_running (w.cpus us) (Some x) (effective_priority (reads t))))
+    unfolding with_running reading_of mark_in number_or_none
     shows_ran_by x t =
-        shows_written s us (with_running (w.cpus us) (some x) (effective_priority (reads t))) (ran_by x t) refl (record {
+        shows_written s us (with_running (w.cpus us) (Some x) (effective_priority (reads t))) (ran_by x t) refl (record {
           declared = was.declared;
           placed = was.placed;
           running = refl;
@@ -267,10 +266,10 @@ module _ (limits : Limits) (topology : Topology) (tick us : ℕ) (known : ℕ �
         })
 
     -- the idle thread runs now
-    pub shows_ran_idle : WorldRep limits topology known active ts (ran_idle_def cs us) (sched.switch_to limits topology tick us w none)
-    unfolding sched.switch_to sched.activated priority_running with_running reading_of mark_in number_or_none is_some
+    pub shows_ran_idle : WorldRep limits topology known active ts (ran_idle_def cs us) (sched.switch_to limits topology tick us w None)
+    unfolding sched.switch_to sched.activated priority_running with_running reading_of mark_in number_or_none
     shows_ran_idle =
-        shows_written s us (with_running (w.cpus us) none idle_priority) ran_idle refl (record {
+        shows_written s us (with_running (w.cpus us) None idle_priority) ran_idle refl (record {
           declared = was.declared;
           placed = was.placed;
           running = refl;
@@ -286,13 +285,13 @@ module _ (limits : Limits) (topology : Topology) (tick us : ℕ) (known : ℕ �
   -- `switch_to` a thread: its record, and the words of the CPU
   pub shows_switched : {active : ℕ → Bool} {ts : List Thread} {cs : List (List ℕ)} {w : World} (s : WorldRep limits topology known active ts cs w) (us_in : us < limits.cpus) (x : ℕ) → x < limits.threads
       → (let t = moving_to_active (record_at ts x) us in
-      WorldRep limits topology known active (set ts x t) (ran_by_def cs us x t) (sched.switch_to limits topology tick us w (some x)))
+      WorldRep limits topology known active (set ts x t) (ran_by_def cs us x t) (sched.switch_to limits topology tick us w (Some x)))
   unfolding sched.switch_to sched.activated priority_running with_cpu moving_to_active with_queue with_last times.moving_to_active pinned Under
   shows_switched {active} {ts} {cs} {w} s us_in x h =
       let t : Thread = moving_to_active (record_at ts x) us in
       let r : reads t ≡ times.moving_to_active (w.threads x) us =
       reads_moving_to_active (record_at ts x) us (omega (arith, small.cpus)) ∙ ap (λ (u : times.Thread). times.moving_to_active u us) (s.threads x h) in
       let e : effective_priority (reads t) ≡ effective_priority (w.threads x) = ap effective_priority r ∙ active_effective (w.threads x) us in
-      let first : WorldRep limits topology known active ts (ran_by_def cs us x t) (with_cpu w us (with_running (w.cpus us) (some x) (effective_priority (w.threads x)))) =
-      subst (λ (p : Priority). WorldRep limits topology known active ts (ran_by_def cs us x t) (with_cpu w us (with_running (w.cpus us) (some x) p))) e (shows_ran_by s us_in x t) in
+      let first : WorldRep limits topology known active ts (ran_by_def cs us x t) (with_cpu w us (with_running (w.cpus us) (Some x) (effective_priority (w.threads x)))) =
+      subst (λ (p : Priority). WorldRep limits topology known active ts (ran_by_def cs us x t) (with_cpu w us (with_running (w.cpus us) (Some x) p))) e (shows_ran_by s us_in x t) in
       shows_fields first x t _ h r refl refl refl refl tt

@@ -1,9 +1,10 @@
 -- `do_schedule` AND `schedule` OVER RECORDS AND WORDS ARE THE RULES'.
-use Rattle.std.specs.Prelude.{Bool, true, false}
-use Rattle.rules.specs.Choice.{Best, none_yet, best}
+use Rattle.std.specs.Prelude.{Bool, true, false, Option, None, Some}
+use Rattle.rules.specs.declared.choice.Best.{Best}
+use Rattle.rules.specs.Choice.{best_at}
 
 -- ---- a choice finds a CPU where there is one
 
-unfoldable pub is_found : Best → Bool
-is_found none_yet = false
-is_found (best s c) = true
+unfoldable pub is_found : Option Best → Bool
+is_found None = false
+is_found (Some b) = true

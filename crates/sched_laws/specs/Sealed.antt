@@ -1,6 +1,5 @@
 -- ONCE SEALED, EVERY DECLARED CPU IS ON A NODE, whatever calls are made.
-use Rattle.std.specs.Prelude.{ℕ, ◌<◌, ◌≡◌, true}
-use Rattle.rules.specs.Times.{is_some}
+use Rattle.std.specs.Prelude.{ℕ, ◌<◌, ◌≡◌, true, is_some}
 use Rattle.rules.specs.State.{State}
 
 -- what is asked of a sealed topology

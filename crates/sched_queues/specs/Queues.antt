@@ -1,26 +1,14 @@
 -- Threads go into queues and come out of them: puts, takes, steals.
-use Rattle.std.specs.Prelude.{ℕ, Bool, true, false, cond, not, List, set, eqb}
+use Rattle.std.specs.Prelude.{ℕ, Bool, true, false, cond, not, List, set, eqb, Option, Some, None, is_none, unwrap_or}
 use Rattle.thread.specs.declared.Thread.{Thread}
 use Rattle.thread.specs.Thread.{NONE, BLOCKED, with_place}
 use Rattle.thread.specs.Time.{moving_to_queue}
-use Rattle.records.specs.declared.rq.Taken.{Taken}
-use Rattle.records.specs.declared.rq.Taken.TheVariants as taken
 use Rattle.records.specs.Left.{Words, Memory, Left}
 use Rattle.records.specs.Rq.{record_at, insert_def, take_def}
 use Rattle.sched_words.specs.Signal.{signal}
 use Rattle.sched_words.specs.Time.{moved_to, should_signal_def}
-use Rattle.sched_words.specs.Option.{is_none, cpu_of_def}
 use Rattle.sched_words.specs.Choose.{steal_from_def}
 use Rattle.sched_words.specs.declared.context.Context.{Context}
-
-unfoldable pub is_nobody : Taken → Bool
-is_nobody (taken.Thread x) = false
-is_nobody taken.Nobody = true
-
--- the thread that was handed out
-unfoldable pub thread_of : Taken → ℕ
-thread_of (taken.Thread x) = x
-thread_of taken.Nobody = NONE
 
 -- the memory when thread x is about to go into the queue of CPU c: its queue's processor and its times are set
 unfoldable pub moved_in : Context → ℕ → ℕ → Memory → Memory
@@ -41,23 +29,23 @@ unfoldable pub block_def : ℕ → List Thread → List Thread
 block_def x ts = set ts x (with_place (record_at ts x) BLOCKED)
 
 -- a thread taken for CPU d
-unfoldable pub moved_for_def : ℕ → Left Taken Memory → Left Taken Memory
+unfoldable pub moved_for_def : ℕ → Left (Option ℕ) Memory → Left (Option ℕ) Memory
 moved_for_def d g =
-    cond (is_nobody g.answer) g
+    cond (is_none g.answer) g
     (record {
       answer = g.answer;
       memory = record {
-        threads = set g.memory.threads (thread_of g.answer) (moving_to_queue (record_at g.memory.threads (thread_of g.answer)) d);
+        threads = set g.memory.threads (unwrap_or g.answer NONE) (moving_to_queue (record_at g.memory.threads (unwrap_or g.answer NONE)) d);
         cpus = g.memory.cpus;
       };
     })
 
 -- `take_a_thread_from_cpu`: of the queue of CPU c, for CPU d
-unfoldable pub take_from : ℕ → ℕ → Memory → Left Taken Memory
+unfoldable pub take_from : ℕ → ℕ → Memory → Left (Option ℕ) Memory
 take_from c d m = moved_for_def d (take_def c (not (eqb d c)) m)
 
 -- `try_steal`
-unfoldable pub try_steal_def : Context → Words → Memory → Left Taken Memory
+unfoldable pub try_steal_def : Context → Words → Memory → Left (Option ℕ) Memory
 try_steal_def k ns m =
-    cond (is_none (steal_from_def m.cpus ns k.us k.limit)) (record { answer = taken.Nobody; memory = m })
-    (take_from (cpu_of_def (steal_from_def m.cpus ns k.us k.limit)) k.us m)
+    cond (is_none (steal_from_def m.cpus ns k.us k.limit)) (record { answer = None; memory = m })
+    (take_from (unwrap_or (steal_from_def m.cpus ns k.us k.limit) NONE) k.us m)

@@ -19,10 +19,8 @@ pub fn donate_priority(
 ) -> u64
     ensures { LeavesOne (donate_priority_def us x pri wakeups cpus.now) result threads }
 {
-    let t = get(threads, x);
-    let d = t.donate_priority(pri);
-    let u = d.thread;
-    set(threads, x, u);
+    let d = get(threads, x).donate_priority(pri);
+    set(threads, x, d.thread);
     signal_donation(cpus, us, x, d, wakeups)
 }
 
@@ -31,8 +29,7 @@ pub fn remove_donated_priority(threads: &mut [Thread], x: u64)
     ensures { BecomesOne (remove_donated x) threads }
 {
     let t = get(threads, x);
-    let u = t.remove_donated_priority();
-    set(threads, x, u);
+    set(threads, x, t.remove_donated_priority());
 }
 
 #[tactic(auto, unfolding(crate::specs::Donate::set_critical_def))]
@@ -40,6 +37,5 @@ pub fn set_critical(threads: &mut [Thread], x: u64, mark: u64)
     ensures { BecomesOne (set_critical_def x mark) threads }
 {
     let t = get(threads, x);
-    let u = t.set_critical(mark);
-    set(threads, x, u);
+    set(threads, x, t.set_critical(mark));
 }

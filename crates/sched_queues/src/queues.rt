@@ -2,52 +2,24 @@
 ghost use Rattle.std.specs.Prelude.{◌≡◌, eqb};
 ghost use Rattle.thread.specs.Thread.{NONE};
 ghost use Rattle.records.specs.Left.{BecomesOne, Leaves, LeavesOver};
-ghost use Rattle.records.specs.declared.rq.Taken.TheVariants as taken;
-ghost use Rattle.sched_queues.specs.Queues.{is_nobody, thread_of, schedule_thread_on_cpu_def, wake_def, block_def, take_from, try_steal_def};
+ghost use Rattle.sched_queues.specs.Queues.{schedule_thread_on_cpu_def, wake_def, block_def, take_from, try_steal_def};
 
 use processor::words::CpuWords;
 use records::record::{get, set};
-use records::rq::{Taken, insert, take};
+use records::rq::{insert, take};
 use sched_words::choose::steal_from;
 use sched_words::context::Context;
-use sched_words::option::{cpu_of, is_none};
 use sched_words::signal::signal;
 use sched_words::time::{moved_to, should_signal};
+use thread::place::Place;
 use thread::{NONE, Thread};
 use topology::words::NodeWords;
-
-#[tactic(auto, unfolding(crate::specs::Queues::is_nobody))]
-pub fn is_nobody(t: Taken) -> bool
-    ensures { result ≡ is_nobody t }
-{
-    match t {
-        Taken::Thread(_) => false,
-        Taken::Nobody => true,
-    }
-}
-
-// The thread that was handed out.
-#[tactic(auto, unfolding(crate::specs::Queues::thread_of))]
-pub fn thread_of(t: Taken) -> u64
-    ensures { result ≡ thread_of t }
-{
-    match t {
-        Taken::Thread(x) => x,
-        Taken::Nobody => NONE,
-    }
-}
 
 // Is the thread running, cur, the idle thread?
 pub fn is_idle(cur: u64) -> bool
     ensures { result ≡ eqb cur NONE }
 {
     cur == NONE
-}
-
-pub fn nobody() -> Taken
-    ensures { result ≡ taken.Nobody }
-{
-    Taken::Nobody
 }
 
 // Thread x goes into the queue of CPU c.
@@ -62,15 +34,11 @@ pub fn schedule_thread_on_cpu(
 ) -> u64
     ensures { Leaves (schedule_thread_on_cpu_def k c x wakeups) result threads cpus }
 {
-    let us = k.us;
-    let tick = k.tick;
-    let shortest = k.shortest;
     let t = get(threads, x);
-    let due = should_signal(cpus, us, c, t);
-    let u = moved_to(cpus, c, tick, shortest, t);
-    set(threads, x, u);
-    insert(threads, cpus, c, x, tick, false);
-    signal(wakeups, us, c, due)
+    let due = should_signal(cpus, k.us, c, t);
+    set(threads, x, moved_to(cpus, k, c, t));
+    insert(threads, cpus, c, x, k.tick, false);
+    signal(wakeups, k.us, c, due)
 }
 
 // A blocked thread goes into the queue of CPU c. It and `block` alone change a place from or to blocked.
@@ -94,8 +62,7 @@ pub fn block(threads: &mut [Thread], x: u64)
     ensures { BecomesOne (block_def x) threads }
 {
     let t = get(threads, x);
-    let u = t.blocked();
-    set(threads, x, u);
+    set(threads, x, t.with_place(Place::Blocked));
 }
 
 // A thread is asked of the queue of CPU c, for CPU d.
@@ -105,19 +72,13 @@ pub fn take_a_thread_from_cpu(
     cpus: &mut [CpuWords],
     c: u64,
     d: u64,
-) -> Taken
+) -> Option<u64>
     ensures { Leaves (take_from c d) result threads cpus }
 {
-    let stealing = d != c;
-    let taken = take(threads, cpus, c, stealing);
-    if is_nobody(taken) {
-        return taken;
-    }
-    let x = thread_of(taken);
+    let x = take(threads, cpus, c, d != c)?;
     let t = get(threads, x);
-    let u = t.moving_to_queue(d);
-    set(threads, x, u);
-    taken
+    set(threads, x, t.moving_to_queue(d));
+    Some(x)
 }
 
 #[tactic(auto, unfolding(crate::specs::Queues::try_steal_def))]
@@ -126,15 +87,9 @@ pub fn try_steal(
     cpus: &mut [CpuWords],
     nodes: &[NodeWords],
     k: Context,
-) -> Taken
+) -> Option<u64>
     ensures { LeavesOver (try_steal_def k) result threads cpus nodes }
 {
-    let us = k.us;
-    let limit = k.limit;
-    let from = steal_from(cpus, nodes, us, limit);
-    if is_none(from) {
-        return nobody();
-    }
-    let c = cpu_of(from);
-    take_a_thread_from_cpu(threads, cpus, c, us)
+    let c = steal_from(cpus, nodes, k)?;
+    take_a_thread_from_cpu(threads, cpus, c, k.us)
 }

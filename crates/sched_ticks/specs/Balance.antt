@@ -1,23 +1,28 @@
 -- `balance` and the stat tick.
-use Rattle.std.specs.Prelude.{ℕ, cond, not}
-use Rattle.records.specs.declared.rq.Taken.{Taken}
+use Rattle.std.specs.Prelude.{ℕ, cond, Option, Some, None, is_none, unwrap_or}
+use Rattle.thread.specs.Thread.{NONE}
+use Rattle.rules.specs.declared.choice.Pair.{Pair}
 use Rattle.records.specs.Left.{Words, Memory, Left}
 use Rattle.records.specs.Rq.{clock_def}
 use Rattle.sched_words.specs.declared.balance.Balancing.{Balancing}
 use Rattle.sched_words.specs.Balance.{Balanced, begun, moved, find_move}
 use Rattle.sched_words.specs.Rebalance.{rebalance_due}
 use Rattle.sched_words.specs.declared.context.Context.{Context}
-use Rattle.sched_queues.specs.Queues.{is_nobody, thread_of, schedule_thread_on_cpu_def, take_from}
+use Rattle.sched_queues.specs.Queues.{schedule_thread_on_cpu_def, take_from}
 
 -- a thread taken for the recipient goes into its queue
-unfoldable pub received : Context → ℕ → ℕ → Left Taken Memory → Left ℕ Memory
+unfoldable pub received : Context → ℕ → ℕ → Left (Option ℕ) Memory → Left ℕ Memory
 received k recipient wakeups g =
-    cond (is_nobody g.answer) (record { answer = wakeups; memory = g.memory })
-    (schedule_thread_on_cpu_def k recipient (thread_of g.answer) wakeups g.memory)
+    cond (is_none g.answer) (record { answer = wakeups; memory = g.memory })
+    (schedule_thread_on_cpu_def k recipient (unwrap_or g.answer NONE) wakeups g.memory)
 
 -- the move that the choices came to, if any
-unfoldable pub move_one_def : Context → Balancing → ℕ → Memory → Left ℕ Memory
-move_one_def k b wakeups m = cond (not b.moves) (record { answer = wakeups; memory = m }) (received k b.recipient wakeups (take_from b.donor b.recipient m))
+unfoldable pub move_made : Context → Option Pair → ℕ → Memory → Left ℕ Memory
+move_made k None wakeups m = record { answer = wakeups; memory = m }
+move_made k (Some p) wakeups m = received k p.recipient wakeups (take_from p.donor p.recipient m)
+
+abbrev pub move_one_def : Context → Balancing → ℕ → Memory → Left ℕ Memory
+move_one_def k b wakeups m = move_made k b.moves wakeups m
 
 -- choices, and the move that they came to
 abbrev pub found : Context → Balancing → Words → Words → Balanced

@@ -17,30 +17,24 @@ use thread::Thread;
 pub fn schedule_hardtick(threads: &mut [Thread], cpus: &mut [CpuWords], k: Context)
     ensures { Becomes (schedule_hardtick_def k) threads cpus }
 {
-    let us = k.us;
-    let tick = k.tick;
-    let shortest = k.shortest;
-    let cur = running(cpus, us);
+    let cur = running(cpus, k.us);
     let t = get(threads, cur);
-    let resched = needs_reschedule(cpus, us, t, true);
-    let ticks = hardtick(cpus, us, tick);
-    if is_idle(cur) {
-        let expired = pay_idle(cpus, us, shortest, ticks);
-        expire(cpus, us, resched, expired);
-        return;
-    }
-    let paid = pay(cpus, us, shortest, t, ticks);
-    let u = paid.thread;
-    let expired = paid.expired;
-    set(threads, cur, u);
-    expire(cpus, us, resched, expired);
+    let resched = needs_reschedule(cpus, k.us, t, true);
+    let ticks = hardtick(cpus, k.us, k.tick);
+    let expired = if is_idle(cur) {
+        pay_idle(cpus, k, ticks)
+    } else {
+        let paid = pay(cpus, k, t, ticks);
+        set(threads, cur, paid.thread);
+        paid.expired
+    };
+    expire(cpus, k.us, resched, expired);
 }
 
 #[tactic(auto, unfolding(crate::specs::Ticks::schedule_resched_def))]
 pub fn schedule_resched(threads: &[Thread], cpus: &mut [CpuWords], us: u64)
     ensures { BecomesOne (schedule_resched_def us threads.now) cpus }
 {
-    let cur = running(cpus, us);
-    let t = get(threads, cur);
+    let t = get(threads, running(cpus, us));
     resched(cpus, us, t);
 }

@@ -1,12 +1,9 @@
 -- The choices of `balance`: until one moves a thread, twenty steps are made, or a donor has no load.
-use Rattle.std.specs.Prelude.{◌≡◌, ℕ, zero, suc, ◌-◌, ◌<◌, Bool, true, false, cond, not, ◌||◌, List, length, ◌==◌, nat_le, nat_lt, refl}
-use Rattle.std.proofs.Common.{ap, ◌∙◌, arith}
+use Rattle.std.specs.Prelude.{◌≡◌, ℕ, zero, suc, ◌-◌, ◌<◌, Bool, true, false, cond, not, ◌||◌, List, length, ◌==◌, nat_le, nat_lt, refl, Option, None, Some, is_some}
+use Rattle.std.proofs.Common.{◌∙◌, arith}
 use Rattle.rules.proofs.Laws.Line.{both}
-use Rattle.rules.specs.Choice as rule
-use Rattle.rules.specs.Choice.{choose_cpu_balance}
+use Rattle.rules.specs.Choice.{pair_at, choose_cpu_balance}
 use Rattle.queue.specs.Num.{sum}
-use Rattle.runqueue.specs.declared.rq.Front.{Front}
-use Rattle.runqueue.specs.declared.rq.Front.TheVariants as front
 use Rattle.runqueue.specs.RunQueue.{rq_front}
 use Rattle.processor.specs.Words.{word, put_word}
 use Rattle.processor.proofs.Laws.Words.{length_put}
@@ -14,11 +11,9 @@ use Rattle.processor.specs.Queue.{queue_at}
 use Rattle.processor.specs.Cpu.{current_load}
 use Rattle.topology.specs.CpuSet as set
 use Rattle.topology.specs.Walk.{cpus_at}
-use Rattle.choice.specs.declared.balance.Chosen.{Chosen}
-use Rattle.choice.specs.declared.balance.Pair.{Pair}
-use Rattle.choice.specs.declared.balance.Pair.TheVariants as pair
+use Rattle.rules.specs.declared.choice.Chosen.{Chosen}
+use Rattle.rules.specs.declared.choice.Pair.{Pair}
 use Rattle.choice.specs.Reads.{weight_at}
-use Rattle.choice.specs.Balance.{pair_in, chosen_in}
 use Rattle.sched_words.specs.declared.balance.Balancing.{Balancing}
 use Rattle.processor.specs.Word.{LOAD, RAND_STATE, MUST_REBALANCE}
 
@@ -32,51 +27,32 @@ abbrev pub max_steps : ℕ
 max_steps = 20
 
 unfoldable pub begun : Balancing
-begun = record { allowed = set.all; steps = 0; goes_on = true; moves = false; donor = 0; recipient = 0 }
+begun = record { allowed = set.all; steps = 0; goes_on = true; moves = None }
 
 -- the move was made
 unfoldable pub moved : Balancing → Balancing
-moved b = record { allowed = b.allowed; steps = b.steps; goes_on = b.goes_on; moves = false; donor = b.donor; recipient = b.recipient }
+moved b = record b { moves = None }
 
 unfoldable pub passed : Balancing → Balancing
-passed b =
-    record { allowed = b.allowed; steps = sum b.steps 1; goes_on = b.goes_on; moves = b.moves; donor = b.donor; recipient = b.recipient }
+passed b = record b { steps = sum b.steps 1 }
 
 unfoldable pub stopped : Balancing → Balancing
-stopped b = record { allowed = b.allowed; steps = b.steps; goes_on = false; moves = b.moves; donor = b.donor; recipient = b.recipient }
+stopped b = record b { goes_on = false }
 
 -- a choice after which CPU c is no longer allowed
 unfoldable pub without : Balancing → ℕ → Balancing
-without b c = record {
-  allowed = set.remove b.allowed c;
-  steps = sum b.steps 1;
-  goes_on = b.goes_on;
-  moves = b.moves;
-  donor = b.donor;
-  recipient = b.recipient;
-}
+without b c = record b { allowed = set.remove b.allowed c; steps = sum b.steps 1 }
 
 -- a choice that moves a thread; the recipient leaves the allowed set
 unfoldable pub moving : Balancing → ℕ → ℕ → Balancing
-moving b donor recipient = record {
-  allowed = set.remove b.allowed recipient;
-  steps = sum b.steps 11;
-  goes_on = b.goes_on;
-  moves = true;
-  donor = donor;
-  recipient = recipient;
-}
+moving b donor recipient = record b { allowed = set.remove b.allowed recipient; steps = sum b.steps 11; moves = pair_at donor recipient }
 
 unfoldable pub is_done : Balancing → Bool
-is_done b = b.moves || (not b.goes_on || nat_le max_steps b.steps)
-
-unfoldable pub is_somebody : Front → Bool
-is_somebody (front.At p b x) = true
-is_somebody front.Nothing = false
+is_done b = is_some b.moves || (not b.goes_on || nat_le max_steps b.steps)
 
 -- the queue of the donor hands out a thread to the recipient
 unfoldable pub hands_out : List (List ℕ) → ℕ → ℕ → Bool
-hands_out cs donor recipient = is_somebody (rq_front (queue_at cs donor) (not (recipient == donor)))
+hands_out cs donor recipient = is_some (rq_front (queue_at cs donor) (not (recipient == donor)))
 
 -- load and waiting are of the donor, the running thread counted in the first
 unfoldable pub outcome : Balancing → ℕ → ℕ → ℕ → ℕ → Bool → Balancing
@@ -92,12 +68,12 @@ pair_step cs b donor recipient =
       cpus = put_word cs donor MUST_REBALANCE 1;
     })
 
-unfoldable pub pair_of_def : List (List ℕ) → Balancing → rule.Pair → Balanced
-pair_of_def cs b rule.no_pair = record { balancing = passed b; cpus = cs }
-pair_of_def cs b (rule.pair donor recipient) = pair_step cs b donor recipient
+unfoldable pub pair_of_def : List (List ℕ) → Balancing → Option Pair → Balanced
+pair_of_def cs b None = record { balancing = passed b; cpus = cs }
+pair_of_def cs b (Some p) = pair_step cs b p.donor p.recipient
 
 -- one choice, with its draws
-unfoldable pub chosen_at : List (List ℕ) → List (List ℕ) → ℕ → ℕ → Balancing → rule.Chosen
+unfoldable pub chosen_at : List (List ℕ) → List (List ℕ) → ℕ → ℕ → Balancing → Chosen
 chosen_at cs ns us limit b = choose_cpu_balance us (set.contains b.allowed) (weight_at cs) (cpus_at ns limit 0) (word cs us RAND_STATE)
 
 unfoldable pub balance_step_def : List (List ℕ) → List (List ℕ) → ℕ → ℕ → Balancing → Balanced
@@ -134,29 +110,12 @@ unfolding pair_step
 length_pair cs b donor recipient =
     both (current_load cs donor == 0) (λ e. rw e) (λ e. rw e (length_put cs donor MUST_REBALANCE 1))
 
-length_of : (cs : List (List ℕ)) (b : Balancing) (p : rule.Pair) → length (pair_of_def cs b p).cpus ≡ length cs
+length_of : (cs : List (List ℕ)) (b : Balancing) (p : Option Pair) → length (pair_of_def cs b p).cpus ≡ length cs
 unfolding pair_of_def
-length_of cs b rule.no_pair = refl
-length_of cs b (rule.pair donor recipient) = length_pair cs b donor recipient
+length_of cs b None = refl
+length_of cs b (Some p) = length_pair cs b p.donor p.recipient
 
 -- a choice keeps the number of CPUs
 pub length_step : (cs ns : List (List ℕ)) (us limit : ℕ) (b : Balancing) → length (balance_step_def cs ns us limit b).cpus ≡ length cs
 unfolding balance_step_def
 length_step cs ns us limit b = length_of _ b (chosen_at cs ns us limit b).found ∙ length_put cs us RAND_STATE (chosen_at cs ns us limit b).draws
-
--- what `choose_cpu_balance` answers, and what comes of it
-module _ (cs ns : List (List ℕ)) (us limit : ℕ) (b : Balancing) (r : Chosen) (draws : ℕ) (drawn : draws ≡ word cs us RAND_STATE)
-    (answered : chosen_in r ≡ choose_cpu_balance us (set.contains b.allowed) (weight_at cs) (cpus_at ns limit 0) draws) where
-  step_is : (p : Pair) → r.found ≡ p → pair_of_def (put_word cs us RAND_STATE r.draws) b (pair_in p) ≡ balance_step_def cs ns us limit b
-  unfolding balance_step_def chosen_at chosen_in
-  step_is p e = rw (← drawn, ← answered, ← e)
-
-  pub step_nothing : (after : List (List ℕ)) → r.found ≡ pair.Nothing → after ≡ put_word cs us RAND_STATE r.draws
-      → record { balancing = passed b; cpus = after } ≡ balance_step_def cs ns us limit b
-  unfolding pair_of_def pair_in
-  step_nothing after e h = rw h (step_is pair.Nothing e)
-
-  pub step_cpus : (after : List (List ℕ)) (donor recipient : ℕ) → r.found ≡ pair.Cpus donor recipient → after ≡ put_word cs us RAND_STATE r.draws
-      → pair_step after b donor recipient ≡ balance_step_def cs ns us limit b
-  unfolding pair_of_def pair_in
-  step_cpus after donor recipient e h = rw h (step_is (pair.Cpus donor recipient) e)

@@ -1,43 +1,41 @@
 -- The CPU for a thread whose record is given, and the CPU from which to steal.
-use Rattle.std.specs.Prelude.{ℕ, Bool, true, false, cond, List}
+use Rattle.std.specs.Prelude.{ℕ, cond, List, Option, Some, None}
 use Rattle.rules.specs.Times.{effective_priority}
 use Rattle.rules.specs.Choice.{may_steal_from, first_that}
 use Rattle.thread.specs.declared.Thread.{Thread}
-use Rattle.thread.specs.declared.time.OptionCpu.{OptionCpu}
-use Rattle.thread.specs.declared.time.OptionCpu.TheVariants as cpu
 use Rattle.thread.specs.declared.time.Preferred.{Preferred}
 use Rattle.thread.specs.declared.time.Preferred.TheVariants as preferred
-use Rattle.thread.specs.Reads.{named, reads}
+use Rattle.thread.specs.Reads.{reads}
 use Rattle.thread.specs.Time.{preferred_cpu}
 use Rattle.processor.specs.Words.{word}
 use Rattle.topology.specs.Walk.{nearest_at}
-use Rattle.choice.specs.Reads.{load_at, movable_at, as_cpu}
+use Rattle.choice.specs.Reads.{load_at, movable_at}
 use Rattle.choice.specs.Select.{select_cpu, after_select}
 use Rattle.processor.specs.Word.{PLACED}
 use Rattle.sched_words.specs.Running.{must_rebalance_def}
 
 -- a CPU that was chosen, if any, and the words of the CPUs after the draws
 pub record Chosen : Type 0 where
-  pub chosen : OptionCpu
+  pub chosen : Option ℕ
   pub cpus : List (List ℕ)
 
-unfoldable pub preferred_of_def : Preferred → OptionCpu
-preferred_of_def (preferred.Pinned c) = cpu.Some c
-preferred_of_def (preferred.Last c) = cpu.Some c
-preferred_of_def preferred.None = cpu.None
+unfoldable pub preferred_of_def : Option Preferred → Option ℕ
+preferred_of_def (Some (preferred.Pinned c)) = Some c
+preferred_of_def (Some (preferred.Last c)) = Some c
+preferred_of_def None = None
 
-unfoldable pub select_for : List (List ℕ) → List (List ℕ) → ℕ → ℕ → Thread → OptionCpu → OptionCpu
-select_for cs ns us limit t avoid = as_cpu (select_cpu cs ns us limit (named (preferred_of_def (preferred_cpu t))) (effective_priority (reads t)) (named avoid))
+unfoldable pub select_for : List (List ℕ) → List (List ℕ) → ℕ → ℕ → Thread → Option ℕ → Option ℕ
+select_for cs ns us limit t avoid = (select_cpu cs ns us limit (preferred_of_def (preferred_cpu t)) (effective_priority (reads t)) avoid)
 
-unfoldable pub selected_for : List (List ℕ) → List (List ℕ) → ℕ → ℕ → Thread → OptionCpu → List (List ℕ)
-selected_for cs ns us limit t avoid = after_select cs ns us limit (named (preferred_of_def (preferred_cpu t))) (effective_priority (reads t)) (named avoid)
+unfoldable pub selected_for : List (List ℕ) → List (List ℕ) → ℕ → ℕ → Thread → Option ℕ → List (List ℕ)
+selected_for cs ns us limit t avoid = after_select cs ns us limit (preferred_of_def (preferred_cpu t)) (effective_priority (reads t)) avoid
 
 -- where the thread running goes back into a queue: another CPU if this one must rebalance
 unfoldable pub reinsert_at_def : List (List ℕ) → List (List ℕ) → ℕ → ℕ → Thread → Chosen
 reinsert_at_def cs ns us limit t =
     cond (must_rebalance_def cs us)
-    (record { chosen = select_for cs ns us limit t (cpu.Some us); cpus = selected_for cs ns us limit t (cpu.Some us) })
-    (record { chosen = cpu.Some us; cpus = cs })
+    (record { chosen = select_for cs ns us limit t (Some us); cpus = selected_for cs ns us limit t (Some us) })
+    (record { chosen = Some us; cpus = cs })
 
-unfoldable pub steal_from_def : List (List ℕ) → List (List ℕ) → ℕ → ℕ → OptionCpu
-steal_from_def cs ns us limit = as_cpu (first_that (may_steal_from us (load_at cs) (movable_at cs)) (nearest_at ns limit (word cs us PLACED)))
+unfoldable pub steal_from_def : List (List ℕ) → List (List ℕ) → ℕ → ℕ → Option ℕ
+steal_from_def cs ns us limit = (first_that (may_steal_from us (load_at cs) (movable_at cs)) (nearest_at ns limit (word cs us PLACED)))

@@ -1,11 +1,9 @@
 -- Whom a donation signals.
-use Rattle.std.specs.Prelude.{ℕ, Bool, cond, not, ◌&&◌, List, ◌==◌}
+use Rattle.std.specs.Prelude.{ℕ, Bool, cond, not, ◌&&◌, List, ◌==◌, Option, Some, None}
 use Rattle.rules.specs.Priority.{from_raw, less}
 use Rattle.rules.specs.Times.{effective_priority}
 use Rattle.thread.specs.declared.Thread.{Thread}
 use Rattle.thread.specs.declared.priority.Donation.{Donation}
-use Rattle.thread.specs.declared.time.OptionCpu.{OptionCpu}
-use Rattle.thread.specs.declared.time.OptionCpu.TheVariants as cpu
 use Rattle.thread.specs.Reads.{reads, cpu_in}
 use Rattle.runqueue.specs.RunQueue.{rq_empty}
 use Rattle.processor.specs.Queue.{queue_at}
@@ -20,9 +18,9 @@ unfoldable pub woken_in : List (List ℕ) → ℕ → ℕ → Thread → ℕ →
 woken_in cs us c t wakeups = signal wakeups us c (wakeup_due cs c t)
 
 -- the CPU in whose queue the thread was put is signalled, if there is one
-unfoldable pub maybe_reschedule : List (List ℕ) → ℕ → Thread → ℕ → OptionCpu → ℕ
-maybe_reschedule cs us t wakeups (cpu.Some c) = woken_in cs us c t wakeups
-maybe_reschedule cs us t wakeups cpu.None = wakeups
+unfoldable pub maybe_reschedule : List (List ℕ) → ℕ → Thread → ℕ → Option ℕ → ℕ
+maybe_reschedule cs us t wakeups (Some c) = woken_in cs us c t wakeups
+maybe_reschedule cs us t wakeups None = wakeups
 
 -- nobody is signalled if the donation does not raise the thread, or the thread runs on CPU us itself
 unfoldable pub donation_signals : List (List ℕ) → ℕ → ℕ → Donation → ℕ → ℕ

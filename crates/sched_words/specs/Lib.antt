@@ -1,7 +1,6 @@
 pub mod Balance
 pub mod Choose
 pub mod Donate
-pub mod Option
 pub mod Preempt
 pub mod Rebalance
 pub mod Running

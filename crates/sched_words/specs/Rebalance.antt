@@ -1,5 +1,5 @@
 -- When the boot CPU balances.
-use Rattle.std.specs.Prelude.{ℕ, ◌+◌, ◌-◌, ◌%◌, Bool, true, false, cond, List, ◌==◌, nat_lt}
+use Rattle.std.specs.Prelude.{ℕ, ◌+◌, ◌-◌, ◌%◌, true, false, cond, List, ◌==◌, nat_lt}
 use Rattle.rules.specs.Draw.{next_state, draw}
 use Rattle.processor.specs.Words.{word, put_word}
 use Rattle.processor.specs.Word.{RAND_STATE, CUR_REBALANCE_TIME}

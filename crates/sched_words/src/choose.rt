@@ -2,67 +2,59 @@
 ghost use Rattle.std.specs.Prelude.{◌≡◌};
 ghost use Rattle.sched_words.specs.Choose.{preferred_of_def, select_for, selected_for, reinsert_at_def, steal_from_def};
 
+use crate::context::Context;
 use crate::running::must_rebalance;
 use choice::select::select_cpu;
 use choice::steal::choose_cpu_steal_via_topo;
 use processor::words::{CpuWords, PLACED, word};
 use thread::Thread;
-use thread::time::{OptionCpu, Preferred};
+use thread::time::Preferred;
 use topology::words::NodeWords;
 
 #[tactic(auto, unfolding(crate::specs::Choose::preferred_of_def))]
-pub fn preferred_of(p: Preferred) -> OptionCpu
+pub fn preferred_of(p: Option<Preferred>) -> Option<u64>
     ensures { result ≡ preferred_of_def p }
 {
-    match p {
-        Preferred::Pinned(c) => OptionCpu::Some(c),
-        Preferred::Last(c) => OptionCpu::Some(c),
-        Preferred::None => OptionCpu::None,
+    match p? {
+        Preferred::Pinned(c) | Preferred::Last(c) => Some(c),
     }
 }
 
-// `select_cpu` for the thread; its draws are those of CPU us.
+// `select_cpu` for the thread; its draws are those of the own CPU.
 #[tactic(auto, unfolding(crate::specs::Choose::select_for, crate::specs::Choose::selected_for))]
 pub fn select_for(
     cpus: &mut [CpuWords],
     nodes: &[NodeWords],
-    us: u64,
-    limit: u64,
+    k: Context,
     t: Thread,
-    avoid: OptionCpu,
-) -> OptionCpu
-    ensures { (result ≡ select_for cpus.old nodes.now us limit t avoid)
-        × (cpus.new ≡ selected_for cpus.old nodes.now us limit t avoid) }
+    avoid: Option<u64>,
+) -> Option<u64>
+    ensures { (result ≡ select_for cpus.old nodes.now k.us k.limit t avoid)
+        × (cpus.new ≡ selected_for cpus.old nodes.now k.us k.limit t avoid) }
 {
-    let p = t.preferred_cpu();
-    let preferred = preferred_of(p);
+    let preferred = preferred_of(t.preferred_cpu());
     let pri = t.effective_priority();
-    select_cpu(cpus, nodes, us, limit, preferred, pri, avoid)
+    select_cpu(cpus, nodes, k.us, k.limit, preferred, pri, avoid)
 }
 
 // Where the thread running goes back into a queue: another CPU if this one must rebalance.
 #[tactic(auto, unfolding(crate::specs::Choose::reinsert_at_def))]
-pub fn reinsert_at(
-    cpus: &mut [CpuWords],
-    nodes: &[NodeWords],
-    us: u64,
-    limit: u64,
-    t: Thread,
-) -> OptionCpu
-    ensures { (result ≡ (reinsert_at_def cpus.old nodes.now us limit t).chosen)
-        × (cpus.new ≡ (reinsert_at_def cpus.old nodes.now us limit t).cpus) }
+pub fn reinsert_at(cpus: &mut [CpuWords], nodes: &[NodeWords], k: Context, t: Thread) -> Option<u64>
+    ensures { (result ≡ (reinsert_at_def cpus.old nodes.now k.us k.limit t).chosen)
+        × (cpus.new ≡ (reinsert_at_def cpus.old nodes.now k.us k.limit t).cpus) }
 {
-    if must_rebalance(cpus, us) {
-        return select_for(cpus, nodes, us, limit, t, OptionCpu::Some(us));
+    if must_rebalance(cpus, k.us) {
+        select_for(cpus, nodes, k, t, Some(k.us))
+    } else {
+        Some(k.us)
     }
-    OptionCpu::Some(us)
 }
 
-// The CPU from which CPU us steals, looking from its own node upward.
+// The CPU from which the own CPU steals, looking from its own node upward.
 #[tactic(auto, unfolding(crate::specs::Choose::steal_from_def))]
-pub fn steal_from(cpus: &[CpuWords], nodes: &[NodeWords], us: u64, limit: u64) -> OptionCpu
-    ensures { result ≡ steal_from_def cpus.now nodes.now us limit }
+pub fn steal_from(cpus: &[CpuWords], nodes: &[NodeWords], k: Context) -> Option<u64>
+    ensures { result ≡ steal_from_def cpus.now nodes.now k.us k.limit }
 {
-    let node = word(cpus, us, PLACED);
-    choose_cpu_steal_via_topo(cpus, nodes, us, limit, node)
+    let node = word(cpus, k.us, PLACED);
+    choose_cpu_steal_via_topo(cpus, nodes, k.us, k.limit, node)
 }

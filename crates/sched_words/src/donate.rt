@@ -9,7 +9,6 @@ use processor::rq::load_queue;
 use processor::words::CpuWords;
 use thread::Thread;
 use thread::priority::{Donation, less};
-use thread::time::OptionCpu;
 
 // Is CPU c signalled for a thread with this record? If somebody waits there and it advertises more than the thread's priority.
 #[tactic(auto, unfolding(crate::specs::Donate::wakeup_due))]
@@ -17,20 +16,14 @@ pub fn wakeup_due(cpus: &[CpuWords], c: u64, t: Thread) -> bool
     ensures { result ≡ wakeup_due cpus.now c t }
 {
     let q = load_queue(cpus, c);
-    if q.is_empty() {
-        return false;
-    }
-    let said = q.current_priority();
-    let own = t.effective_priority();
-    less(own, said)
+    !q.is_empty() && less(t.effective_priority(), q.current_priority())
 }
 
 #[tactic(auto, unfolding(crate::specs::Donate::woken_in))]
 pub fn maybe_wakeup(cpus: &[CpuWords], us: u64, c: u64, t: Thread, wakeups: u64) -> u64
     ensures { result ≡ woken_in cpus.now us c t wakeups }
 {
-    let due = wakeup_due(cpus, c, t);
-    signal(wakeups, us, c, due)
+    signal(wakeups, us, c, wakeup_due(cpus, c, t))
 }
 
 // The CPU in whose queue the thread was put is signalled, if there is one.
@@ -38,10 +31,9 @@ pub fn maybe_wakeup(cpus: &[CpuWords], us: u64, c: u64, t: Thread, wakeups: u64)
 pub fn maybe_reschedule_thread(cpus: &[CpuWords], us: u64, t: Thread, wakeups: u64) -> u64
     ensures { result ≡ maybe_reschedule cpus.now us t wakeups (cpu_in t.current_processor_queue) }
 {
-    let queue = t.current_cpu_rq();
-    match queue {
-        OptionCpu::Some(c) => maybe_wakeup(cpus, us, c, t, wakeups),
-        OptionCpu::None => wakeups,
+    match t.current_cpu_rq() {
+        Some(c) => maybe_wakeup(cpus, us, c, t, wakeups),
+        None => wakeups,
     }
 }
 
@@ -50,12 +42,9 @@ pub fn maybe_reschedule_thread(cpus: &[CpuWords], us: u64, t: Thread, wakeups: u
 pub fn signal_donation(cpus: &[CpuWords], us: u64, x: u64, d: Donation, wakeups: u64) -> u64
     ensures { result ≡ donation_signals cpus.now us x d wakeups }
 {
-    if d.needs_resched {
-        if running(cpus, us) == x {
-            return wakeups;
-        }
-        let t = d.thread;
-        return maybe_reschedule_thread(cpus, us, t, wakeups);
+    if d.needs_resched && running(cpus, us) != x {
+        maybe_reschedule_thread(cpus, us, d.thread, wakeups)
+    } else {
+        wakeups
     }
-    wakeups
 }

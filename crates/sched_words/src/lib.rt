@@ -6,7 +6,6 @@ pub mod balance;
 pub mod choose;
 pub mod context;
 pub mod donate;
-pub mod option;
 pub mod preempt;
 pub mod rebalance;
 pub mod running;

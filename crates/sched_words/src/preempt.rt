@@ -5,6 +5,7 @@ ghost use Rattle.processor.specs.Word.{PREEMPT};
 ghost use Rattle.thread.specs.Time.{pay_ticks};
 ghost use Rattle.sched_words.specs.Preempt.{higher, rq_has_higher, needs_reschedule_def, marked, swapped, allowed_at, idle_payer, idle_paid, expires, rescheds};
 
+use crate::context::Context;
 use crate::running::running;
 use processor::rq::load_queue;
 use processor::words::{CpuWords, IDLE_TIMESLICE, PREEMPT, put_word, word};
@@ -18,23 +19,15 @@ use thread::{NONE, Thread, blank};
 pub fn higher(said: Priority, own: Priority, eq: bool) -> bool
     ensures { result ≡ higher said own eq }
 {
-    if less(own, said) {
-        return true;
-    }
-    if eq {
-        return at_most(own, said);
-    }
-    false
+    less(own, said) || (eq && at_most(own, said))
 }
 
 #[tactic(auto, unfolding(crate::specs::Preempt::rq_has_higher))]
 pub fn rq_has_higher(cpus: &[CpuWords], us: u64, t: Thread, eq: bool) -> bool
     ensures { result ≡ rq_has_higher cpus.now us t eq }
 {
-    let q = load_queue(cpus, us);
-    let said = q.current_priority();
-    let own = t.effective_priority();
-    higher(said, own, eq)
+    let said = load_queue(cpus, us).current_priority();
+    higher(said, t.effective_priority(), eq)
 }
 
 // Does the thread running, whose record is t, have to give way?
@@ -42,14 +35,7 @@ pub fn rq_has_higher(cpus: &[CpuWords], us: u64, t: Thread, eq: bool) -> bool
 pub fn needs_reschedule(cpus: &[CpuWords], us: u64, t: Thread, ticking: bool) -> bool
     ensures { result ≡ needs_reschedule_def cpus.now us t ticking }
 {
-    if t.is_critical() {
-        return false;
-    }
-    let q = load_queue(cpus, us);
-    if q.is_empty() {
-        return false;
-    }
-    rq_has_higher(cpus, us, t, ticking)
+    !t.is_critical() && !load_queue(cpus, us).is_empty() && rq_has_higher(cpus, us, t, ticking)
 }
 
 pub fn schedule_mark_preempt(cpus: &mut [CpuWords], us: u64)
@@ -63,30 +49,27 @@ pub fn schedule_mark_preempt(cpus: &mut [CpuWords], us: u64)
 pub fn swap_preempt(cpus: &mut [CpuWords], us: u64) -> bool
     ensures { (result ≡ (swapped cpus.old us).mark) × (cpus.new ≡ (swapped cpus.old us).cpus) }
 {
-    if word(cpus, us, PREEMPT) == 0 {
-        return false;
+    let marked = word(cpus, us, PREEMPT) != 0;
+    if marked {
+        put_word(cpus, us, PREEMPT, 0);
     }
-    put_word(cpus, us, PREEMPT, 0);
-    true
+    marked
 }
 
 // The timeslice that a thread with this record is allowed on CPU us.
 #[tactic(auto, unfolding(crate::specs::Preempt::allowed_at))]
-pub fn allowed(cpus: &[CpuWords], us: u64, shortest: u64, t: Thread) -> u64
-    ensures { result ≡ allowed_at cpus.now us shortest t }
+pub fn allowed(cpus: &[CpuWords], k: Context, t: Thread) -> u64
+    ensures { result ≡ allowed_at cpus.now k.us k.shortest t }
 {
-    let q = load_queue(cpus, us);
-    let p = t.effective_priority();
-    let class = p.class;
-    q.timeslice(shortest, class)
+    let class = t.effective_priority().class;
+    load_queue(cpus, k.us).timeslice(k.shortest, class)
 }
 
 // The thread running pays for the ticks that passed.
-pub fn pay(cpus: &[CpuWords], us: u64, shortest: u64, t: Thread, ticks: u64) -> Paid
-    ensures { result ≡ pay_ticks t ticks (allowed_at cpus.now us shortest t) }
+pub fn pay(cpus: &[CpuWords], k: Context, t: Thread, ticks: u64) -> Paid
+    ensures { result ≡ pay_ticks t ticks (allowed_at cpus.now k.us k.shortest t) }
 {
-    let most = allowed(cpus, us, shortest, t);
-    t.pay_ticks(ticks, most)
+    t.pay_ticks(ticks, allowed(cpus, k, t))
 }
 
 // The record of the idle thread with what it has paid.
@@ -94,21 +77,21 @@ pub fn pay(cpus: &[CpuWords], us: u64, shortest: u64, t: Thread, ticks: u64) -> 
 pub fn idle_payer(cpus: &[CpuWords], us: u64) -> Thread
     ensures { result ≡ idle_payer cpus.now us }
 {
-    let mut t = blank();
-    let paid = word(cpus, us, IDLE_TIMESLICE);
-    t.timeslice = paid;
-    t
+    Thread {
+        timeslice: word(cpus, us, IDLE_TIMESLICE),
+        ..blank()
+    }
 }
 
 // The idle thread pays: does its timeslice expire?
 #[tactic(auto, unfolding(crate::specs::Preempt::idle_paid))]
-pub fn pay_idle(cpus: &mut [CpuWords], us: u64, shortest: u64, ticks: u64) -> bool
-    ensures { (result ≡ (idle_paid cpus.old us shortest ticks).mark) × (cpus.new ≡ (idle_paid cpus.old us shortest ticks).cpus) }
+pub fn pay_idle(cpus: &mut [CpuWords], k: Context, ticks: u64) -> bool
+    ensures { (result ≡ (idle_paid cpus.old k.us k.shortest ticks).mark)
+        × (cpus.new ≡ (idle_paid cpus.old k.us k.shortest ticks).cpus) }
 {
-    let t = idle_payer(cpus, us);
-    let paid = pay(cpus, us, shortest, t, ticks);
-    let payer = paid.thread;
-    put_word(cpus, us, IDLE_TIMESLICE, payer.timeslice);
+    let t = idle_payer(cpus, k.us);
+    let paid = pay(cpus, k, t, ticks);
+    put_word(cpus, k.us, IDLE_TIMESLICE, paid.thread.timeslice);
     paid.expired
 }
 
@@ -117,11 +100,7 @@ pub fn pay_idle(cpus: &mut [CpuWords], us: u64, shortest: u64, ticks: u64) -> bo
 pub fn expire(cpus: &mut [CpuWords], us: u64, resched: bool, expired: bool)
     ensures { cpus.new ≡ expires cpus.old us resched expired }
 {
-    if resched {
-        schedule_mark_preempt(cpus, us);
-        return;
-    }
-    if expired {
+    if resched || expired {
         schedule_mark_preempt(cpus, us);
     }
 }
@@ -131,11 +110,7 @@ pub fn expire(cpus: &mut [CpuWords], us: u64, resched: bool, expired: bool)
 pub fn resched(cpus: &mut [CpuWords], us: u64, t: Thread)
     ensures { cpus.new ≡ rescheds cpus.old us t }
 {
-    if running(cpus, us) == NONE {
-        schedule_mark_preempt(cpus, us);
-        return;
-    }
-    if needs_reschedule(cpus, us, t, false) {
+    if running(cpus, us) == NONE || needs_reschedule(cpus, us, t, false) {
         schedule_mark_preempt(cpus, us);
     }
 }

@@ -21,10 +21,11 @@ pub fn pass_time(cpus: &mut [CpuWords], us: u64, dt: u64) -> bool
             CUR_REBALANCE_TIME,
             REBALANCE_TIME / 2 + drawn % REBALANCE_TIME,
         );
-        return true;
+        true
+    } else {
+        put_word(cpus, us, CUR_REBALANCE_TIME, left - dt);
+        false
     }
-    put_word(cpus, us, CUR_REBALANCE_TIME, left - dt);
-    false
 }
 
 // Only the boot CPU balances.
@@ -32,8 +33,5 @@ pub fn pass_time(cpus: &mut [CpuWords], us: u64, dt: u64) -> bool
 pub fn rebalance_due(cpus: &mut [CpuWords], us: u64, dt: u64) -> bool
     ensures { (result ≡ (rebalance_due cpus.old us dt).mark) × (cpus.new ≡ (rebalance_due cpus.old us dt).cpus) }
 {
-    if us == 0 {
-        return pass_time(cpus, us, dt);
-    }
-    false
+    us == 0 && pass_time(cpus, us, dt)
 }

@@ -53,9 +53,7 @@ pub fn must_rebalance(cpus: &[CpuWords], c: u64) -> bool
 pub fn run_thread(cpus: &mut [CpuWords], c: u64, x: u64, t: Thread)
     ensures { cpus.new ≡ ran_by_def cpus.old c x t }
 {
-    let p = t.effective_priority();
-    let own = raw(p);
-    put_word(cpus, c, OWN_PRIORITY, own);
+    put_word(cpus, c, OWN_PRIORITY, raw(t.effective_priority()));
     exit_idle(cpus, c);
     reset_rebalance(cpus, c);
     put_word(cpus, c, RUNNING, x);

@@ -7,11 +7,9 @@ ghost use Rattle.sched_words.specs.Signal.{signal};
 pub fn signal(wakeups: u64, from: u64, to: u64, due: bool) -> u64
     ensures { result ≡ signal wakeups from to due }
 {
-    if to == from {
-        return wakeups;
+    if to != from && due {
+        wakeups.wrapping_add(1)
+    } else {
+        wakeups
     }
-    if due {
-        return std::num::wrapping_add_u64(wakeups, 1);
-    }
-    wakeups
 }

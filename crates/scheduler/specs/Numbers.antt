@@ -1,14 +1,11 @@
 -- What passes over C for an answer: numbers and Booleans for each case of its enums.
-use Rattle.std.specs.Prelude.{true, false, cond, ℕ, List, length}
+use Rattle.std.specs.Prelude.{true, false, cond, ℕ, List, length, Option, Some, None, Result, Ok, Err}
 use Rattle.rules.specs.Writer as rules
-use Rattle.lines.specs.Lines.{refusal_number}
-use Rattle.lines.specs.declared.Shown.{Shown}
-use Rattle.lines.specs.declared.Shown.TheVariants as shown
-use Rattle.lines.specs.declared.Running.{Running}
-use Rattle.lines.specs.declared.Running.TheVariants as running
+use Rattle.rules.specs.declared.Running.{Running}
+use Rattle.rules.specs.declared.Running.TheVariants as running
+use Rattle.lines.specs.declared.Refusal.{Refusal}
+use Rattle.lines.specs.Lines.{question_number, refusal_number}
 use Rattle.lines.specs.declared.Answer.{Answer}
-use Rattle.lines.specs.declared.Rendered.{Rendered}
-use Rattle.lines.specs.declared.Rendered.TheVariants as render
 use Rattle.questions.specs.declared.state.State.{State}
 use Rattle.records.specs.Left.{Left}
 use Rattle.command.specs.Lent.{Lent}
@@ -16,8 +13,6 @@ use Rattle.command.specs.Command.{command_def}
 use Rattle.stream.specs.Start.{start_def}
 use Rattle.outcome.specs.declared.answer.Answered.{Answered}
 use Rattle.outcome.specs.Call.{refusal_back}
-use Rattle.stream.specs.declared.start.Started.{Started}
-use Rattle.stream.specs.declared.start.Started.TheVariants as started
 use Rattle.scheduler.specs.declared.numbers.Column.{Column}
 use Rattle.scheduler.specs.declared.numbers.Runs.{Runs}
 use Rattle.scheduler.specs.declared.numbers.Row.{Row}
@@ -26,21 +21,21 @@ use Rattle.scheduler.specs.declared.numbers.Begun.{Begun}
 use Rattle.scheduler.specs.declared.numbers.Written.{Written}
 
 -- a number, or `-`
-unfoldable pub column_of : Shown → Column
-column_of (shown.Number n) = record { shown = true; number = n }
-column_of shown.Dash = record { shown = false; number = 0 }
+unfoldable pub column_of : Option ℕ → Column
+column_of (Some n) = record { shown = true; number = n }
+column_of None = record { shown = false; number = 0 }
 
-unfoldable pub shown_in : Column → Shown
-shown_in c = cond c.shown (shown.Number c.number) shown.Dash
+unfoldable pub shown_in : Column → Option ℕ
+shown_in c = cond c.shown (Some c.number) None
 
 -- a thread, `idle`, or `-`
-unfoldable pub runs_of : Running → Runs
-runs_of (running.Thread x) = record { shown = true; idle = false; thread = x }
-runs_of running.Idle = record { shown = true; idle = true; thread = 0 }
-runs_of running.Dash = record { shown = false; idle = false; thread = 0 }
+unfoldable pub runs_of : Option Running → Runs
+runs_of (Some (running.Thread x)) = record { shown = true; idle = false; thread = x }
+runs_of (Some running.Idle) = record { shown = true; idle = true; thread = 0 }
+runs_of None = record { shown = false; idle = false; thread = 0 }
 
-unfoldable pub running_in : Runs → Running
-running_in r = cond r.shown (cond r.idle running.Idle (running.Thread r.thread)) running.Dash
+unfoldable pub running_in : Runs → Option Running
+running_in r = cond r.shown (Some (cond r.idle running.Idle (running.Thread r.thread))) None
 
 unfoldable pub row_of : Answer → Row
 row_of a = record {
@@ -67,16 +62,16 @@ step_of a = record { row = row_of a.answer; used = a.used; state = a.state }
 unfoldable pub no_state : State
 no_state = record { cpus = 0; nodes = 0; shortest = 0; wide = false; tick = 0; sealed = false; accepted = 0; node_count = 0 }
 
-unfoldable pub begun_of : Started → Begun
-begun_of (started.Ready s) = record { ready = true; state = s }
-begun_of started.NoRoom = record { ready = false; state = no_state }
+unfoldable pub begun_of : Option State → Begun
+begun_of (Some s) = record { ready = true; state = s }
+begun_of None = record { ready = false; state = no_state }
 
 unfoldable pub refused_with : ℕ → Written
 refused_with k = record { refusal = k; bytes = 0 }
 
-unfoldable pub written_of : Rendered → Written
-written_of (render.Written n) = record { refusal = 0; bytes = n }
-written_of (render.Refused r) = refused_with (refusal_number r)
+unfoldable pub written_of : Result ℕ Refusal → Written
+written_of (Ok n) = record { refusal = 0; bytes = n }
+written_of (Err r) = refused_with (question_number r)
 
 -- the answer of 2026-02's writer
 unfoldable pub wrote_of : rules.Written → Written

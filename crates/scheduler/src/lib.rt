@@ -12,9 +12,7 @@ ghost use Rattle.stream.specs.Progress.{begin};
 ghost use Rattle.stream.specs.Feed.{Feeds, feed_def};
 ghost use Rattle.scheduler.specs.Numbers.{answer_in, written_of, wrote_of, start_row, command_row};
 
-use crate::numbers::{
-    Begun, Row, Step, Written, answer_in, begun_of, step_of, written_of, wrote_of,
-};
+use crate::numbers::{Begun, Row, Step, Written};
 use command::obey::command;
 use lines::render;
 use processor::words::CpuWords;
@@ -35,8 +33,7 @@ pub fn scheduler_start(
 ) -> Begun
     ensures { LeavesAll start_row result threads cpus nodes }
 {
-    let started = start(threads, cpus, nodes);
-    begun_of(started)
+    start(threads, cpus, nodes).into()
 }
 
 // The command that the bytes ask for.
@@ -49,24 +46,22 @@ pub fn scheduler_command(
 ) -> Step
     ensures { LeavesAll (command_row state bytes.now) result threads cpus nodes }
 {
-    let answered = command(threads, cpus, nodes, bytes, state);
-    step_of(answered)
+    command(threads, cpus, nodes, bytes, state).into()
 }
 
 // The line of one command.
 pub fn scheduler_render(buffer: &mut [u8], number: u64, row: Row) -> Written
     ensures { (result ≡ written_of (rendered buffer.old 0 (line number (answer_of (answer_in row))))) × (buffer.new ≡ buffer_with buffer.old 0 (line number (answer_of (answer_in row)))) }
 {
-    let rendered = render(buffer, number, answer_in(row));
-    written_of(rendered)
+    render(buffer, number, row.into()).into()
 }
 
 // One command with its fields, in the form that `wide` says: its bytes in the buffer's first ones, or the refusal 1, 6 or 12.
+#[tactic(auto, using(crate::proofs::Again::wrote))]
 pub fn scheduler_write(byte: u64, fields: Fields, wide: bool, buffer: &mut [u8]) -> Written
     ensures { (result ≡ wrote_of (answer wide byte fields buffer.old)) × (buffer.new ≡ buffer_after wide byte fields buffer.old) }
 {
-    let written = write_command(byte, fields, wide, buffer);
-    wrote_of(written)
+    write_command(byte, fields, wide, buffer).into()
 }
 
 // A run that begins.

@@ -1,14 +1,12 @@
 // Answers as numbers and Booleans, which C takes: an enum does not pass over C. `answer_again` of proofs/Again: none is lost.
 ghost use Rattle.std.specs.Prelude.{◌≡◌};
 ghost use Rattle.outcome.specs.Call.{refusal_back};
-ghost use Rattle.scheduler.specs.Numbers.{column_of, shown_in, runs_of, running_in, row_of, answer_in, step_of, no_state, begun_of, refused_with, written_of, wrote_of};
-ghost use Rattle.lines.specs.Lines.{refusal_number};
-ghost use Rattle.writer.specs.Writer.{written_of as answer_of};
+ghost use Rattle.scheduler.specs.Numbers.{column_of, shown_in, runs_of, running_in, row_of, answer_in, step_of, begun_of, written_of};
 
-use lines::{Answer, Refusal, Rendered, Running, Shown, refusal_number};
+use lines::{Answer, Refusal, refusal_number};
 use outcome::answer::Answered;
 use questions::state::State;
-use stream::start::Started;
+use rules::Running;
 
 // A number of a line, or `-` where it is not shown.
 #[repr(C)]
@@ -49,7 +47,7 @@ pub struct Step {
 
 // What the start answers: the state, where there is room.
 #[repr(C)]
-#[derive(Clone, Copy)]
+#[derive(Clone, Copy, Default)]
 pub struct Begun {
     pub ready: bool,
     pub state: State,
@@ -63,193 +61,159 @@ pub struct Written {
     pub bytes: usize,
 }
 
-#[tactic(auto, unfolding(crate::specs::Numbers::column_of))]
-fn column_of(shown: Shown) -> Column
-    ensures { result ≡ column_of shown }
-{
-    match shown {
-        Shown::Number(number) => Column {
-            shown: true,
-            number,
-        },
-        Shown::Dash => Column {
-            shown: false,
-            number: 0,
-        },
-    }
-}
+impl From<Option<u64>> for Column {
+    ghost from_gives = { λ shown column. column ≡ column_of shown };
 
-#[tactic(auto, unfolding(crate::specs::Numbers::shown_in))]
-fn shown_in(column: Column) -> Shown
-    ensures { result ≡ shown_in column }
-{
-    if column.shown {
-        return Shown::Number(column.number);
-    }
-    Shown::Dash
-}
-
-#[tactic(auto, unfolding(crate::specs::Numbers::runs_of))]
-fn runs_of(running: Running) -> Runs
-    ensures { result ≡ runs_of running }
-{
-    match running {
-        Running::Thread(thread) => Runs {
-            shown: true,
-            idle: false,
-            thread,
-        },
-        Running::Idle => Runs {
-            shown: true,
-            idle: true,
-            thread: 0,
-        },
-        Running::Dash => Runs {
-            shown: false,
-            idle: false,
-            thread: 0,
-        },
-    }
-}
-
-#[tactic(auto, unfolding(crate::specs::Numbers::running_in))]
-fn running_in(runs: Runs) -> Running
-    ensures { result ≡ running_in runs }
-{
-    if runs.shown {
-        if runs.idle {
-            return Running::Idle;
+    #[tactic(auto, unfolding(crate::specs::Numbers::column_of))]
+    fn from(shown: Option<u64>) -> Column {
+        match shown {
+            Some(number) => Column {
+                shown: true,
+                number,
+            },
+            None => Column {
+                shown: false,
+                number: 0,
+            },
         }
-        return Running::Thread(runs.thread);
     }
-    Running::Dash
+}
+
+impl From<Column> for Option<u64> {
+    ghost from_gives = { λ column shown. shown ≡ shown_in column };
+
+    #[tactic(auto, unfolding(crate::specs::Numbers::shown_in))]
+    fn from(column: Column) -> Option<u64> {
+        column.shown.then_some(column.number)
+    }
+}
+
+impl From<Option<Running>> for Runs {
+    ghost from_gives = { λ running runs. runs ≡ runs_of running };
+
+    #[tactic(auto, unfolding(crate::specs::Numbers::runs_of))]
+    fn from(running: Option<Running>) -> Runs {
+        match running {
+            Some(Running::Thread(thread)) => Runs {
+                shown: true,
+                idle: false,
+                thread,
+            },
+            Some(Running::Idle) => Runs {
+                shown: true,
+                idle: true,
+                thread: 0,
+            },
+            None => Runs {
+                shown: false,
+                idle: false,
+                thread: 0,
+            },
+        }
+    }
+}
+
+impl From<Runs> for Option<Running> {
+    ghost from_gives = { λ runs running. running ≡ running_in runs };
+
+    #[tactic(auto, unfolding(crate::specs::Numbers::running_in))]
+    fn from(runs: Runs) -> Option<Running> {
+        if !runs.shown {
+            return None;
+        }
+        if runs.idle {
+            Some(Running::Idle)
+        } else {
+            Some(Running::Thread(runs.thread))
+        }
+    }
 }
 
 // The refusal of a number; any number past 10 but 12 counts as 11.
 #[tactic(auto, unfolding(outcome::specs::Call::refusal_back))]
-fn refusal_in(number: u64) -> Refusal
+fn refusal_in(number: u64) -> Option<Refusal>
     ensures { result ≡ refusal_back number }
 {
     match number {
-        0 => Refusal::Obeyed,
-        1 => Refusal::UnknownCommand,
-        2 => Refusal::CutShort,
-        3 => Refusal::WrongSideOfSeal,
-        4 => Refusal::Cpu,
-        5 => Refusal::Thread,
-        6 => Refusal::OutOfRange,
-        7 => Refusal::NotBlocked,
-        8 => Refusal::Tick,
-        9 => Refusal::NotPlaced,
-        10 => Refusal::TooMany,
-        12 => Refusal::ShortBuffer,
-        _ => Refusal::SmallBuffer,
+        0 => None,
+        1 => Some(Refusal::UnknownCommand),
+        2 => Some(Refusal::CutShort),
+        3 => Some(Refusal::WrongSideOfSeal),
+        4 => Some(Refusal::Cpu),
+        5 => Some(Refusal::Thread),
+        6 => Some(Refusal::OutOfRange),
+        7 => Some(Refusal::NotBlocked),
+        8 => Some(Refusal::Tick),
+        9 => Some(Refusal::NotPlaced),
+        10 => Some(Refusal::TooMany),
+        12 => Some(Refusal::ShortBuffer),
+        _ => Some(Refusal::SmallBuffer),
     }
 }
 
-#[tactic(auto, unfolding(crate::specs::Numbers::row_of))]
-fn row_of(answer: Answer) -> Row
-    ensures { result ≡ row_of answer }
-{
-    let refusal = answer.refusal;
-    let cpu = answer.cpu;
-    let running = answer.running;
-    let load = answer.load;
-    let wakeups = answer.wakeups;
-    Row {
-        refusal: refusal_number(refusal),
-        cpu: column_of(cpu),
-        running: runs_of(running),
-        load: column_of(load),
-        wakeups: column_of(wakeups),
+impl From<Answer> for Row {
+    ghost from_gives = { λ answer row. row ≡ row_of answer };
+
+    #[tactic(auto, unfolding(crate::specs::Numbers::row_of))]
+    fn from(answer: Answer) -> Row {
+        Row {
+            refusal: refusal_number(answer.refusal),
+            cpu: Column::from(answer.cpu),
+            running: Runs::from(answer.running),
+            load: Column::from(answer.load),
+            wakeups: Column::from(answer.wakeups),
+        }
     }
 }
 
-#[tactic(auto, unfolding(crate::specs::Numbers::answer_in))]
-pub fn answer_in(row: Row) -> Answer
-    ensures { result ≡ answer_in row }
-{
-    let cpu = row.cpu;
-    let running = row.running;
-    let load = row.load;
-    let wakeups = row.wakeups;
-    Answer {
-        refusal: refusal_in(row.refusal),
-        cpu: shown_in(cpu),
-        running: running_in(running),
-        load: shown_in(load),
-        wakeups: shown_in(wakeups),
+impl From<Row> for Answer {
+    ghost from_gives = { λ row answer. answer ≡ answer_in row };
+
+    #[tactic(auto, unfolding(crate::specs::Numbers::answer_in))]
+    fn from(row: Row) -> Answer {
+        Answer {
+            refusal: refusal_in(row.refusal),
+            cpu: row.cpu.into(),
+            running: row.running.into(),
+            load: row.load.into(),
+            wakeups: row.wakeups.into(),
+        }
     }
 }
 
-#[tactic(auto, unfolding(crate::specs::Numbers::step_of))]
-pub fn step_of(a: Answered) -> Step
-    ensures { result ≡ step_of a }
-{
-    let answer = a.answer;
-    let state = a.state;
-    Step {
-        row: row_of(answer),
-        used: a.used,
-        state,
+impl From<Answered> for Step {
+    ghost from_gives = { λ answered step. step ≡ step_of answered };
+
+    #[tactic(auto, unfolding(crate::specs::Numbers::step_of))]
+    fn from(answered: Answered) -> Step {
+        Step {
+            row: Row::from(answered.answer),
+            used: answered.used,
+            state: answered.state,
+        }
     }
 }
 
-#[tactic(auto, unfolding(crate::specs::Numbers::no_state))]
-fn no_state() -> State
-    ensures { result ≡ no_state }
-{
-    State {
-        cpus: 0,
-        nodes: 0,
-        shortest: 0,
-        wide: false,
-        tick: 0,
-        sealed: false,
-        accepted: 0,
-        node_count: 0,
+impl From<Option<State>> for Begun {
+    ghost from_gives = { λ started begun. begun ≡ begun_of started };
+
+    #[tactic(auto, unfolding(crate::specs::Numbers::begun_of, crate::specs::Numbers::no_state))]
+    fn from(started: Option<State>) -> Begun {
+        match started {
+            Some(state) => Begun { ready: true, state },
+            None => Begun::default(),
+        }
     }
 }
 
-#[tactic(auto, unfolding(crate::specs::Numbers::begun_of))]
-pub fn begun_of(started: Started) -> Begun
-    ensures { result ≡ begun_of started }
-{
-    match started {
-        Started::Ready(state) => Begun { ready: true, state },
-        Started::NoRoom => Begun {
-            ready: false,
-            state: no_state(),
-        },
-    }
-}
+impl From<Result<usize, Refusal>> for Written {
+    ghost from_gives = { λ answer written. written ≡ written_of answer };
 
-#[tactic(auto, unfolding(crate::specs::Numbers::refused_with))]
-fn refused(refusal: Refusal) -> Written
-    ensures { result ≡ refused_with (refusal_number refusal) }
-{
-    Written {
-        refusal: refusal_number(refusal),
-        bytes: 0,
-    }
-}
-
-#[tactic(auto, unfolding(crate::specs::Numbers::written_of))]
-pub fn written_of(rendered: Rendered) -> Written
-    ensures { result ≡ written_of rendered }
-{
-    match rendered {
-        Rendered::Written(bytes) => Written { refusal: 0, bytes },
-        Rendered::Refused(refusal) => refused(refusal),
-    }
-}
-
-#[tactic(auto, unfolding(crate::specs::Numbers::wrote_of, writer::specs::Writer::written_of))]
-pub fn wrote_of(written: writer::Written) -> Written
-    ensures { result ≡ wrote_of (answer_of written) }
-{
-    match written {
-        writer::Written::Bytes(bytes) => Written { refusal: 0, bytes },
-        writer::Written::Refused(refusal) => refused(refusal),
+    #[tactic(auto, unfolding(crate::specs::Numbers::written_of, crate::specs::Numbers::refused_with, lines::specs::Lines::refusal_number))]
+    fn from(answer: Result<usize, Refusal>) -> Written {
+        Written {
+            refusal: refusal_number(answer.err()),
+            bytes: answer.unwrap_or(0),
+        }
     }
 }

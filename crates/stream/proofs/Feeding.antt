@@ -1,13 +1,14 @@
 -- The loop of `run`: what is left to feed gives what feeding all gives.
-use Rattle.std.proofs.Common.{◌≡◌, ℕ, zero, suc, ◌+◌, ◌-◌, ◌<◌, ◌≤◌, Bool, true, false, cond, not, T as Holds, eqb, ltb, List, sym, refl, ap, ◌∙◌, sub-le, arith, ltb-false, ltb-true, lt-ltb, eqb-true}
+use Rattle.std.proofs.Common.{◌≡◌, ℕ, zero, suc, ◌+◌, ◌-◌, ◌<◌, ◌≤◌, Bool, true, false, cond, not, T as Holds, eqb, ltb, List, Result, Ok, Err, sym, refl, ap, ◌∙◌, sub-le, arith, ltb-false, ltb-true, lt-ltb, eqb-true}
 use borrow.Author.Tests.{eqb-false}
 use Rattle.rules.proofs.Laws.Line.{both}
 use Rattle.thread.specs.declared.Thread.{Thread}
 use Rattle.lines.specs.Lines.{room, refusal_number, buffer_with}
 use Rattle.outcome.specs.declared.answer.Answered.{Answered}
 use Rattle.outcome.specs.Call.{asked_def}
-use Rattle.request.specs.declared.Reading.{Reading}
-use Rattle.request.specs.declared.Reading.TheVariants as reading
+use Rattle.request.specs.declared.Asked.{Asked}
+use Rattle.request.specs.declared.Unread.{Unread}
+use Rattle.request.specs.declared.Unread.TheVariants as unread
 use Rattle.records.specs.Left.{Left}
 use Rattle.command.specs.Lent.{Lent}
 use Rattle.command.specs.Command.{answered_def, command_def}
@@ -30,7 +31,7 @@ cond_false false s h = let z : false ≡ true = h in (cc, cc)
 -- ---- one command, as the loop comes to it: it reads, then it answers or waits
 
 -- what it reads
-abbrev pub reading_of_def : List ℕ → ℕ → World → Reading
+abbrev pub reading_of_def : List ℕ → ℕ → World → Result Asked Unread
 reading_of_def bytes n w = asked_def bytes n w.fed.at w.fed.state.wide
 
 abbrev answer_of_def : List ℕ → ℕ → World → Left Answered Lent
@@ -42,14 +43,14 @@ stepped bytes n w =
     world_of_def (answer_of_def bytes n w).memory.threads (answer_of_def bytes n w).memory.cpus (answer_of_def bytes n w).memory.nodes
     (buffer_with w.output w.fed.done (line_of_def (answer_of_def bytes n w).answer w.fed)) (answered_fed w.output n (answer_of_def bytes n w).answer w.fed)
 
-not_waits : (last : Bool) (r : Reading) → cond last true (not_cut r) ≡ not (must_wait last r)
+not_waits : (last : Bool) (r : Result Asked Unread) → cond last true (not_cut r) ≡ not (must_wait last r)
 unfolding not_cut must_wait
-not_waits true reading.Unknown = refl
-not_waits true reading.CutShort = refl
-not_waits true (reading.Asks q used) = refl
-not_waits false reading.Unknown = refl
-not_waits false reading.CutShort = refl
-not_waits false (reading.Asks q used) = refl
+not_waits true (Err unread.Unknown) = refl
+not_waits true (Err unread.CutShort) = refl
+not_waits true (Ok a) = refl
+not_waits false (Err unread.Unknown) = refl
+not_waits false (Err unread.CutShort) = refl
+not_waits false (Ok a) = refl
 
 -- the test of `run_def`, in the two steps of the loop
 more_is : (bytes out : List ℕ) (n : ℕ) (last : Bool) (f : Progress)
@@ -143,14 +144,14 @@ unfolding command_def
 inv_near bytes n last w h k = nearer bytes n last w (more_yes bytes n last w h k)
 
 -- ---- a turn of the loop as the calls in it answer: the reading r, the answer a and the memory that is left, the output and how far the run is then
-module _ (bytes : List ℕ) (n : ℕ) (w : World) (r : Reading) (read : r ≡ reading_of_def bytes n w) (a : Answered) (ts : List Thread) (cs ns : List (List ℕ))
+module _ (bytes : List ℕ) (n : ℕ) (w : World) (r : Result Asked Unread) (read : r ≡ reading_of_def bytes n w) (a : Answered) (ts : List Thread) (cs ns : List (List ℕ))
     (left : ◌≡◌ {A = Left Answered Lent} (record { answer = a; memory = record { threads = ts; cpus = cs; nodes = ns } })
     (answered_def w.fed.state r (record { threads = w.threads; cpus = w.cpus; nodes = w.nodes })))
     (out : List ℕ) (written : out ≡ buffer_with w.output w.fed.done (line_of_def a w.fed)) (g : Progress) (on : g ≡ answered_fed w.output n a w.fed) where
   pub turned : world_of_def ts cs ns out g ≡ stepped bytes n w
   turned =
       let m : ◌≡◌ {A = Left Answered Lent} (record { answer = a; memory = record { threads = ts; cpus = cs; nodes = ns } }) (answer_of_def bytes n w) =
-      left ∙ ap (λ (q : Reading). answered_def w.fed.state q (record { threads = w.threads; cpus = w.cpus; nodes = w.nodes })) read in
+      left ∙ ap (λ (q : Result Asked Unread). answered_def w.fed.state q (record { threads = w.threads; cpus = w.cpus; nodes = w.nodes })) read in
       let b : a ≡ (answer_of_def bytes n w).answer = ap (λ (l : Left Answered Lent). l.answer) m in
       let t : ts ≡ (answer_of_def bytes n w).memory.threads = ap (λ (l : Left Answered Lent). l.memory.threads) m in
       let c : cs ≡ (answer_of_def bytes n w).memory.cpus = ap (λ (l : Left Answered Lent). l.memory.cpus) m in

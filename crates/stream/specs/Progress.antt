@@ -1,10 +1,10 @@
 -- How far a run is, and what it writes.
-use Rattle.std.specs.Prelude.{ℕ, ◌+◌, ◌-◌, ◌%◌, ◌^◌, Bool, true, false, cond, not, ◌||◌, List, ◌==◌, nat_le, nat_lt}
+use Rattle.std.specs.Prelude.{ℕ, ◌+◌, ◌-◌, ◌%◌, ◌^◌, Bool, true, false, cond, not, ◌||◌, List, ◌==◌, nat_le, nat_lt, Result, Ok, Err}
 use Rattle.rules.specs.Lines.{line, header, end_line, last_number}
-use Rattle.request.specs.declared.Reading.{Reading}
-use Rattle.request.specs.declared.Reading.TheVariants as reading
-use Rattle.lines.specs.declared.Rendered.{Rendered}
-use Rattle.lines.specs.declared.Rendered.TheVariants as render
+use Rattle.request.specs.declared.Asked.{Asked}
+use Rattle.request.specs.declared.Unread.{Unread}
+use Rattle.request.specs.declared.Unread.TheVariants as unread
+use Rattle.lines.specs.declared.Refusal.{Refusal}
 use Rattle.lines.specs.Lines.{refusal_number, answer_of, room, rendered, buffer_with}
 use Rattle.questions.specs.declared.state.State.{State}
 use Rattle.outcome.specs.declared.answer.Answered.{Answered}
@@ -27,10 +27,10 @@ ENDED = 3
 unfoldable pub begin : State → Progress
 begin s = record { at = 0; done = 0; number = 0; refused = 0; phase = HEADER; state = s }
 
-unfoldable pub not_cut : Reading → Bool
-not_cut reading.Unknown = true
-not_cut reading.CutShort = false
-not_cut (reading.Asks r used) = true
+unfoldable pub not_cut : Result Asked Unread → Bool
+not_cut (Err unread.Unknown) = true
+not_cut (Err unread.CutShort) = false
+not_cut (Ok a) = true
 
 unfoldable pub whole : List ℕ → ℕ → ℕ → Bool → Bool
 whole bytes n at wide = not_cut (asked_def bytes n at wide)
@@ -46,14 +46,14 @@ unfoldable pub can_answer : List ℕ → ℕ → Progress → Bool
 can_answer out n f = cond (f.phase == COMMANDS) (cond (nat_lt f.at n) (room out f.done) false) false
 
 -- a command cut short waits for the next block, unless this is the last
-unfoldable pub must_wait : Bool → Reading → Bool
-must_wait last reading.Unknown = false
-must_wait last reading.CutShort = not last
-must_wait last (reading.Asks r used) = false
+unfoldable pub must_wait : Bool → Result Asked Unread → Bool
+must_wait last (Err unread.Unknown) = false
+must_wait last (Err unread.CutShort) = not last
+must_wait last (Ok a) = false
 
-unfoldable pub written : Rendered → ℕ
-written (render.Written n) = n
-written (render.Refused r) = 0
+unfoldable pub written : Result ℕ Refusal → ℕ
+written (Ok n) = n
+written (Err r) = 0
 
 -- "Refusals 1 and 2 end the run, as does command number 4,294,967,294."
 unfoldable pub ends_by : ℕ → ℕ → Bool

@@ -1,5 +1,5 @@
 -- The library's start.
-use Rattle.std.specs.Prelude.{ℕ, zero, suc, Bool, true, false, cond, List, length, replicate, nat_lt}
+use Rattle.std.specs.Prelude.{ℕ, zero, suc, Bool, true, false, cond, List, length, replicate, nat_lt, Option, Some, None}
 use Rattle.thread.specs.Thread.{blank, NONE}
 use Rattle.runqueue.specs.RunQueue.{no_run_queue}
 use Rattle.processor.specs.Words.{put_word}
@@ -9,8 +9,6 @@ use Rattle.topology.specs.Node.{new_root}
 use Rattle.questions.specs.declared.state.State.{State}
 use Rattle.records.specs.Left.{Left}
 use Rattle.command.specs.Lent.{Lent}
-use Rattle.stream.specs.declared.start.Started.{Started}
-use Rattle.stream.specs.declared.start.Started.TheVariants as started
 
 -- undeclared, on no node, its idle thread running with priority (Idle, 0), marked idle
 unfoldable pub new_marks : List (List ℕ) → ℕ → List (List ℕ)
@@ -36,11 +34,11 @@ no_room_def threads cpus nodes = cond (nat_lt threads 1024) true (cond (nat_lt c
 unfoldable pub initial : State
 initial = record { cpus = 64; nodes = 128; shortest = 2; wide = false; tick = 0; sealed = false; accepted = 0; node_count = 1 }
 
-abbrev pub begun : Lent → Left Started Lent
+abbrev pub begun : Lent → Left (Option State) Lent
 begun w = record {
-  answer = started.Ready initial;
+  answer = Some initial;
   memory = record { threads = replicate (length w.threads) blank; cpus = new_cpus 64 w.cpus; nodes = new_root w.nodes };
 }
 
-unfoldable pub start_def : Lent → Left Started Lent
-start_def w = cond (no_room_def (length w.threads) (length w.cpus) (length w.nodes)) (record { answer = started.NoRoom; memory = w }) (begun w)
+unfoldable pub start_def : Lent → Left (Option State) Lent
+start_def w = cond (no_room_def (length w.threads) (length w.cpus) (length w.nodes)) (record { answer = None; memory = w }) (begun w)

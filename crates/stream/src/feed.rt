@@ -23,15 +23,12 @@ fn run(
 {
     let mut f = fed;
     while can_answer(output, n, f) {
-        let state = f.state;
-        let wide = state.wide;
-        let reading = asked(input, n, f.at, wide);
+        let reading = asked(input, n, f.at, f.state.wide);
         if must_wait(last, reading) {
             return f;
         }
-        let a = command_read(threads, cpus, nodes, state, reading);
-        let g = answered(output, n, a, f);
-        f = g;
+        let a = command_read(threads, cpus, nodes, f.state, reading);
+        f = answered(output, n, a, f);
     }
     f
 }

@@ -1,13 +1,13 @@
 // How far a run is, and the lines that it writes.
 ghost use Rattle.std.specs.Prelude.{◌≡◌};
 ghost use Rattle.rules.specs.Lines.{line};
-ghost use Rattle.lines.specs.Lines.{answer_of, buffer_with};
-ghost use Rattle.stream.specs.Progress.{begin, can_answer, must_wait, written, ends_by, phase_after, at_least_one, next_at, one_if, counted, answered_fed, with_output, at_start, opened_fed, opened_out, due, closed_fed, closed_out};
+ghost use Rattle.lines.specs.Lines.{refusal_number, answer_of, buffer_with};
+ghost use Rattle.stream.specs.Progress.{begin, can_answer, must_wait, ends_by, next_at, one_if, counted, answered_fed, with_output, at_start, opened_fed, opened_out, due, closed_fed, closed_out};
 
-use lines::{Rendered, has_room, refusal_number, render_at, render_end, render_header};
+use lines::{Refusal, has_room, render_at, render_end, render_header};
 use outcome::answer::Answered;
 use questions::state::State;
-use request::Reading;
+use request::{Reading, Unread};
 
 // The header is due; commands are answered; the end line is due; it is written.
 pub const HEADER: u64 = 0;
@@ -53,12 +53,7 @@ pub fn begin(state: State) -> Progress
 pub fn can_answer(output: &[u8], n: usize, f: Progress) -> bool
     ensures { result ≡ can_answer output.now n f }
 {
-    if f.phase == COMMANDS {
-        if f.at < n {
-            return has_room(output, f.done);
-        }
-    }
-    false
+    f.phase == COMMANDS && f.at < n && has_room(output, f.done)
 }
 
 // A command cut short waits for the next block, unless this is the last.
@@ -67,145 +62,96 @@ pub fn must_wait(last: bool, reading: Reading) -> bool
     ensures { result ≡ must_wait last reading }
 {
     match reading {
-        Reading::Unknown => false,
-        Reading::CutShort => !last,
-        Reading::Asks { .. } => false,
-    }
-}
-
-#[tactic(auto, unfolding(crate::specs::Progress::written))]
-fn written(rendered: Rendered) -> usize
-    ensures { result ≡ written rendered }
-{
-    match rendered {
-        Rendered::Written(n) => n,
-        Rendered::Refused(_) => 0,
+        Err(Unread::CutShort) => !last,
+        Err(Unread::Unknown) => false,
+        Ok(_) => false,
     }
 }
 
 // "Refusals 1 and 2 end the run, as does command number 4,294,967,294."
-#[tactic(auto, unfolding(crate::specs::Progress::ends_by, rules::specs::Lines::last_number))]
-fn ends(number: u64, refusal: u64) -> bool
-    ensures { result ≡ ends_by number refusal }
+#[tactic(auto, unfolding(crate::specs::Progress::ends_by, rules::specs::Lines::last_number, lines::specs::Lines::refusal_number, lines::specs::Lines::question_number))]
+fn ends(number: u64, refusal: Option<Refusal>) -> bool
+    ensures { result ≡ ends_by number (refusal_number refusal) }
 {
-    if refusal == 1 {
-        return true;
+    match refusal {
+        Some(Refusal::UnknownCommand | Refusal::CutShort) => true,
+        _ => number == LAST_NUMBER,
     }
-    if refusal == 2 {
-        return true;
-    }
-    number == LAST_NUMBER
-}
-
-#[tactic(auto, unfolding(crate::specs::Progress::phase_after))]
-fn phase_after(ended: bool) -> u64
-    ensures { result ≡ phase_after ended }
-{
-    if ended {
-        return END;
-    }
-    COMMANDS
-}
-
-#[tactic(auto, unfolding(crate::specs::Progress::at_least_one))]
-fn at_least_one(used: usize) -> usize
-    ensures { result ≡ at_least_one used }
-{
-    if used == 0 {
-        return 1;
-    }
-    used
 }
 
 // Where the next command begins: at the end where this one ends the run.
-#[tactic(auto, unfolding(crate::specs::Progress::next_at))]
+#[tactic(auto, unfolding(crate::specs::Progress::next_at, crate::specs::Progress::at_least_one))]
 fn next_at(n: usize, at: usize, used: usize, ended: bool) -> usize
     ensures { result ≡ next_at n at used ended }
 {
     if ended {
         return n;
     }
-    let step = at_least_one(used);
-    if at < n {
-        if step < n - at {
-            return at + step;
-        }
-        return n;
-    }
-    n
+    at.saturating_add(used.max(1)).min(n)
 }
 
-#[tactic(auto, unfolding(crate::specs::Progress::one_if))]
-fn one_if(refusal: u64) -> u64
-    ensures { result ≡ one_if refusal }
+#[tactic(auto, unfolding(crate::specs::Progress::one_if, lines::specs::Lines::refusal_number, lines::specs::Lines::question_number))]
+fn one_if(refusal: Option<Refusal>) -> u64
+    ensures { result ≡ one_if (refusal_number refusal) }
 {
-    if refusal == 0 {
-        return 0;
-    }
-    1
+    u64::from(refusal.is_some())
 }
 
 // What a command with this answer leaves, once so many bytes of output are written.
-#[tactic(auto, unfolding(crate::specs::Progress::counted))]
+#[tactic(auto, unfolding(crate::specs::Progress::counted, crate::specs::Progress::phase_after))]
 fn counted(n: usize, a: Answered, f: Progress, done: usize) -> Progress
     ensures { result ≡ counted n a f done }
 {
-    let answer = a.answer;
-    let why = answer.refusal;
-    let refusal = refusal_number(why);
+    let refusal = a.answer.refusal;
     let ended = ends(f.number, refusal);
-    let state = a.state;
     Progress {
         at: next_at(n, f.at, a.used, ended),
         done,
-        number: std::num::wrapping_add_u64(f.number, 1),
-        refused: std::num::wrapping_add_u64(f.refused, one_if(refusal)),
-        phase: phase_after(ended),
-        state,
+        number: f.number.wrapping_add(1),
+        refused: f.refused.wrapping_add(one_if(refusal)),
+        phase: if ended { END } else { COMMANDS },
+        state: a.state,
     }
 }
 
 // The line of a command is written, and the run goes on behind it.
-#[tactic(auto, unfolding(crate::specs::Progress::answered_fed))]
+#[tactic(auto, unfolding(crate::specs::Progress::answered_fed, crate::specs::Progress::written))]
 pub fn answered(output: &mut [u8], n: usize, a: Answered, f: Progress) -> Progress
     ensures { (result ≡ answered_fed output.old n a f) × (output.new ≡ buffer_with output.old f.done (line f.number (answer_of a.answer))) }
 {
-    let answer = a.answer;
-    let rendered = render_at(output, f.done, f.number, answer);
-    let done = std::num::wrapping_add_usize(f.done, written(rendered));
+    let rendered = render_at(output, f.done, f.number, a.answer);
+    let done = f.done.wrapping_add(rendered.unwrap_or(0));
     counted(n, a, f, done)
 }
 
 #[tactic(auto, unfolding(crate::specs::Progress::with_output))]
-fn with_output(mut f: Progress, done: usize, phase: u64) -> Progress
+fn with_output(f: Progress, done: usize, phase: u64) -> Progress
     ensures { result ≡ with_output f done phase }
 {
-    f.done = done;
-    f.phase = phase;
-    f
+    Progress { done, phase, ..f }
 }
 
 // A block begins: nothing of it is taken, and the output is empty.
 #[tactic(auto, unfolding(crate::specs::Progress::at_start))]
-fn at_start(mut f: Progress) -> Progress
+fn at_start(f: Progress) -> Progress
     ensures { result ≡ at_start f }
 {
-    f.at = 0;
-    f.done = 0;
-    f
+    Progress {
+        at: 0,
+        done: 0,
+        ..f
+    }
 }
 
 // A block begins; the header is written if it is due and there is room.
-#[tactic(auto, unfolding(crate::specs::Progress::opened_fed, crate::specs::Progress::opened_out))]
+#[tactic(auto, unfolding(crate::specs::Progress::written, crate::specs::Progress::opened_fed, crate::specs::Progress::opened_out))]
 pub fn opened(output: &mut [u8], fed: Progress) -> Progress
     ensures { (result ≡ opened_fed output.old fed) × (output.new ≡ opened_out output.old fed) }
 {
     let f = at_start(fed);
-    if fed.phase == HEADER {
-        if has_room(output, 0) {
-            let rendered = render_header(output, 0);
-            return with_output(f, written(rendered), COMMANDS);
-        }
+    if fed.phase == HEADER && has_room(output, 0) {
+        let rendered = render_header(output, 0);
+        return with_output(f, rendered.unwrap_or(0), COMMANDS);
     }
     f
 }
@@ -215,28 +161,18 @@ pub fn opened(output: &mut [u8], fed: Progress) -> Progress
 fn due(n: usize, last: bool, f: Progress) -> bool
     ensures { result ≡ due n last f }
 {
-    if f.phase == END {
-        return true;
-    }
-    if f.phase == COMMANDS {
-        if last {
-            return n <= f.at;
-        }
-    }
-    false
+    f.phase == END || (f.phase == COMMANDS && last && n <= f.at)
 }
 
 // The end line is written if it is due and there is room.
-#[tactic(auto, unfolding(crate::specs::Progress::closed_fed, crate::specs::Progress::closed_out))]
+#[tactic(auto, unfolding(crate::specs::Progress::written, crate::specs::Progress::closed_fed, crate::specs::Progress::closed_out))]
 pub fn closed(output: &mut [u8], n: usize, last: bool, f: Progress) -> Progress
     ensures { (result ≡ closed_fed output.old n last f) × (output.new ≡ closed_out output.old n last f) }
 {
-    if due(n, last, f) {
-        if has_room(output, f.done) {
-            let rendered = render_end(output, f.done, f.number, f.refused);
-            let done = std::num::wrapping_add_usize(f.done, written(rendered));
-            return with_output(f, done, ENDED);
-        }
+    if due(n, last, f) && has_room(output, f.done) {
+        let rendered = render_end(output, f.done, f.number, f.refused);
+        let done = f.done.wrapping_add(rendered.unwrap_or(0));
+        return with_output(f, done, ENDED);
     }
     f
 }

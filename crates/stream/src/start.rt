@@ -22,12 +22,6 @@ pub const MAX_NODES: u64 = 128;
 
 pub const SHORTEST: u64 = 2;
 
-#[derive(Clone, Copy)]
-pub enum Started {
-    Ready(State),
-    NoRoom,
-}
-
 // Its places and marks: undeclared, on no node, its idle thread running.
 #[tactic(auto, unfolding(crate::specs::Start::new_marks))]
 fn new_marks(cpus: &mut [CpuWords], c: u64)
@@ -61,41 +55,27 @@ fn new_cpu(cpus: &mut [CpuWords], c: u64)
 }
 
 // The CPUs below the limit; words past it are kept.
-#[tactic(auto, using(crate::proofs::Starting::every_cpu, crate::proofs::Starting::one_cpu_more), unfolding(crate::specs::Start::new_cpus))]
+#[tactic(auto, unfolding(crate::specs::Start::new_cpus))]
 fn new_cpus(cpus: &mut [CpuWords])
     ensures { cpus.new ≡ new_cpus 64 cpus.old }
 {
-    let mut c: u64 = 0;
-    while c < MAX_CPUS {
+    for c in 0..MAX_CPUS {
         new_cpu(cpus, c);
-        c += 1;
     }
 }
 
 #[tactic(auto, unfolding(crate::specs::Start::no_room_def))]
-fn no_room(cpus: &[CpuWords], nodes: &[NodeWords], threads: usize) -> bool
-    ensures { result ≡ no_room_def threads (length cpus.now) (length nodes.now) }
+fn no_room(threads: &[Thread], cpus: &[CpuWords], nodes: &[NodeWords]) -> bool
+    ensures { result ≡ no_room_def (length threads.now) (length cpus.now) (length nodes.now) }
 {
-    if threads < 1024 {
-        return true;
-    }
-    if cpus.len() < 64 {
-        return true;
-    }
-    nodes.len() < 128
-}
-
-fn refused() -> Started
-    ensures { result ≡ Started.NoRoom }
-{
-    Started::NoRoom
+    threads.len() < 1024 || cpus.len() < 64 || nodes.len() < 128
 }
 
 #[tactic(auto, unfolding(crate::specs::Start::initial))]
-fn ready() -> Started
-    ensures { result ≡ Started.Ready initial }
+fn initial() -> State
+    ensures { result ≡ initial }
 {
-    Started::Ready(State {
+    State {
         cpus: MAX_CPUS,
         nodes: MAX_NODES,
         shortest: SHORTEST,
@@ -104,20 +84,23 @@ fn ready() -> Started
         sealed: false,
         accepted: 0,
         node_count: 1,
-    })
+    }
 }
 
-// Ready, or NoRoom where a slice is too short, and then nothing is changed.
+// Ready with a state, unless a slice is too short, and then nothing is changed.
 #[tactic(auto, unfolding(crate::specs::Start::start_def))]
-pub fn start(threads: &mut [Thread], cpus: &mut [CpuWords], nodes: &mut [NodeWords]) -> Started
+pub fn start(
+    threads: &mut [Thread],
+    cpus: &mut [CpuWords],
+    nodes: &mut [NodeWords],
+) -> Option<State>
     ensures { LeavesAll start_def result threads cpus nodes }
 {
-    let n = threads.len();
-    if no_room(cpus, nodes, n) {
-        return refused();
+    if no_room(threads, cpus, nodes) {
+        return None;
     }
     clear(threads);
     new_cpus(cpus);
     new_root(nodes);
-    ready()
+    Some(initial())
 }

@@ -1,9 +1,8 @@
 -- The text of a command means that command.
-use Rattle.std.specs.Prelude.{ℕ, suc, ◌≤◌, ◌<◌, ◌^◌, ◌≡◌, Bool, true, false, eqb, ltb, length, take, set}
+use Rattle.std.specs.Prelude.{ℕ, suc, ◌≤◌, ◌<◌, ◌^◌, ◌≡◌, Bool, true, false, eqb, ltb, length, take, set, Some}
 use Rattle.std.proofs.Math.Path.{refl}
 use Rattle.std.proofs.Common.{sym, ◌∙◌, arith}
 use Rattle.std.proofs.lemmas.Bool.{false≢true}
-use Rattle.std.proofs.Math.Option.{some}
 use mathlib.Core.List.{List, [], ◌∷◌, ◌++◌, append_assoc}
 use Rattle.std.proofs.Math.Dec.{leb}
 use borrow.Author.Tests.{eqb-true, ne_eqb, ltb-true, leb-true}
@@ -20,7 +19,7 @@ use Rattle.request.specs.Fields.{list_of, four, row}
 use Rattle.request.proofs.Table.{by_row}
 use Rattle.request.proofs.ByWidths as by_widths
 use Rattle.request.proofs.ByWidths.{plain_row, row_plain, not_five}
-use Rattle.parse.specs.Words.{skip_blanks, blanks, same}
+use Rattle.parse.specs.Words.{skip_blanks, blanks}
 use Rattle.parse.specs.Meaning.{command, byte_among, byte_named, is_pin, pin, field, given, ended, fields_from, named_meaning, text_meaning, meaning}
 use Rattle.parse.specs.Meaning as parse
 use Rattle.parse.proofs.Laws.{decimal_read}
@@ -36,9 +35,9 @@ module _ (l : Limits) (byte : ℕ) (h : has_row (widths l byte) ≡ true) where
   byte_small = ltb-true byte 256 (by_row (λ b. ltb b 256) (λ b. true) byte l h refl)
 
   -- a name is read as its command
-  name_read : byte_named (name_of byte) ≡ some byte
-  unfolding byte_named byte_among same name_of naming_among namings naming ascii
-  name_read = by_row (λ b. byte_named (name_of b)) (λ b. some b) byte l h refl
+  name_read : byte_named (name_of byte) ≡ Some byte
+  unfolding byte_named byte_among name_of naming_among namings naming ascii
+  name_read = by_row (λ b. byte_named (name_of b)) (λ b. Some b) byte l h refl
 
   name_plain : plain (name_of byte) ≡ true
   unfolding plain name_of naming_among namings naming ascii
@@ -50,7 +49,7 @@ module _ (l : Limits) (byte : ℕ) (h : has_row (widths l byte) ≡ true) where
 
 -- ---- one field
 
-field_decimal : (wide : Bool) (byte i v : ℕ) → v < 2 ^ 64 → field wide byte i (decimal v) ≡ some v
+field_decimal : (wide : Bool) (byte i v : ℕ) → v < 2 ^ 64 → field wide byte i (decimal v) ≡ Some v
 unfolding field pin parse.no_pin
 field_decimal wide byte i v h = both (is_pin byte i)
     (λ e. rw (e, ne_eqb (length (decimal v)) 0 (λ q. omega (arith, decimal_some v)), no_dash (decimal v) (decimal_plain v) (decimal_some v)) (decimal_read v h))

@@ -6,7 +6,8 @@ use Rattle.std.proofs.Math.Seq.{take-append_seam, drop-append_seam}
 use Rattle.rules.proofs.Laws.Line.{both}
 use Rattle.rules.specs.Lines.{digits, decimal, space}
 use Rattle.names.specs.Names.{ascii}
-use Rattle.parse.specs.Words.{before_comment, blank, blanks, letters, skip_blanks, word, behind, same}
+use Rattle.std.specs.Str.{bytes_eq}
+use Rattle.parse.specs.Words.{before_comment, blank, blanks, letters, skip_blanks, word, behind}
 use Rattle.listing.specs.Listing.{numbers}
 use Rattle.text_laws.specs.Words.{plain}
 
@@ -103,7 +104,7 @@ skip_numbers v vs = rw (no_blanks (decimal v) (numbers vs) (decimal_plain v) (de
 pub not_empty : (w l : List ℕ) → 1 ≤ length w → eqb (length (w ++ l)) 0 ≡ false
 not_empty w l h = ne_eqb (length (w ++ l)) 0 (λ q. omega (arith, length-append w l))
 
-pub no_dash : (w : List ℕ) → plain w ≡ true → 1 ≤ length w → same w (ascii "-") ≡ false
-unfolding same ascii
+pub no_dash : (w : List ℕ) → plain w ≡ true → 1 ≤ length w → bytes_eq w (ascii "-") ≡ false
+unfolding ascii
 no_dash [] h k = refl
 no_dash (b ∷ w) h k = rw (ne_eqb b 45 (λ q. omega (arith, head_plain b w h)))

@@ -1,6 +1,5 @@
 -- Where a thread is, its link, and the mark that it is critical.
-use Rattle.std.specs.Prelude.{ℕ, zero, suc, ◌<◌, ◌≡◌, refl, Bool, true, false, cond, eqb, negsuc}
-use Rattle.std.proofs.Math.Option.{Option, none, some}
+use Rattle.std.specs.Prelude.{ℕ, zero, suc, ◌<◌, ◌≡◌, refl, Bool, true, false, cond, eqb, negsuc, None}
 use Rattle.std.proofs.Common.{arith}
 use Rattle.rules.specs.declared.Priority.{Priority}
 use Rattle.rules.specs.Priority.{nr_values, class_at, cut, from_raw, raw}
@@ -9,11 +8,18 @@ use Rattle.rules.specs.State.{new_thread, idle_priority}
 use Rattle.thread.specs.declared.Thread.{Thread}
 use Rattle.thread.specs.declared.place.Place.{Place}
 use Rattle.thread.specs.declared.place.Place.TheVariants as place
-use Rattle.thread.specs.Thread.{NONE, NO_DONATION, BLOCKED, RUNNING, WAITING, blank, with_place, with_next, with_critical}
+use Rattle.thread.specs.Thread.{NONE, NO_DONATION, UNDECLARED, BLOCKED, RUNNING, WAITING, blank, with_place, with_next, with_critical}
 use Rattle.thread.specs.Flags.{has_donated_priority}
-use Rattle.thread.specs.Reads.{held, donated_in, named, cpu_in, critical_in, reads}
+use Rattle.thread.specs.Reads.{donated_in, cpu_in, critical_in, reads}
 use Rattle.thread.specs.Priority.{raw_again}
 use Rattle.thread.specs.Time.{field_of}
+
+-- the number of a place
+abbrev pub number : Place → ℕ
+number place.Undeclared = UNDECLARED
+number place.Blocked = BLOCKED
+number place.Running = RUNNING
+number place.Waiting = WAITING
 
 -- the place that a number says
 unfoldable pub place_in : ℕ → Place
@@ -44,12 +50,12 @@ new p pin = record {
 
 -- ---- what each is in the rules
 
-pub reads_new : (p : Priority) (pin : ℕ) → p.value < nr_values → reads (new p pin) ≡ new_thread p (named (cpu_in (field_of pin)))
-unfolding reads new new_thread donated_in has_donated_priority held cpu_in named critical_in
+pub reads_new : (p : Priority) (pin : ℕ) → p.value < nr_values → reads (new p pin) ≡ new_thread p (cpu_in (field_of pin))
+unfolding reads new new_thread donated_in has_donated_priority cpu_in critical_in
 reads_new p pin h = rw (raw_again p h)
 
-pub reads_blank : reads blank ≡ new_thread idle_priority none
-unfolding reads new_thread idle_priority donated_in has_donated_priority held cpu_in named critical_in from_raw class_at cut nr_values
+pub reads_blank : reads blank ≡ new_thread idle_priority None
+unfolding reads new_thread idle_priority donated_in has_donated_priority cpu_in critical_in from_raw class_at cut nr_values
 reads_blank = refl
 
 -- the place and the link are not the rules' business

@@ -1,6 +1,5 @@
 -- Donations and the stable priority of a record (thread/priority.rs): what the code does to it, and what that is in the rules.
-use Rattle.std.specs.Prelude.{ℕ, ◌+◌, ◌*◌, ◌/◌, ◌%◌, ◌<◌, ◌≡◌, refl, true, false, cond, eqb}
-use Rattle.std.proofs.Math.Option.{none, some}
+use Rattle.std.specs.Prelude.{ℕ, ◌+◌, ◌*◌, ◌/◌, ◌%◌, ◌<◌, ◌≡◌, refl, true, false, cond, eqb, None, Some}
 use Rattle.std.proofs.Common.{arith, lt-ltb, ne_eqb}
 use Rattle.rules.proofs.Laws.Line.{both}
 use Rattle.rules.proofs.Laws.Effect.{cut_below}
@@ -14,7 +13,7 @@ use Rattle.thread.specs.declared.priority.Donation.{Donation}
 use Rattle.thread.specs.declared.priority.Stable.{Stable}
 use Rattle.thread.specs.Thread.{NO_DONATION, with_donated, with_stable}
 use Rattle.thread.specs.Flags.{has_donated_priority, set_donated_priority, reset_donated_priority, has_set, has_reset}
-use Rattle.thread.specs.Reads.{held, donated_in, reads}
+use Rattle.thread.specs.Reads.{donated_in, reads}
 
 unfoldable pub stable_effective_priority : Thread → Stable
 stable_effective_priority t = record {
@@ -24,7 +23,7 @@ stable_effective_priority t = record {
 
 unfoldable pub donate_priority : Thread → Priority → Donation
 donate_priority t p =
-    cond (donation_accepted (held (donated_in t)) p)
+    cond (donation_accepted (donated_in t) p)
     (record { thread = with_donated t (raw p) (set_donated_priority t.flags); accepted = true; needs_resched = less (effective_priority (reads t)) p })
     (record { thread = t; accepted = false; needs_resched = false })
 
@@ -40,7 +39,7 @@ class_below class.Background = omega arith
 class_below class.User = omega arith
 class_below class.Realtime = omega arith
 
-class_again : (c : PriorityClass) → class_at (class_number c) ≡ c
+pub class_again : (c : PriorityClass) → class_at (class_number c) ≡ c
 unfolding class_at class_number
 class_again class.Idle = refl
 class_again class.Background = refl
@@ -69,7 +68,7 @@ unfolding greater_of
 greater_below p q h k = both (less p q) (λ e. rw e k) (λ e. rw e h)
 
 pub effective_below : (t : Thread) → (effective_priority (reads t)).value < nr_values
-unfolding effective_priority reads donated_in held effective
+unfolding effective_priority reads donated_in effective
 effective_below t =
     both (has_donated_priority t.flags)
     (λ e. rw e (both (eqb t.donated_priority NO_DONATION)
@@ -84,15 +83,15 @@ unfolding stable_effective_priority with_stable steadied reads donated_in
 reads_stable t = rw (raw_again (effective_priority (reads t)) (effective_below t))
 
 pub reads_donated : (t : Thread) (p : Priority) → p.value < nr_values
-    → reads (donate_priority t p).thread ≡ cond (donation_accepted (reads t).donated p) (donated_to (reads t) (some p)) (reads t)
-unfolding donate_priority with_donated donated_to reads donated_in held
+    → reads (donate_priority t p).thread ≡ cond (donation_accepted (reads t).donated p) (donated_to (reads t) (Some p)) (reads t)
+unfolding donate_priority with_donated donated_to reads donated_in
 reads_donated t p h =
-    both (donation_accepted (held (donated_in t)) p)
+    both (donation_accepted (donated_in t) p)
     (λ e. rw (e, has_set t.flags, ne_eqb _ _ (raw_some p), raw_again p h))
     (λ e. rw e)
 
-pub reads_removed : (t : Thread) → reads (remove_donated_priority t) ≡ donated_to (reads t) none
-unfolding remove_donated_priority with_donated donated_to reads donated_in held
+pub reads_removed : (t : Thread) → reads (remove_donated_priority t) ≡ donated_to (reads t) None
+unfolding remove_donated_priority with_donated donated_to reads donated_in
 reads_removed t =
     both (has_donated_priority t.flags)
     (λ e. rw (e, has_reset t.flags))

@@ -1,36 +1,23 @@
 -- What a record says, in the terms of the rules.
-use Rattle.std.specs.Prelude.{ℕ, Bool, cond, not, eqb, ℤ, pos, negsuc}
-use Rattle.std.proofs.Math.Option.{Option, none, some}
+use Rattle.std.specs.Prelude.{ℕ, Bool, cond, not, eqb, ℤ, pos, negsuc, Option, None, Some}
 use Rattle.rules.specs.declared.Priority.{Priority}
 use Rattle.rules.specs.Priority.{from_raw}
 use Rattle.rules.specs.Times as times
 use Rattle.thread.specs.declared.Thread.{Thread}
-use Rattle.thread.specs.declared.priority.OptionPriority.{OptionPriority}
-use Rattle.thread.specs.declared.priority.OptionPriority.TheVariants as priority
-use Rattle.thread.specs.declared.time.OptionCpu.{OptionCpu}
-use Rattle.thread.specs.declared.time.OptionCpu.TheVariants as cpu
 use Rattle.thread.specs.Thread.{NO_DONATION}
 use Rattle.thread.specs.Flags.{has_donated_priority}
 
 -- the answers as the rules have them
-unfoldable pub held : OptionPriority → Option Priority
-held (priority.Some p) = some p
-held priority.None = none
-
-unfoldable pub named : OptionCpu → Option ℕ
-named (cpu.Some c) = some c
-named cpu.None = none
-
 -- the donation that a record holds: the flag says that there is one, and the number is not the one for none
-unfoldable pub donated_in : Thread → OptionPriority
+unfoldable pub donated_in : Thread → Option Priority
 donated_in t =
     cond (has_donated_priority t.flags)
-    (cond (eqb t.donated_priority NO_DONATION) priority.None (priority.Some (from_raw t.donated_priority))) priority.None
+    (cond (eqb t.donated_priority NO_DONATION) None (Some (from_raw t.donated_priority))) None
 
 -- "below zero means none"
-unfoldable pub cpu_in : ℤ → OptionCpu
-cpu_in (pos c) = cpu.Some c
-cpu_in (negsuc n) = cpu.None
+unfoldable pub cpu_in : ℤ → Option ℕ
+cpu_in (pos c) = Some c
+cpu_in (negsuc n) = None
 
 -- any number but 0 marks a thread as critical
 unfoldable pub critical_in : ℕ → Bool
@@ -39,11 +26,11 @@ critical_in n = not (eqb n 0)
 unfoldable pub reads : Thread → times.Thread
 reads t = record {
   own = from_raw t.priority;
-  donated = held (donated_in t);
+  donated = (donated_in t);
   stable = from_raw t.stable_priority;
-  pin = named (cpu_in t.pinned_cpu);
-  last = named (cpu_in t.last_cpu);
-  queue_cpu = named (cpu_in t.current_processor_queue);
+  pin = (cpu_in t.pinned_cpu);
+  last = (cpu_in t.last_cpu);
+  queue_cpu = (cpu_in t.current_processor_queue);
   deadline = t.deadline;
   timeslice = t.timeslice;
   critical = critical_in t.critical;

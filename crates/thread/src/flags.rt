@@ -4,29 +4,23 @@ ghost use Rattle.thread.specs.Flags.{has_donated_priority, set_donated_priority,
 
 pub const THREAD_HAS_DONATED_PRIORITY: u64 = 2;
 
-#[tactic(auto, unfolding(crate::specs::Flags::has_donated_priority))]
+#[tactic(auto, using(crate::proofs::FlagBit::has_is))]
 pub fn has_donated_priority(flags: u64) -> bool
     ensures { result ≡ has_donated_priority flags }
 {
-    flags / THREAD_HAS_DONATED_PRIORITY % 2 == 1
+    flags & THREAD_HAS_DONATED_PRIORITY != 0
 }
 
-#[tactic(auto, unfolding(crate::specs::Flags::set_donated_priority, crate::specs::Flags::has_donated_priority))]
+#[tactic(auto, using(crate::proofs::FlagBit::set_is))]
 pub fn set_donated_priority(flags: u64) -> u64
     ensures { result ≡ set_donated_priority flags }
 {
-    if has_donated_priority(flags) {
-        return flags;
-    }
-    flags + THREAD_HAS_DONATED_PRIORITY
+    flags | THREAD_HAS_DONATED_PRIORITY
 }
 
-#[tactic(auto, unfolding(crate::specs::Flags::has_donated_priority, crate::specs::Flags::reset_donated_priority))]
+#[tactic(auto, using(crate::proofs::FlagBit::reset_is))]
 pub fn reset_donated_priority(flags: u64) -> u64
     ensures { result ≡ reset_donated_priority flags }
 {
-    if has_donated_priority(flags) {
-        return flags - THREAD_HAS_DONATED_PRIORITY;
-    }
-    flags
+    flags & !THREAD_HAS_DONATED_PRIORITY
 }

@@ -1,43 +1,53 @@
 // Where a thread is, its link, and the mark that it is critical.
 ghost use Rattle.std.specs.Prelude.{◌≡◌, eqb};
-ghost use Rattle.thread.specs.Thread.{BLOCKED, RUNNING, WAITING, with_place, with_next, with_critical};
+ghost use Rattle.thread.specs.Thread.{BLOCKED, with_place, with_next, with_critical};
 ghost use Rattle.thread.specs.Reads.{critical_in};
-ghost use Rattle.thread.specs.Place.{place_in, is_declared, new};
+ghost use Rattle.thread.specs.Place.{number, place_in, is_declared, new};
 
 use crate::priority::raw;
 use crate::time::field_of;
 use crate::{BLOCKED, NO_DONATION, NONE, RUNNING, Thread, WAITING};
 use rules::Priority;
 
-#[derive(Clone, Copy)]
+// The number of a place is the one that its record holds.
+#[derive(Clone, Copy, PartialEq, Eq)]
 pub enum Place {
-    Undeclared,
-    Blocked,
-    Running,
-    Waiting,
+    Undeclared = 0,
+    Blocked = 1,
+    Running = 2,
+    Waiting = 3,
+}
+
+impl From<Place> for u64 {
+    ghost from_gives = { λ place r. r ≡ number place };
+
+    fn from(place: Place) -> u64 {
+        place as u64
+    }
 }
 
 // The place that a number says: any number of no other place is Undeclared.
-#[tactic(auto, unfolding(crate::specs::Place::place_in))]
-pub fn place_in(number: u64) -> Place
-    ensures { result ≡ place_in number }
-{
-    match number {
-        1 => Place::Blocked,
-        2 => Place::Running,
-        3 => Place::Waiting,
-        _ => Place::Undeclared,
+impl From<u64> for Place {
+    ghost from_gives = { λ n r. r ≡ place_in n };
+
+    #[tactic(auto, unfolding(crate::specs::Place::place_in))]
+    fn from(number: u64) -> Place {
+        match number {
+            BLOCKED => Place::Blocked,
+            RUNNING => Place::Running,
+            WAITING => Place::Waiting,
+            _ => Place::Undeclared,
+        }
     }
 }
 
 impl Thread {
     // A declared thread, blocked, of this priority, pinned to this CPU; NONE pins it to none.
-    #[tactic(auto, using(crate::specs::Time::stored_field), unfolding(crate::specs::Place::new))]
+    #[tactic(auto, unfolding(crate::specs::Place::new))]
     pub fn new(priority: Priority, pin: u64) -> Self
         ensures { result ≡ new priority pin }
     {
         let own = raw(priority);
-        let pinned_cpu = field_of(pin);
         Thread {
             priority: own,
             donated_priority: NO_DONATION,
@@ -47,7 +57,7 @@ impl Thread {
             place: BLOCKED,
             next: NONE,
             last_cpu: -1,
-            pinned_cpu,
+            pinned_cpu: field_of(pin),
             current_processor_queue: -1,
             deadline: 0,
             timeslice: 0,
@@ -57,20 +67,14 @@ impl Thread {
     pub fn place(self) -> Place
         ensures { result ≡ place_in self.place }
     {
-        place_in(self.place)
+        Place::from(self.place)
     }
 
     #[tactic(auto, unfolding(crate::specs::Place::is_declared))]
     pub fn is_declared(self) -> bool
         ensures { result ≡ is_declared (place_in self.place) }
     {
-        let place = self.place();
-        match place {
-            Place::Undeclared => false,
-            Place::Blocked => true,
-            Place::Running => true,
-            Place::Waiting => true,
-        }
+        self.place() != Place::Undeclared
     }
 
     pub fn is_blocked(self) -> bool
@@ -80,26 +84,10 @@ impl Thread {
     }
 
     #[tactic(auto, unfolding(crate::specs::Thread::with_place))]
-    pub fn blocked(mut self) -> Thread
-        ensures { result ≡ with_place self BLOCKED }
+    pub fn with_place(mut self, place: Place) -> Thread
+        ensures { result ≡ with_place self (number place) }
     {
-        self.place = BLOCKED;
-        self
-    }
-
-    #[tactic(auto, unfolding(crate::specs::Thread::with_place))]
-    pub fn running(mut self) -> Thread
-        ensures { result ≡ with_place self RUNNING }
-    {
-        self.place = RUNNING;
-        self
-    }
-
-    #[tactic(auto, unfolding(crate::specs::Thread::with_place))]
-    pub fn waiting(mut self) -> Thread
-        ensures { result ≡ with_place self WAITING }
-    {
-        self.place = WAITING;
+        self.place = u64::from(place);
         self
     }
 

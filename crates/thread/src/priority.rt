@@ -1,8 +1,8 @@
 // Priorities (thread/priority.rs): a class, then a value from 0 to 127. Raw, the class is above the lower 16 bits.
 ghost use Rattle.std.specs.Prelude.{◌≡◌};
-ghost use Rattle.rules.specs.Priority.{class_number, class_at, cut, from_raw, raw, less, greater_of, at_most, effective, donation_accepted};
+ghost use Rattle.rules.specs.Priority.{class_at, cut, from_raw, raw, less, greater_of, at_most, effective, donation_accepted};
 ghost use Rattle.rules.specs.Times.{effective_priority};
-ghost use Rattle.thread.specs.Reads.{held, donated_in, reads};
+ghost use Rattle.thread.specs.Reads.{donated_in, reads};
 ghost use Rattle.thread.specs.Priority.{stable_effective_priority, donate_priority, remove_donated_priority};
 
 use crate::flags::{has_donated_priority, reset_donated_priority, set_donated_priority};
@@ -10,13 +10,6 @@ use crate::{NO_DONATION, Thread};
 use rules::{Priority, PriorityClass};
 
 pub const MAX_PRIORITY: u64 = 128;
-
-// A priority, or none.
-#[derive(Clone, Copy)]
-pub enum OptionPriority {
-    Some(Priority),
-    None,
-}
 
 // What a donation came to: the thread, whether the donation was accepted, and whether it was accepted and is above what was the thread's effective
 // priority, so that the thread's CPU may have to be signalled.
@@ -34,18 +27,6 @@ pub struct Stable {
     pub priority: Priority,
 }
 
-#[tactic(auto, unfolding(rules::specs::Priority::class_number))]
-pub fn class_number(class: PriorityClass) -> u64
-    ensures { result ≡ class_number class }
-{
-    match class {
-        PriorityClass::Idle => 0,
-        PriorityClass::Background => 1,
-        PriorityClass::User => 2,
-        PriorityClass::Realtime => 3,
-    }
-}
-
 // The class that a number names: everything from 3 up is Realtime.
 #[tactic(auto, unfolding(rules::specs::Priority::class_at))]
 pub fn class_at(number: u64) -> PriorityClass
@@ -55,7 +36,7 @@ pub fn class_at(number: u64) -> PriorityClass
         0 => PriorityClass::Idle,
         1 => PriorityClass::Background,
         2 => PriorityClass::User,
-        3..=18446744073709551615 => PriorityClass::Realtime,
+        _ => PriorityClass::Realtime,
     }
 }
 
@@ -63,109 +44,80 @@ pub fn class_at(number: u64) -> PriorityClass
 pub fn cut(value: u64) -> u64
     ensures { result ≡ cut value }
 {
-    if value < MAX_PRIORITY {
-        return value;
-    }
-    MAX_PRIORITY - 1
+    value.min(MAX_PRIORITY - 1)
 }
 
 #[tactic(auto, unfolding(rules::specs::Priority::from_raw))]
 pub fn from_raw(d: u64) -> Priority
     ensures { result ≡ from_raw d }
 {
-    let class = class_at(d / 65536);
-    let value = cut(d % 65536);
-    Priority { class, value }
+    Priority {
+        class: class_at(d / 65536),
+        value: cut(d % 65536),
+    }
 }
 
-#[tactic(auto, using(crate::specs::Priority::class_below), unfolding(rules::specs::Priority::raw))]
+#[tactic(auto, unfolding(rules::specs::Priority::raw, rules::specs::Priority::class_number))]
 pub fn raw(priority: Priority) -> u64
     ensures { result ≡ raw priority }
 {
-    let class = priority.class;
-    class_number(class) * 65536 + priority.value % 65536
+    priority.class as u64 * 65536 + priority.value % 65536
 }
 
-#[tactic(auto, unfolding(rules::specs::Priority::less))]
+#[tactic(auto, using(crate::proofs::Order::less_derived))]
 pub fn less(p: Priority, q: Priority) -> bool
     ensures { result ≡ less p q }
 {
-    let c = p.class;
-    let d = q.class;
-    let a = class_number(c);
-    let b = class_number(d);
-    if a < b {
-        return true;
-    }
-    if a == b {
-        return p.value < q.value;
-    }
-    false
+    p < q
 }
 
-#[tactic(auto, unfolding(rules::specs::Priority::greater_of))]
+#[tactic(auto, using(crate::proofs::Order::max_derived))]
 pub fn max(p: Priority, q: Priority) -> Priority
     ensures { result ≡ greater_of p q }
 {
-    if less(p, q) {
-        return q;
-    }
-    p
+    p.max(q)
 }
 
 // The effective priority of a thread with these two.
-#[tactic(auto, using(rules::proofs::Rows::given), unfolding(rules::specs::Priority::effective, crate::specs::Reads::held))]
-pub fn effective(own: Priority, donated: OptionPriority) -> Priority
-    ensures { result ≡ effective own (held donated) }
+#[tactic(auto, unfolding(rules::specs::Priority::effective))]
+pub fn effective(own: Priority, donated: Option<Priority>) -> Priority
+    ensures { result ≡ effective own donated }
 {
-    match donated {
-        OptionPriority::Some(p) => max(own, p),
-        OptionPriority::None => own,
-    }
+    donated.map_or(own, |p| max(own, p))
 }
 
 // Is a donation accepted where another may be held? Not if that one is greater.
-#[tactic(auto, using(rules::proofs::Rows::given), unfolding(rules::specs::Priority::donation_accepted, crate::specs::Reads::held, rules::specs::Priority::at_most))]
-pub fn donation_accepted(current: OptionPriority, pri: Priority) -> bool
-    ensures { result ≡ donation_accepted (held current) pri }
+#[tactic(auto, unfolding(rules::specs::Priority::donation_accepted, rules::specs::Priority::at_most))]
+pub fn donation_accepted(current: Option<Priority>, pri: Priority) -> bool
+    ensures { result ≡ donation_accepted current pri }
 {
-    match current {
-        OptionPriority::Some(p) => at_most(p, pri),
-        OptionPriority::None => true,
-    }
+    current.is_none_or(|held| at_most(held, pri))
 }
 
-#[tactic(auto, unfolding(rules::specs::Priority::at_most))]
+#[tactic(auto, using(crate::proofs::Order::at_most_derived))]
 pub fn at_most(p: Priority, q: Priority) -> bool
     ensures { result ≡ at_most p q }
 {
-    if less(q, p) {
-        return false;
-    }
-    true
+    p <= q
 }
 
 impl Thread {
     #[tactic(auto, unfolding(crate::specs::Reads::donated_in))]
-    pub fn get_donated_priority(self) -> OptionPriority
+    pub fn get_donated_priority(self) -> Option<Priority>
         ensures { result ≡ donated_in self }
     {
-        if has_donated_priority(self.flags) {
-            if self.donated_priority == NO_DONATION {
-                return OptionPriority::None;
-            }
-            return OptionPriority::Some(from_raw(self.donated_priority));
+        if has_donated_priority(self.flags) && self.donated_priority != NO_DONATION {
+            Some(from_raw(self.donated_priority))
+        } else {
+            None
         }
-        OptionPriority::None
     }
 
     #[tactic(auto, unfolding(rules::specs::Times::effective_priority, crate::specs::Reads::reads))]
     pub fn effective_priority(self) -> Priority
         ensures { result ≡ effective_priority (reads self) }
     {
-        let own = from_raw(self.priority);
-        let donated = self.get_donated_priority();
-        effective(own, donated)
+        effective(from_raw(self.priority), self.get_donated_priority())
     }
 
     pub fn get_stable_effective_priority(self) -> Priority
@@ -186,26 +138,20 @@ impl Thread {
         }
     }
 
-    #[tactic(auto, unfolding(crate::specs::Priority::donate_priority, crate::specs::Thread::with_donated))]
+    #[tactic(auto, using(crate::proofs::Order::less_derived), unfolding(crate::specs::Priority::donate_priority, crate::specs::Thread::with_donated))]
     pub fn donate_priority(mut self, pri: Priority) -> Donation
         ensures { result ≡ donate_priority self pri }
     {
-        let current_priority = self.effective_priority();
-        let current = self.get_donated_priority();
-        if donation_accepted(current, pri) {
-            let needs_resched = less(current_priority, pri);
+        let accepted = donation_accepted(self.get_donated_priority(), pri);
+        let needs_resched = accepted && self.effective_priority() < pri;
+        if accepted {
             self.donated_priority = raw(pri);
             self.flags = set_donated_priority(self.flags);
-            return Donation {
-                thread: self,
-                accepted: true,
-                needs_resched,
-            };
         }
         Donation {
             thread: self,
-            accepted: false,
-            needs_resched: false,
+            accepted,
+            needs_resched,
         }
     }
 
@@ -216,7 +162,6 @@ impl Thread {
         if has_donated_priority(self.flags) {
             self.flags = reset_donated_priority(self.flags);
             self.donated_priority = NO_DONATION;
-            return self;
         }
         self
     }

@@ -5,19 +5,11 @@ ghost use Rattle.thread.specs.Time.{field_of, preferred_of, preferred_last, pref
 
 use crate::Thread;
 
-// A CPU number, or none.
-#[derive(Clone, Copy)]
-pub enum OptionCpu {
-    Some(u64),
-    None,
-}
-
 // The CPU that a thread prefers: the one it is pinned to, else the one last used.
 #[derive(Clone, Copy)]
 pub enum Preferred {
     Pinned(u64),
     Last(u64),
-    None,
 }
 
 // A thread that has paid, and whether its timeslice expired.
@@ -28,36 +20,26 @@ pub struct Paid {
 }
 
 // The CPU that a field names.
-#[tactic(auto, using(crate::specs::Time::sign_above, crate::specs::Time::sign_below))]
-pub fn cpu_in(field: i32) -> OptionCpu
+#[tactic(auto, unfolding(crate::specs::Reads::cpu_in))]
+pub fn cpu_in(field: i32) -> Option<u64>
     ensures { result ≡ cpu_in field }
 {
-    if field < 0 {
-        return OptionCpu::None;
-    }
-    OptionCpu::Some(field as u64)
+    u64::try_from(field).ok()
 }
 
 // The field for a CPU number; a number past the largest of an i32 is none.
-#[tactic(auto, using(crate::specs::Time::cast_field), unfolding(crate::specs::Time::field_of))]
+#[tactic(auto, unfolding(crate::specs::Time::field_of))]
 pub fn field_of(cpu: u64) -> i32
     ensures { result ≡ field_of cpu }
 {
-    if cpu < 2147483648 {
-        return cpu as i32;
-    }
-    -1
+    i32::try_from(cpu).unwrap_or(-1)
 }
 
 // Do the ticks paid reach what is allowed?
-#[tactic(auto, using(crate::specs::Time::reach))]
 pub fn reaches(paid: u64, ticks: u64, allowed: u64) -> bool
     ensures { result ≡ leb allowed (paid + ticks) }
 {
-    if allowed <= ticks {
-        return true;
-    }
-    allowed - ticks <= paid
+    allowed.saturating_sub(ticks) <= paid
 }
 
 // The ticks paid, in 32 bits.
@@ -65,62 +47,48 @@ pub fn reaches(paid: u64, ticks: u64, allowed: u64) -> bool
 pub fn narrow_sum(paid: u64, ticks: u64) -> u64
     ensures { result ≡ narrow_sum paid ticks }
 {
-    (paid % 4294967296 + ticks % 4294967296) % 4294967296
+    paid.wrapping_add(ticks) % 0x1_0000_0000
 }
 
 // The pin, where there is one, is preferred.
-#[tactic(auto, using(rules::proofs::Rows::given), unfolding(crate::specs::Time::preferred_of))]
-pub fn pin_or_last(pinned: OptionCpu, last: OptionCpu) -> Preferred
+#[tactic(auto, unfolding(crate::specs::Time::preferred_of, crate::specs::Time::preferred_last))]
+pub fn pin_or_last(pinned: Option<u64>, last: Option<u64>) -> Option<Preferred>
     ensures { result ≡ preferred_of pinned last }
 {
     match pinned {
-        OptionCpu::Some(c) => Preferred::Pinned(c),
-        OptionCpu::None => preferred_last(last),
-    }
-}
-
-#[tactic(auto, using(rules::proofs::Rows::given), unfolding(crate::specs::Time::preferred_last))]
-pub fn preferred_last(last: OptionCpu) -> Preferred
-    ensures { result ≡ preferred_last last }
-{
-    match last {
-        OptionCpu::Some(c) => Preferred::Last(c),
-        OptionCpu::None => Preferred::None,
+        Some(cpu) => Some(Preferred::Pinned(cpu)),
+        None => last.map(Preferred::Last),
     }
 }
 
 impl Thread {
-    #[tactic(auto, using(crate::specs::Time::stored_field), unfolding(crate::specs::Time::pin_cpu, crate::specs::Thread::with_pinned))]
+    #[tactic(auto, unfolding(crate::specs::Time::pin_cpu, crate::specs::Thread::with_pinned))]
     pub fn pin_cpu(mut self, cpu: u64) -> Thread
         ensures { result ≡ pin_cpu self cpu }
     {
-        let field = field_of(cpu);
-        self.pinned_cpu = field;
+        self.pinned_cpu = field_of(cpu);
         self
     }
 
-    pub fn pinned_to(self) -> OptionCpu
+    pub fn pinned_to(self) -> Option<u64>
         ensures { result ≡ cpu_in self.pinned_cpu }
     {
-        let field = self.pinned_cpu;
-        cpu_in(field)
+        cpu_in(self.pinned_cpu)
     }
 
     #[tactic(auto, unfolding(crate::specs::Time::pay_ticks, crate::specs::Thread::with_timeslice))]
     pub fn pay_ticks(mut self, ticks: u64, allowed: u64) -> Paid
         ensures { result ≡ pay_ticks self ticks allowed }
     {
-        if reaches(self.timeslice, ticks, allowed) {
-            self.timeslice = 0;
-            return Paid {
-                thread: self,
-                expired: true,
-            };
-        }
-        self.timeslice = narrow_sum(self.timeslice, ticks);
+        let expired = reaches(self.timeslice, ticks, allowed);
+        self.timeslice = if expired {
+            0
+        } else {
+            narrow_sum(self.timeslice, ticks)
+        };
         Paid {
             thread: self,
-            expired: false,
+            expired,
         }
     }
 
@@ -132,39 +100,34 @@ impl Thread {
         self
     }
 
-    #[tactic(auto, using(crate::specs::Time::stored_field), unfolding(crate::specs::Time::moving_to_queue, crate::specs::Thread::with_queue))]
+    #[tactic(auto, unfolding(crate::specs::Time::moving_to_queue, crate::specs::Thread::with_queue))]
     pub fn moving_to_queue(mut self, cpu: u64) -> Thread
         ensures { result ≡ moving_to_queue self cpu }
     {
-        let field = field_of(cpu);
-        self.current_processor_queue = field;
+        self.current_processor_queue = field_of(cpu);
         self
     }
 
-    #[tactic(auto, using(crate::specs::Time::stored_field), unfolding(crate::specs::Time::moving_to_active, crate::specs::Thread::with_last, crate::specs::Thread::with_queue))]
+    #[tactic(auto, unfolding(crate::specs::Time::moving_to_active, crate::specs::Thread::with_last, crate::specs::Thread::with_queue))]
     pub fn moving_to_active(mut self, cpu: u64) -> Thread
         ensures { result ≡ moving_to_active self cpu }
     {
-        let field = field_of(cpu);
         self.current_processor_queue = -1;
-        self.last_cpu = field;
+        self.last_cpu = field_of(cpu);
         self
     }
 
-    pub fn current_cpu_rq(self) -> OptionCpu
+    pub fn current_cpu_rq(self) -> Option<u64>
         ensures { result ≡ cpu_in self.current_processor_queue }
     {
-        let field = self.current_processor_queue;
-        cpu_in(field)
+        cpu_in(self.current_processor_queue)
     }
 
     #[tactic(auto, unfolding(crate::specs::Time::preferred_cpu))]
-    pub fn preferred_cpu(self) -> Preferred
+    pub fn preferred_cpu(self) -> Option<Preferred>
         ensures { result ≡ preferred_cpu self }
     {
-        let pinned = self.pinned_cpu;
-        let last = self.last_cpu;
-        pin_or_last(cpu_in(pinned), cpu_in(last))
+        pin_or_last(cpu_in(self.pinned_cpu), cpu_in(self.last_cpu))
     }
 
     #[tactic(auto, unfolding(crate::specs::Time::set_deadline, crate::specs::Thread::with_deadline))]

@@ -1,12 +1,12 @@
 -- Sets of CPU numbers (CpuSet, processor/sched.rs): sixteen words of 64 bits.
 use Rattle.std.specs.Prelude.{ℕ, zero, suc, ◌+◌, ◌-◌, ◌*◌, ◌/◌, ◌%◌, ◌^◌, ◌≤◌, ◌<◌, ◌≡◌, refl, Bool, true, false, cond, List, eqb, ltb, length, get_or, set, replicate}
-use Rattle.std.proofs.Common.{sym, ap, ◌∙◌, arith, length-set, get_or-set_same, get_or-set_other, shl_exact, eqb-true, eq-eqb, ne_eqb, ltb-true, ltb-false, lt-ltb, le-ltb}
+use Rattle.std.proofs.Common.{ap, ◌∙◌, arith, length-set, get_or-set_same, get_or-set_other, shl_exact, eqb-true, eq-eqb, ne_eqb, ltb-true, ltb-false, lt-ltb, le-ltb}
 use Rattle.std.proofs.lemmas.Bool.{false≢true, eqb-false}
 use Rattle.std.proofs.lemmas.List.{length-replicate}
 use Rattle.std.proofs.Math.ListN.{get_or-eq_default}
 use borrow.Table.Steps.{cases as both}
 use Rattle.topology.specs.declared.cpuset.CpuSet.{CpuSet}
-use Rattle.topology.specs.Bits.{digit, zero_digit, digit_below, add_same, add_other, add_below, one_least, sub_same, sub_other, all_zero, ones_digit}
+use Rattle.topology.specs.Bits.{digit, zero_digit, add_same, add_other, add_below, one_least, sub_same, sub_other, all_zero, ones_digit}
 
 -- the number with bit i % 64 alone
 unfoldable pub power : ℕ → ℕ
@@ -258,12 +258,6 @@ at_no_bits : (ws : List ℕ) (k : ℕ) → ((i : ℕ) → i < k → get_or ws i 
 unfolding no_bits
 at_no_bits ws zero h = refl
 at_no_bits ws (suc k) h = rw (eq-eqb _ _ (h k (omega arith))) (at_no_bits ws k (λ i l. h i (omega arith)))
-
--- one turn of a loop over the words
-pub no_bits_step : (ws : List ℕ) (i : ℕ) → 0 < i → no_bits ws i ≡ cond (eqb (get_or ws (i - 1) 0) 0) (no_bits ws (i - 1)) false
-unfolding no_bits
-no_bits_step ws zero h = absurd (omega arith)
-no_bits_step ws (suc i) h = let e : suc i - 1 ≡ i = omega arith in rw e
 
 pub empty_none : (s : CpuSet) → is_empty s ≡ true → (id : ℕ) → contains s id ≡ false
 unfolding is_empty contains word_of max_cpu_id

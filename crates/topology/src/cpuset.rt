@@ -18,33 +18,27 @@ pub fn power(i: u64) -> u64
 }
 
 // Is bit `i % 64` of the word 1?
-#[tactic(auto, unfolding(crate::specs::CpuSet::bit))]
+#[tactic(auto, using(crate::proofs::Masks::bit_is))]
 pub fn bit(word: u64, i: u64) -> bool
     ensures { result ≡ bit word i }
 {
-    (word >> (i % 64)) % 2 == 1
+    word & power(i) != 0
 }
 
 // The word with that bit 1.
-#[tactic(auto, using(crate::specs::CpuSet::add_fits), unfolding(crate::specs::CpuSet::set_bit))]
+#[tactic(auto, using(crate::proofs::Masks::set_is))]
 pub fn set_bit(word: u64, i: u64) -> u64
     ensures { result ≡ set_bit word i }
 {
-    if bit(word, i) {
-        return word;
-    }
-    word + power(i)
+    word | power(i)
 }
 
 // The word with that bit 0.
-#[tactic(auto, using(crate::specs::CpuSet::sub_fits), unfolding(crate::specs::CpuSet::clear_bit))]
+#[tactic(auto, using(crate::proofs::Masks::clear_is))]
 pub fn clear_bit(word: u64, i: u64) -> u64
     ensures { result ≡ clear_bit word i }
 {
-    if bit(word, i) {
-        return word - power(i);
-    }
-    word
+    word & !power(i)
 }
 
 impl CpuSet {
@@ -53,7 +47,7 @@ impl CpuSet {
         ensures { result ≡ all }
     {
         CpuSet {
-            set: [18446744073709551615u64; 16],
+            set: [u64::MAX; 16],
         }
     }
 
@@ -61,18 +55,14 @@ impl CpuSet {
     pub fn empty() -> Self
         ensures { result ≡ empty }
     {
-        CpuSet { set: [0u64; 16] }
+        CpuSet { set: [0; 16] }
     }
 
     #[tactic(auto, unfolding(crate::specs::CpuSet::contains, crate::specs::CpuSet::max_cpu_id, crate::specs::CpuSet::word_of))]
     pub fn contains(self, id: u64) -> bool
         ensures { result ≡ contains self id }
     {
-        if id < MAX_CPU_ID {
-            let i = (id / 64) as usize;
-            return bit(self.set[i], id);
-        }
-        false
+        id < MAX_CPU_ID && bit(self.set[(id / 64) as usize], id)
     }
 
     #[tactic(auto, unfolding(crate::specs::CpuSet::insert, crate::specs::CpuSet::max_cpu_id, crate::specs::CpuSet::word_of))]
@@ -81,9 +71,7 @@ impl CpuSet {
     {
         if id < MAX_CPU_ID {
             let i = (id / 64) as usize;
-            let word = self.set[i];
-            self.set[i] = set_bit(word, id);
-            return self;
+            self.set[i] = set_bit(self.set[i], id);
         }
         self
     }
@@ -94,24 +82,15 @@ impl CpuSet {
     {
         if id < MAX_CPU_ID {
             let i = (id / 64) as usize;
-            let word = self.set[i];
-            self.set[i] = clear_bit(word, id);
-            return self;
+            self.set[i] = clear_bit(self.set[i], id);
         }
         self
     }
 
-    #[tactic(auto, using(crate::specs::CpuSet::no_bits_step), unfolding(crate::specs::CpuSet::is_empty, crate::specs::CpuSet::no_bits))]
+    #[tactic(auto, unfolding(crate::specs::CpuSet::is_empty, crate::specs::CpuSet::no_bits))]
     pub fn is_empty(self) -> bool
         ensures { result ≡ is_empty self }
     {
-        let mut i: usize = 16;
-        while 0 < i {
-            i -= 1;
-            if self.set[i] != 0 {
-                return false;
-            }
-        }
-        true
+        self.set.iter().all(|word| *word == 0)
     }
 }

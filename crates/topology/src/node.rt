@@ -3,7 +3,7 @@ ghost use Rattle.std.specs.Prelude.{◌≡◌};
 ghost use Rattle.topology.specs.Node.{lesser, greater, new_node, put_node, new_root, add_child, has_children, has_cpus, contains_at, put_cpu, set_cpu, first_of, end_of};
 
 use crate::cpuset::{MAX_CPU_ID, bit, set_bit};
-use crate::words::{NodeWords, put_word, word};
+use crate::words::{NodeWords, WORDS, put_word, word};
 
 // The words of a node. CHILDREN: 1 if it has children. FIRST and END: its CPUs are numbered from FIRST to below END. NEXT and PREV:
 // a ring of all nodes in post-order, children before their parent; the root's NEXT is the first of all. SET: sixteen words, the CPUs on it or below it.
@@ -33,20 +33,14 @@ pub const SYSTEM: u64 = 0;
 pub fn lesser(a: u64, b: u64) -> u64
     ensures { result ≡ lesser a b }
 {
-    if a < b {
-        return a;
-    }
-    b
+    a.min(b)
 }
 
 #[tactic(auto, unfolding(crate::specs::Node::greater))]
 pub fn greater(a: u64, b: u64) -> u64
     ensures { result ≡ greater a b }
 {
-    if a < b {
-        return b;
-    }
-    a
+    a.max(b)
 }
 
 // A node without children and CPUs, between two in the order of a search.
@@ -54,7 +48,7 @@ pub fn greater(a: u64, b: u64) -> u64
 pub fn new_node(level_type: u64, parent: u64, prev: u64, next: u64) -> NodeWords
     ensures { result ≡ new_node level_type parent prev next }
 {
-    let mut row = [0u64; 32];
+    let mut row = [0; WORDS];
     row[LEVEL_TYPE] = level_type;
     row[PARENT] = parent;
     row[FIRST] = NO_CPU;
@@ -79,8 +73,7 @@ pub fn put_node(nodes: &mut [NodeWords], n: u64, row: NodeWords)
 pub fn new_root(nodes: &mut [NodeWords])
     ensures { nodes.new ≡ new_root nodes.old }
 {
-    let row = new_node(SYSTEM, 0, 0, 0);
-    put_node(nodes, 0, row);
+    put_node(nodes, 0, new_node(SYSTEM, 0, 0, 0));
 }
 
 // Node n becomes the new last child of the parent: a search meets it just before its parent.
@@ -89,8 +82,7 @@ pub fn add_child(nodes: &mut [NodeWords], n: u64, parent: u64, level_type: u64)
     ensures { nodes.new ≡ add_child nodes.old n parent level_type }
 {
     let prev = word(nodes, parent, PREV);
-    let row = new_node(level_type, parent, prev, parent);
-    put_node(nodes, n, row);
+    put_node(nodes, n, new_node(level_type, parent, prev, parent));
     put_word(nodes, prev, NEXT, n);
     put_word(nodes, parent, PREV, n);
     put_word(nodes, parent, CHILDREN, 1);
@@ -108,10 +100,7 @@ pub fn has_children(nodes: &[NodeWords], n: u64) -> bool
 pub fn has_cpus(nodes: &[NodeWords], n: u64) -> bool
     ensures { result ≡ has_cpus nodes.now n }
 {
-    if has_children(nodes, n) {
-        return false;
-    }
-    0 < word(nodes, n, END)
+    !has_children(nodes, n) && 0 < word(nodes, n, END)
 }
 
 // Is the CPU on the node or below it?
@@ -119,11 +108,7 @@ pub fn has_cpus(nodes: &[NodeWords], n: u64) -> bool
 pub fn contains(nodes: &[NodeWords], n: u64, cpu: u64) -> bool
     ensures { result ≡ contains_at nodes.now n cpu }
 {
-    if cpu < MAX_CPU_ID {
-        let w = (cpu / 64) as usize;
-        return bit(word(nodes, n, SET + w), cpu);
-    }
-    false
+    cpu < MAX_CPU_ID && bit(word(nodes, n, SET + (cpu / 64) as usize), cpu)
 }
 
 // The CPUs of a node are from `first` to below `end`, and below the limit.
@@ -163,13 +148,11 @@ pub fn set_cpu(nodes: &mut [NodeWords], node: u64, cpu: u64)
     ensures { nodes.new ≡ set_cpu nodes.old node cpu }
 {
     let mut n = node;
-    let mut fuel = nodes.len();
-    while 0 < fuel {
+    for done in 0..nodes.len() {
         put_cpu(nodes, n, cpu);
         if n == 0 {
             return;
         }
         n = word(nodes, n, PARENT);
-        fuel -= 1;
     }
 }

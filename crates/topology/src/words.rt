@@ -5,18 +5,13 @@ ghost use Rattle.topology.specs.Words.{word, put_word};
 pub const WORDS: usize = 32;
 
 // The words of one node.
-pub type NodeWords = [u64; 32];
+pub type NodeWords = [u64; WORDS];
 
 #[tactic(auto, using(crate::specs::Words::word_out), unfolding(crate::specs::Words::word))]
 pub fn word(nodes: &[NodeWords], n: u64, w: usize) -> u64
     ensures { result ≡ word nodes.now n w }
 {
-    let i = n as usize;
-    if i < nodes.len() {
-        let j = w % WORDS;
-        return nodes[i][j];
-    }
-    0
+    nodes.get(n as usize).map_or(0, |row| row[w % WORDS])
 }
 
 #[tactic(auto, using(crate::specs::Words::put_out), unfolding(crate::specs::Words::put_word))]
@@ -25,7 +20,6 @@ pub fn put_word(nodes: &mut [NodeWords], n: u64, w: usize, v: u64)
 {
     let i = n as usize;
     if i < nodes.len() {
-        let j = w % WORDS;
-        nodes[i][j] = v;
+        nodes[i][w % WORDS] = v;
     }
 }

@@ -2,164 +2,46 @@
 // the length of the stream and of the lines, four bytes each, then the stream and the lines.
 #![tactic(auto)]
 
-use check::same;
 use files::read_full;
+use files::tally::Tally;
 use processor::words::CpuWords;
-use questions::state::State;
 use std::io::Read;
 use stream::feed::feed;
-use stream::progress::{ENDED, Progress, begin};
-use stream::start::{Started, start};
+use stream::progress::begin;
+use stream::start::start;
 use thread::{Thread, blank};
 use topology::words::NodeWords;
 
 #[derive(Clone, Copy)]
-pub struct Sizes {
-    pub stream: usize,
-    pub lines: usize,
-    pub there: bool,
+struct Sizes {
+    stream: usize,
+    lines: usize,
 }
 
-#[derive(Clone, Copy)]
-pub struct Tally {
-    pub streams: u64,
-    pub differ: u64,
-}
-
-fn wide(byte: u8) -> usize {
-    byte as usize
-}
-
-// The number that the four bytes make, little-endian.
-fn number(a: u8, b: u8, c: u8, d: u8) -> usize {
-    let low = std::num::wrapping_add_usize(wide(a), times(wide(b), 256));
-    let high = std::num::wrapping_add_usize(times(wide(c), 65536), times(wide(d), 16777216));
-    std::num::wrapping_add_usize(low, high)
-}
-
-fn times(n: usize, unit: usize) -> usize {
-    if n < 256 {
-        if unit <= 16777216 {
-            return n * unit;
-        }
+// The next two lengths; none at the end.
+fn next_sizes(stdin: &mut impl Read) -> Option<Sizes> {
+    let mut head = [0u8; 8];
+    if read_full(stdin, &mut head) < 8 {
+        return None;
     }
-    0
-}
-
-fn no_sizes() -> Sizes {
-    Sizes {
-        stream: 0,
-        lines: 0,
-        there: false,
-    }
-}
-
-// The two lengths in the first eight bytes, of which so many were read.
-fn lengths(head: &[u8], got: usize) -> Sizes {
-    if 7 < head.len() {
-        return Sizes {
-            stream: number(head[0], head[1], head[2], head[3]),
-            lines: number(head[4], head[5], head[6], head[7]),
-            there: got == 8,
-        };
-    }
-    no_sizes()
-}
-
-// The next two lengths; `there` is false at the end.
-fn next_sizes(stdin: &mut impl Read, head: &mut [u8]) -> Sizes {
-    if 8 <= head.len() {
-        let got = read_full(stdin, &mut head[..8]);
-        return lengths(head, got);
-    }
-    no_sizes()
-}
-
-fn ended(s: Sizes) -> bool {
-    if s.there {
-        return false;
-    }
-    true
+    let [a, b, c, d, e, f, g, h] = head;
+    Some(Sizes {
+        stream: u32::from_le_bytes([a, b, c, d]) as usize,
+        lines: u32::from_le_bytes([e, f, g, h]) as usize,
+    })
 }
 
 // The next n bytes; false if they are not there.
 fn take(stdin: &mut impl Read, buffer: &mut [u8], n: usize) -> bool {
-    if n <= buffer.len() {
-        let got = read_full(stdin, &mut buffer[..n]);
-        return got == n;
-    }
-    false
+    n <= buffer.len() && read_full(stdin, &mut buffer[..n]) == n
 }
 
-fn equal(output: &[u8], lines: &[u8], done: usize, n: usize) -> bool {
-    if done == n {
-        if done <= output.len() {
-            if n <= lines.len() {
-                return same(&output[..done], &lines[..n]);
-            }
-        }
-    }
-    false
-}
-
-// Does the output begin with the header?
-fn headed(output: &[u8]) -> bool {
-    if 8 <= output.len() {
-        return same(&output[..8], b"sched 1\n");
-    }
-    false
-}
-
-fn none() -> Tally {
-    Tally {
-        streams: 0,
-        differ: 0,
-    }
-}
-
-fn tallied(t: Tally, read: bool, header: bool, equals: bool) -> Tally {
-    let streams = std::num::wrapping_add_u64(t.streams, 1);
-    if read {
-        if header {
-            if equals {
-                return Tally {
-                    streams,
-                    differ: t.differ,
-                };
-            }
-        }
-    }
-    Tally {
-        streams,
-        differ: std::num::wrapping_add_u64(t.differ, 1),
-    }
-}
-
-fn begun(started: Started) -> Progress {
-    match started {
-        Started::Ready(state) => begin(state),
-        Started::NoRoom => nothing(),
-    }
-}
-
-fn nothing() -> Progress {
-    Progress {
-        at: 0,
-        done: 0,
-        number: 0,
-        refused: 0,
-        phase: ENDED,
-        state: State {
-            cpus: 0,
-            nodes: 0,
-            shortest: 0,
-            wide: false,
-            tick: 0,
-            sealed: false,
-            accepted: 0,
-            node_count: 0,
-        },
-    }
+// Does the output begin with the header, and are its first `done` bytes the n bytes of the lines?
+fn agree(output: &[u8], done: usize, lines: &[u8], n: usize) -> bool {
+    output.starts_with(b"sched 1\n")
+        && done <= output.len()
+        && n <= lines.len()
+        && output[..done] == lines[..n]
 }
 
 // At most a thousand streams.
@@ -168,74 +50,33 @@ fn replayed(
     threads: &mut [Thread],
     cpus: &mut [CpuWords],
     nodes: &mut [NodeWords],
-    input: &mut [u8],
-    output: &mut [u8],
-    lines: &mut [u8],
 ) -> Tally {
-    let mut t = none();
-    let mut budget: u64 = 1000;
-    while 0 < budget {
-        let s = next_sizes(stdin, input);
-        if ended(s) {
-            return t;
-        }
-        let n = s.stream;
-        let m = s.lines;
-        let whole = take(stdin, input, n);
-        let read = take(stdin, lines, m);
-        let started = start(threads, cpus, nodes);
-        let fed = begun(started);
-        let f = feed(threads, cpus, nodes, input, output, n, whole, fed);
-        let header = headed(output);
-        let equals = equal(output, lines, f.done, m);
-        let u = tallied(t, read, header, equals);
-        t = u;
-        budget = budget - 1;
-    }
-    t
-}
-
-fn put(stdout: &impl Print, text: &[u8]) -> bool {
-    stdout.write_all(text).is_ok()
-}
-
-fn put_decimal(stdout: &impl Print, n: u64) -> bool {
-    stdout.print(n).is_ok()
-}
-
-fn report(stdout: &impl Print, t: Tally) {
-    put_decimal(stdout, t.streams);
-    put(stdout, b" streams, ");
-    put_decimal(stdout, t.differ);
-    put(stdout, b" differ\n");
-}
-
-fn no_cpu() -> CpuWords {
-    [0; 96]
-}
-
-fn no_node() -> NodeWords {
-    [0; 32]
-}
-
-fn main(rt: HostRuntime) {
-    let t = blank();
-    let c = no_cpu();
-    let d = no_node();
-    let mut threads = [t; 1024];
-    let mut cpus = [c; 64];
-    let mut nodes = [d; 128];
     let mut input = [0u8; 8192];
     let mut output = [0u8; 65536];
     let mut lines = [0u8; 65536];
-    let tally = replayed(
-        &mut rt.stdin(),
-        &mut threads,
-        &mut cpus,
-        &mut nodes,
-        &mut input,
-        &mut output,
-        &mut lines,
-    );
-    report(&rt.stdout(), tally);
+    let mut tally = Tally::default();
+    for _ in 0..1000 {
+        let Some(sizes) = next_sizes(stdin) else {
+            return tally;
+        };
+        let n = sizes.stream;
+        let whole = take(stdin, &mut input, n);
+        let read = take(stdin, &mut lines, sizes.lines);
+        let Some(state) = start(threads, cpus, nodes) else {
+            return tally;
+        };
+        let begun = begin(state);
+        let fed = feed(threads, cpus, nodes, &input, &mut output, n, whole, begun);
+        tally.add(read && agree(&output, fed.done, &lines, sizes.lines));
+    }
+    tally
+}
+
+fn main(rt: HostRuntime) {
+    let mut threads = [blank(); 1024];
+    let mut cpus = [[0u64; 96]; 64];
+    let mut nodes = [[0u64; 32]; 128];
+    let tally = replayed(&mut rt.stdin(), &mut threads, &mut cpus, &mut nodes);
+    let stdout = rt.stdout();
+    let _ = println!(stdout; "{} streams, {} differ", tally.cases, tally.differ);
 }

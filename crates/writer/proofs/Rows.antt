@@ -1,16 +1,17 @@
 -- Fields written by four widths, and a command of the table.
-use Prim.Native.Nat.{ℕ, zero, suc, ◌+◌, ◌-◌, ◌/◌, ◌%◌, ◌^◌, ◌≤◌, ◌<◌}
+use Rattle.std.specs.Prelude.{Option, Some, None, Result}
+use Prim.Native.Nat.{ℕ, zero, suc, ◌+◌, ◌-◌, ◌*◌, ◌/◌, ◌%◌, ◌^◌, ◌≤◌, ◌<◌}
 use mathlib.Core.Path.{◌≡◌, refl, sym, ap, ◌∙◌}
-use mathlib.Core.Logic.{◌≢◌}
 use mathlib.Core.Bool.{Bool, true, false, cond, ◌&&◌}
-use mathlib.Core.Option.{Option, none, some}
 use mathlib.Core.List.{List, [], ◌∷◌, ◌++◌, append-nil}
-use lib.ListN.{length}
+use lib.ListN.{length, get_or, take}
 use lib.Seq.{sets}
 use lib.Dec.{eqb, ltb, leb}
 use native.Mathlib.Omega.{arith}
-use native.Mathlib.Nat.{pow-le-pow_right}
-use borrow.Author.Tests.{lt-ltb, le-ltb, ltb-true, eqb-true, eqb-false}
+use native.Mathlib.Nat.{pow-le-pow_right, pow-succ', one-le-pow, div-one, div-div-eq-div-mul, div-eq_of_lt, div-lt_iff_lt-mul, suc-add}
+use Rattle.std.proofs.Common.{pow-add, subst}
+use Rattle.std.specs.Int.{w64, byte_at, bytes_low_first, to_le_bytes}
+use borrow.Author.Tests.{lt-ltb, le-ltb, ltb-true, ltb-false, eqb-true, eqb-false, ne_eqb}
 use Rattle.rules.proofs.Laws.Line.{both}
 use Rattle.rules.specs.Writer.{little_endian, field_bytes, fits}
 use Rattle.rules.specs.Writer.{bytes_of, ranges}
@@ -19,49 +20,61 @@ use Rattle.rules.specs.State.{Limits}
 use Rattle.rules.specs.Requests.{nth, widths, widths_or, sum}
 use Rattle.rules.specs.Questions.{question}
 use Rattle.rules.proofs.Laws.Writer.{of_three, refusal_is, fails_first, fields_length}
+use Rattle.lines.specs.declared.Refusal.{Refusal}
 use Rattle.lines.specs.Text.{Text, text, write}
 use Rattle.lines.proofs.Writing.{then, write_sets}
 use Rattle.request.specs.Request.{limits_of, operands_in, operands_of}
-use Rattle.request.specs.declared.Operands.TheVariants as operands
-use Rattle.request.specs.Fields.{list_of, widths_list, four, row}
-use Rattle.request.specs.declared.fields.Fields.{Fields}
-use Rattle.request.specs.declared.fields.Widths.{Widths}
+use Rattle.request.specs.Fields.{four, row}
 use Rattle.request.proofs.Table.{by_row}
 use Rattle.request.proofs.ByWidths.{plain_row, row_plain, not_five}
 use Rattle.writer.specs.Writer.{written_of, no_misfit, known_answer, known_buffer}
-use Rattle.writer.specs.declared.Written.{Written}
 
 -- a number below 2^64 fits in eight bytes or more
 pub wide_enough : (v n : ℕ) → v < 18446744073709551616 → 8 ≤ n → true ≡ ltb v (256 ^ n)
 wide_enough v n h k = sym (lt-ltb v (256 ^ n) (omega (arith, pow-le-pow_right {n = 256} (omega arith) {i = 8} {j = n} k)))
 
-pub field_next : (t u : Text) (i v b : ℕ) → 0 < i → b ≡ v % 256 → u ≡ write t (b ∷ []) → write u (little_endian (i - 1) (v / 256)) ≡ write t (little_endian i v)
-unfolding little_endian write
-field_next t u zero v b h e p = absurd (omega arith)
-field_next t u (suc i) v b h e p =
-    let d : suc i - 1 ≡ i = omega arith in
-    rw (d, p, e)
+power : (n : ℕ) → 2 ^ (8 * n) ≡ 256 ^ n
+power zero = refl
+power (suc n) =
+    let e : 8 * suc n ≡ 8 + 8 * n = omega arith in
+    rw (e, pow-add, power n, pow-succ' 256 n)
 
-pub field_done : (t : Text) (i v : ℕ) → i ≤ 0 → write t (little_endian i v) ≡ t
-unfolding little_endian write
-field_done t zero v h = refl
-field_done t (suc i) v h = absurd (omega arith)
+-- what is left of it without its n lowest bytes
+none_left : (v k : ℕ) → 0 < k → eqb (v / k) 0 ≡ ltb v k
+none_left v k h = both (ltb v k)
+    (λ e. let z : v / k ≡ 0 = div-eq_of_lt (ltb-true v k e) in rw (e, z))
+    (λ e. rw (e, ne_eqb (v / k) 0 (λ z. absurd (omega (arith, (div-lt_iff_lt-mul {k = k} {x = v} {y = 1} h).0 (omega (arith, z)), ltb-false v k e)))))
+
+pub narrow : (v n : ℕ) → eqb (v / 2 ^ (8 * n)) 0 ≡ ltb v (256 ^ n)
+narrow v n = rw power (none_left v (256 ^ n) (one-le-pow n 256 (omega arith)))
+
+-- the bytes of a number from byte i on
+byte_is : (i v : ℕ) → byte_at i v ≡ v / 256 ^ i % 256
+byte_is zero v = rw div-one
+byte_is (suc i) v = refl
+
+bytes_from : (i k v : ℕ) → little_endian k (v / 256 ^ i) ≡ bytes_low_first i k v
+unfolding little_endian
+bytes_from i zero v = refl
+bytes_from i (suc k) v =
+    let q : 256 ^ i * 256 ≡ 256 ^ suc i = rw pow-succ' (omega arith) in
+    let e : v / 256 ^ i / 256 ≡ v / 256 ^ suc i = rw (div-div-eq-div-mul, q) in
+    rw (byte_is i v, e, bytes_from (suc i) k v)
+
+front : (i n m v : ℕ) → take n (bytes_low_first i (n + m) v) ≡ bytes_low_first i n v
+front i zero m v = refl
+front i (suc n) m v = rw suc-add (ap (λ l. byte_at i v ∷ l) (front (suc i) n m v))
+
+pub first_bytes : (n v : ℕ) → n ≤ 8 → take n (to_le_bytes w64 v) ≡ little_endian n v
+first_bytes n v h =
+    let e : 8 ≡ n + (8 - n) = omega arith in
+    let all : take n (bytes_low_first 0 8 v) ≡ bytes_low_first 0 n v = subst (λ (k : ℕ). take n (bytes_low_first 0 k v) ≡ bytes_low_first 0 n v) (sym e) (front 0 n (8 - n) v) in
+    all ∙ (sym (bytes_from 0 n v) ∙ ap (little_endian n) (div-one v))
 
 pub five_parts : (t a b c d e : Text) (byte : ℕ) (l m n o : List ℕ) → a ≡ write t (byte ∷ []) → b ≡ write a l → c ≡ write b m → d ≡ write c n → e ≡ write d o
     → e ≡ write t (byte ∷ (l ++ (m ++ (n ++ (o ++ [])))))
 five_parts t a b c d e byte l m n o h₁ h₂ h₃ h₄ h₅ =
     rw append-nil (then t a e (byte ∷ []) (l ++ (m ++ (n ++ o))) h₁ (then a b e l (m ++ (n ++ o)) h₂ (then b c e m (n ++ o) h₃ (then c d e n o h₄ h₅))))
-
-pub one_more : (k n : ℕ) → k ≤ n → n ≢ k → suc k ≤ n
-one_more k n h e = omega arith
-
-and_true : (v : Bool) → (v && true) ≡ v
-and_true true = refl
-and_true false = refl
-
--- three tests that hold, and the fourth
-pub last_test : (s t u v r : Bool) → s ≡ true → t ≡ true → u ≡ true → r ≡ v → r ≡ (s && (t && (u && (v && true))))
-last_test s t u v r e f g h = rw (e, f, g, h) (sym (and_true v))
 
 -- ---- four widths, of which those that a command does not have are 0
 
@@ -88,59 +101,41 @@ bytes_four (n ∷ m ∷ o ∷ []) a b c d h = refl
 bytes_four (n ∷ m ∷ o ∷ t ∷ []) a b c d h = refl
 bytes_four (n ∷ m ∷ o ∷ t ∷ u ∷ ns) a b c d h = let z : false ≡ true = not_five n m o t u ns h in cc
 
--- ---- a command whose operands have n bytes
+regroup : (s t u v : Bool) → (((s && t) && u) && v) ≡ (s && (t && (u && (v && true))))
+regroup false t u v = refl
+regroup true false u v = refl
+regroup true true false v = refl
+regroup true true true false = refl
+regroup true true true true = refl
 
-module _ (wide : Bool) (byte n : ℕ) (fs : Fields) (w : Widths) (small : byte < 256) (e : widths_list w ≡ four (row wide byte)) where
-  pub fits_is : fits (widths_list w) (list_of fs) ≡ fits (row wide byte) (list_of fs)
-  unfolding list_of
-  fits_is = rw e (fits_four (row wide byte) _ _ _ _ (row_plain wide byte small))
+-- ---- a command of the table
 
-  bytes_are : byte ∷ field_bytes (widths_list w) (list_of fs) ≡ bytes_of (limits_of wide) byte (list_of fs)
-  unfolding list_of bytes_of row
-  bytes_are = ap (λ (l : List ℕ). byte ∷ l) (rw e (bytes_four (row wide byte) _ _ _ _ (row_plain wide byte small)))
+module _ (wide : Bool) (byte : ℕ) (a b c d : ℕ) (small : byte < 256) where
+  pub fits_row : (ws : List ℕ) → ws ≡ four (row wide byte)
+      → (((ltb a (256 ^ get_or ws 0 0) && ltb b (256 ^ get_or ws 1 0)) && ltb c (256 ^ get_or ws 2 0)) && ltb d (256 ^ get_or ws 3 0)) ≡ fits (row wide byte) (a ∷ b ∷ c ∷ d ∷ [])
+  unfolding four fits
+  fits_row ws e = rw (e, ← fits_four (row wide byte) a b c d (row_plain wide byte small))
+      (regroup (ltb a (256 ^ nth 0 (row wide byte))) (ltb b (256 ^ nth 1 (row wide byte))) (ltb c (256 ^ nth 2 (row wide byte))) (ltb d (256 ^ nth 3 (row wide byte))))
 
-  module _ (f g : Bool) (b : List ℕ) (is : f ≡ fits (widths_list w) (list_of fs)) (in_them : g ≡ ranges (limits_of wide) byte (list_of fs)) where
-    misfit : no_misfit wide byte (list_of fs) ≡ (f && g)
-    unfolding no_misfit rules.no_misfit question row
-    misfit = rw (is, in_them, fits_is)
+  pub bytes_row : (ws : List ℕ) → ws ≡ four (row wide byte) → byte ∷ field_bytes ws (a ∷ b ∷ c ∷ d ∷ []) ≡ bytes_of (limits_of wide) byte (a ∷ b ∷ c ∷ d ∷ [])
+  unfolding bytes_of row
+  bytes_row ws e = ap (λ (l : List ℕ). byte ∷ l) (rw e (bytes_four (row wide byte) _ _ _ _ (row_plain wide byte small)))
 
-    pub known_written : f ≡ true → g ≡ true → n < length b → (b' : List ℕ) (next : ℕ)
-        → text b' next ≡ write (text b 0) (byte ∷ field_bytes (widths_list w) (list_of fs))
-        → (rules.bytes (n + 1) ≡ known_answer wide byte n (list_of fs) (length b)) × (b' ≡ known_buffer wide byte n (list_of fs) b)
-    unfolding known_answer known_buffer
-    known_written p q h b' next k =
-        let t : ltb n (length b) ≡ true = lt-ltb n (length b) h in
-        let s : text b' next ≡ write (text b 0) (bytes_of (limits_of wide) byte (list_of fs)) = rw bytes_are at k in
-        (rw (misfit, p, q, t), rw (misfit, p, q, t) (ap (λ (x : Text). x.bytes) (s ∙ write_sets (bytes_of (limits_of wide) byte (list_of fs)) b 0)))
-
-    pub known_short : f ≡ true → g ≡ true → length b ≤ n → (rules.refused 12 ≡ known_answer wide byte n (list_of fs) (length b)) × (b ≡ known_buffer wide byte n (list_of fs) b)
-    unfolding known_answer known_buffer
-    known_short p q h =
-        let t : ltb n (length b) ≡ false = le-ltb n (length b) h in
-        (rw (misfit, p, q, t), rw (misfit, p, q, t))
-
-    pub known_misfit_2 : f ≡ true → g ≡ false → (rules.refused 6 ≡ known_answer wide byte n (list_of fs) (length b)) × (b ≡ known_buffer wide byte n (list_of fs) b)
-    unfolding known_answer known_buffer
-    known_misfit_2 p q = (rw (misfit, p, q), rw (misfit, p, q))
-
-  pub known_misfit_1 : (f : Bool) (b : List ℕ) → f ≡ fits (widths_list w) (list_of fs) → f ≡ false
-      → (rules.refused 6 ≡ known_answer wide byte n (list_of fs) (length b)) × (b ≡ known_buffer wide byte n (list_of fs) b)
-  unfolding known_answer known_buffer no_misfit rules.no_misfit question row
-  known_misfit_1 f b is p =
-      let k : fits (row wide byte) (list_of fs) ≡ false = sym fits_is ∙ (sym is ∙ p) in
-      (rw k, rw k)
+-- a text written at the front of a buffer
+pub at_front : (b b' l : List ℕ) (next : ℕ) → text b' next ≡ write (text b 0) l → b' ≡ sets b 0 l
+at_front b b' l next k = ap (λ (x : Text). x.bytes) (k ∙ write_sets l b 0)
 
 -- ---- a byte of the table, and one that is not in it
 
-in_row : (n : ℕ) (o : Option (List ℕ)) → operands_in o ≡ operands.Bytes n → (rules.has_row o ≡ true) × (sum (widths_or [] o) ≡ n)
+in_row : (n : ℕ) (o : Option (List ℕ)) → operands_in o ≡ Some n → (rules.has_row o ≡ true) × (sum (widths_or [] o) ≡ n)
 unfolding operands_in rules.has_row widths_or
-in_row n none e = (cc, cc)
-in_row n (some ns) e = (refl, cc)
+in_row n None e = (cc, cc)
+in_row n (Some ns) e = (refl, cc)
 
-not_in_row : (o : Option (List ℕ)) → operands_in o ≡ operands.Unknown → rules.has_row o ≡ false
+not_in_row : (o : Option (List ℕ)) → operands_in o ≡ None → rules.has_row o ≡ false
 unfolding operands_in rules.has_row
-not_in_row none e = refl
-not_in_row (some ns) e = cc
+not_in_row None e = refl
+not_in_row (Some ns) e = cc
 
 same_answer : (m : Bool) (k n room : ℕ) → k ≡ suc n
     → cond m (cond (ltb n room) (rules.bytes (n + 1)) (rules.refused 12)) (rules.refused 6)
@@ -167,12 +162,12 @@ module _ (wide : Bool) (byte : ℕ) (fs b : List ℕ) where
       let e : rules.write_refusal (limits_of wide) byte fs (length b) ≡ 1 = refusal_is (limits_of wide) byte fs (length b) ∙ fails_first _ _ _ h in
       (rw e, rw e)
 
-  pub unknown_answer : operands_of wide byte ≡ operands.Unknown
+  pub unknown_answer : operands_of wide byte ≡ None
       → (rules.refused 1 ≡ rules.write_answer (limits_of wide) byte fs (length b)) × (b ≡ rules.buffer_with (limits_of wide) byte fs b)
   unfolding operands_of
   unknown_answer h = refused_unknown (not_in_row (widths (limits_of wide) byte) h)
 
-  module _ (n : ℕ) (h : operands_of wide byte ≡ operands.Bytes n) where
+  module _ (n : ℕ) (h : operands_of wide byte ≡ Some n) where
     there : (rules.has_row (widths (limits_of wide) byte) ≡ true) × (sum (row wide byte) ≡ n)
     unfolding operands_of row rules.row
     there = in_row n (widths (limits_of wide) byte) h
@@ -185,7 +180,7 @@ module _ (wide : Bool) (byte : ℕ) (fs b : List ℕ) where
     unfolding bytes_of row
     long = omega (arith, fields_length (row wide byte) fs, there.1)
 
-    pub known_is : (r : Written) (b' : List ℕ) → (written_of r ≡ known_answer wide byte n fs (length b)) × (b' ≡ known_buffer wide byte n fs b)
+    pub known_is : (r : Result ℕ Refusal) (b' : List ℕ) → (written_of r ≡ known_answer wide byte n fs (length b)) × (b' ≡ known_buffer wide byte n fs b)
         → (written_of r ≡ rules.write_answer (limits_of wide) byte fs (length b)) × (b' ≡ rules.buffer_with (limits_of wide) byte fs b)
     unfolding known_answer known_buffer rules.write_answer rules.buffer_with
     known_is r b' k = (

@@ -1,17 +1,16 @@
 -- What the declared answer stands for, and the questions put to a command whose operands have n bytes.
-use Rattle.std.specs.Prelude.{ℕ, ◌+◌, Bool, cond, List, length, ltb}
+use Rattle.std.specs.Prelude.{ℕ, ◌+◌, Bool, cond, List, length, ltb, Result, Ok, Err}
 use Rattle.std.proofs.lemmas.List.Edits.{sets}
 use Rattle.rules.specs.Writer as rules
 use Rattle.request.specs.Request.{limits_of}
 use Rattle.request.specs.Fields.{list_of}
 use Rattle.request.specs.declared.fields.Fields.{Fields}
-use Rattle.lines.specs.Lines.{refusal_number}
-use Rattle.writer.specs.declared.Written.{Written}
-use Rattle.writer.specs.declared.Written.TheVariants as written
+use Rattle.lines.specs.declared.Refusal.{Refusal}
+use Rattle.lines.specs.Lines.{question_number}
 
-unfoldable pub written_of : Written → rules.Written
-written_of (written.Bytes n) = rules.bytes n
-written_of (written.Refused r) = rules.refused (refusal_number r)
+unfoldable pub written_of : Result ℕ Refusal → rules.Written
+written_of (Ok n) = rules.bytes n
+written_of (Err r) = rules.refused (question_number r)
 
 unfoldable pub no_misfit : Bool → ℕ → List ℕ → Bool
 no_misfit wide byte fields = (rules.no_misfit (limits_of wide) byte fields).answer

@@ -1,120 +1,99 @@
 // The writer of 2026-02: one command with its fields, written into a lent buffer.
 #![tactic(auto)]
 
-ghost use Rattle.std.specs.Prelude.{◌≡◌, ◌∷◌, ◌%◌, ◌^◌, ltb};
-ghost use Rattle.rules.specs.Writer.{little_endian, field_bytes, fits};
-ghost use Rattle.request.specs.Fields.{list_of, widths_list};
+ghost use Rattle.std.specs.Prelude.{◌≡◌, ◌≤◌, ◌^◌, ltb};
+ghost use Rattle.rules.specs.Writer.{little_endian, bytes_of, fits};
+ghost use Rattle.request.specs.Request.{limits_of};
+ghost use Rattle.request.specs.Fields.{list_of, row};
 ghost use Rattle.lines.specs.Text.{text, write};
-ghost use Rattle.writer.specs.Writer.{written_of, known, known_after, answer, buffer_after};
+ghost use Rattle.writer.specs.Writer.{written_of, no_misfit, known, known_after, answer, buffer_after};
 
-use lines::{Refusal, put};
-use request::fields::{Fields, Widths, ranges, widths_of};
-use request::{Operands, operand_bytes};
-
-// The bytes written, or the refusal: 1, 6 or 12.
-#[derive(Clone, Copy)]
-pub enum Written {
-    Bytes(usize),
-    Refused(Refusal),
-}
+use lines::{Refusal, put, put_bytes};
+use request::fields::{Fields, ranges, widths_of};
+use request::operand_bytes;
 
 // Is the number below 256 to the width?
-#[tactic(auto, using(crate::proofs::Rows::one_more, crate::proofs::Rows::wide_enough))]
+#[tactic(auto, using(crate::proofs::Rows::narrow, crate::proofs::Rows::wide_enough))]
 fn below(v: u64, n: usize) -> bool
     ensures { result ≡ ltb v (256 ^ n) }
 {
-    match n {
-        0 => v < 1,
-        1 => v < 256,
-        2 => v < 65536,
-        3 => v < 16777216,
-        4 => v < 4294967296,
-        5 => v < 1099511627776,
-        6 => v < 281474976710656,
-        7 => v < 72057594037927936,
-        _ => true,
-    }
+    n >= 8 || v >> (8 * n) == 0
 }
 
 // Does each field fit its width?
-#[tactic(auto, using(crate::proofs::Rows::last_test), unfolding(rules::specs::Writer::fits, request::specs::Fields::list_of, request::specs::Fields::widths_list))]
-fn fit(fields: Fields, w: Widths) -> bool
-    ensures { result ≡ fits (widths_list w) (list_of fields) }
+#[tactic(auto, using(crate::proofs::Rows::fits_row))]
+fn fit(byte: u8, fields: Fields, wide: bool) -> bool
+    ensures { result ≡ fits (row wide byte) (list_of fields) }
 {
-    if below(fields.first, w.first) {
-        if below(fields.second, w.second) {
-            if below(fields.third, w.third) {
-                return below(fields.fourth, w.fourth);
-            }
-        }
-    }
-    false
+    let [first, second, third, fourth] = widths_of(byte, wide);
+    below(fields.first, first)
+        && below(fields.second, second)
+        && below(fields.third, third)
+        && below(fields.fourth, fourth)
 }
 
-fn low_byte(v: u64) -> u8
-    ensures { result ≡ v % 256 }
+// Question 6: does each field fit its width, and is it in its range?
+#[tactic(auto, unfolding(crate::specs::Writer::no_misfit, rules::specs::Writer::no_misfit, rules::specs::Questions::question, request::specs::Fields::row))]
+fn no_misfit(byte: u8, fields: Fields, wide: bool) -> bool
+    ensures { result ≡ no_misfit wide byte (list_of fields) }
 {
-    (v % 256) as u8
+    fit(byte, fields, wide) && ranges(byte, fields, wide)
 }
 
 // A number in n bytes, the least first.
+#[tactic(auto, using(crate::proofs::Rows::first_bytes))]
 fn put_field(buffer: &mut [u8], at: usize, n: usize, v: u64) -> usize
+    requires { n ≤ 8 }
     ensures { text buffer.new result ≡ write (text buffer.old at) (little_endian n v) }
 {
-    let mut next = at;
-    let mut left = v;
-    let mut i = n;
-    while 0 < i {
-        next = put(buffer, next, low_byte(left));
-        left = left / 256;
-        i = i - 1;
-    }
-    next
+    put_bytes(buffer, at, &v.to_le_bytes()[..n])
 }
 
 // The command byte and its fields, from the buffer's front.
-fn put_command(buffer: &mut [u8], byte: u8, fields: Fields, w: Widths) -> usize
-    ensures { text buffer.new result ≡ write (text buffer.old 0) (byte ∷ field_bytes (widths_list w) (list_of fields)) }
+fn put_command(buffer: &mut [u8], byte: u8, fields: Fields, wide: bool) -> usize
+    ensures { text buffer.new result ≡ write (text buffer.old 0) (bytes_of (limits_of wide) byte (list_of fields)) }
 {
+    let [first, second, third, fourth] = widths_of(byte, wide);
     let a = put(buffer, 0, byte);
-    let b = put_field(buffer, a, w.first, fields.first);
-    let c = put_field(buffer, b, w.second, fields.second);
-    let d = put_field(buffer, c, w.third, fields.third);
-    put_field(buffer, d, w.fourth, fields.fourth)
+    let b = put_field(buffer, a, first, fields.first);
+    let c = put_field(buffer, b, second, fields.second);
+    let d = put_field(buffer, c, third, fields.third);
+    put_field(buffer, d, fourth, fields.fourth)
 }
 
 // A command whose operands have n bytes.
-fn write_known(byte: u8, n: usize, fields: Fields, wide: bool, buffer: &mut [u8]) -> Written
+#[tactic(auto, using(crate::proofs::Rows::at_front), unfolding(crate::specs::Writer::written_of, crate::specs::Writer::known_answer, crate::specs::Writer::known_buffer, lines::specs::Lines::refusal_number, lines::specs::Lines::question_number))]
+fn write_known(
+    byte: u8,
+    n: usize,
+    fields: Fields,
+    wide: bool,
+    buffer: &mut [u8],
+) -> Result<usize, Refusal>
     ensures { (written_of result ≡ known wide byte n fields buffer.old) × (buffer.new ≡ known_after wide byte n fields buffer.old) }
 {
-    let w = widths_of(byte, wide);
-    if fit(fields, w) {
-        if ranges(byte, fields, wide) {
-            if n < buffer.len() {
-                put_command(buffer, byte, fields, w);
-                return Written::Bytes(n + 1);
-            }
-            return Written::Refused(Refusal::ShortBuffer);
-        }
+    if !no_misfit(byte, fields, wide) {
+        return Err(Refusal::OutOfRange);
     }
-    Written::Refused(Refusal::OutOfRange)
-}
-
-fn write_byte(byte: u8, fields: Fields, wide: bool, buffer: &mut [u8]) -> Written
-    ensures { (written_of result ≡ answer wide byte fields buffer.old) × (buffer.new ≡ buffer_after wide byte fields buffer.old) }
-{
-    match operand_bytes(byte, wide) {
-        Operands::Unknown => Written::Refused(Refusal::UnknownCommand),
-        Operands::Bytes(n) => write_known(byte, n, fields, wide, buffer),
+    if buffer.len() <= n {
+        return Err(Refusal::ShortBuffer);
     }
+    put_command(buffer, byte, fields, wide);
+    Ok(n + 1)
 }
 
 // The command in the buffer's first bytes. An operand that names a CPU or a node has two bytes if `wide`, else one; a pin is the number that is written.
-pub fn write_command(byte: u64, fields: Fields, wide: bool, buffer: &mut [u8]) -> Written
+pub fn write_command(
+    byte: u64,
+    fields: Fields,
+    wide: bool,
+    buffer: &mut [u8],
+) -> Result<usize, Refusal>
     ensures { (written_of result ≡ answer wide byte fields buffer.old) × (buffer.new ≡ buffer_after wide byte fields buffer.old) }
 {
-    if byte < 256 {
-        return write_byte(byte as u8, fields, wide, buffer);
-    }
-    Written::Refused(Refusal::UnknownCommand)
+    let Ok(byte) = u8::try_from(byte) else {
+        return Err(Refusal::UnknownCommand);
+    };
+    let n = operand_bytes(byte, wide).ok_or(Refusal::UnknownCommand)?;
+    write_known(byte, n, fields, wide, buffer)
 }

@@ -9,7 +9,7 @@ use Rattle.rules.specs.State.{base_limits, new_cpu}
 use Rattle.rules.specs.Waits.{Under}
 use Rattle.thread.specs.declared.Thread.{Thread}
 use Rattle.thread.specs.Thread.{blank, NONE}
-use Rattle.thread.specs.Reads.{named, cpu_in}
+use Rattle.thread.specs.Reads.{cpu_in}
 use Rattle.runqueue.specs.RunQueue.{no_run_queue}
 use Rattle.processor.specs.Words.{width, word}
 use Rattle.processor.specs.Word.{RUNNING}
@@ -64,7 +64,7 @@ module _ (cs : List (List ℕ)) (room : 64 ≤ length cs) (long : (c : ℕ) → 
   -- ---- all numbers are small
 
   tidy_blank : ThreadInRange blank
-  unfolding Under named cpu_in
+  unfolding Under cpu_in
   tidy_blank = record { link = λ h. refl; pin = tt; last = tt }
 
   running_none : (c : ℕ) → c < 64 → Link (word (new_cpus 64 cs) c RUNNING)

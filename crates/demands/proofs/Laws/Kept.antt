@@ -1,5 +1,5 @@
 -- What every list of calls keeps: the memory stands for the state that the rules reach over the same bytes.
-use Rattle.std.specs.Prelude.{ℕ, ◌<◌, ◌≡◌, false, List, [], ◌∷◌, length}
+use Rattle.std.specs.Prelude.{ℕ, ◌<◌, ◌≡◌, false, List, [], ◌∷◌, length, Option, Some, None}
 use Rattle.std.proofs.Common.{sym, ap, subst, arith, take_all}
 use Rattle.rules.proofs.Laws.Line.{both}
 use Rattle.rules.proofs.Laws.Limits.{SameButShortest}
@@ -13,7 +13,6 @@ use Rattle.represents.proofs.Laws.Readings.{reading}
 use Rattle.represents.proofs.Laws.System.{reads_as}
 use Rattle.represents.specs.World.{reading_of}
 use Rattle.questions.specs.declared.state.State.{State}
-use Rattle.stream.specs.declared.start.Started.TheVariants as started
 use Rattle.stream.specs.Start.{no_room_def, initial, start_def}
 use Rattle.represents.specs.State.{StateRep}
 use Rattle.question_laws.proofs.Started.{start_stands}
@@ -27,17 +26,17 @@ Represents h s = StateRep h.threads h.cpus h.nodes h.state s
 
 -- ---- the start
 
-pub is_ready : (ts : List Thread) (cs ns : List (List ℕ)) (a : State) → (start_def (lent ts cs ns)).answer ≡ started.Ready a → (no_room_def (length ts) (length cs) (length ns) ≡ false) × (a ≡ initial)
+pub is_ready : (ts : List Thread) (cs ns : List (List ℕ)) (a : State) → (start_def (lent ts cs ns)).answer ≡ Some a → (no_room_def (length ts) (length cs) (length ns) ≡ false) × (a ≡ initial)
 unfolding start_def
 is_ready ts cs ns a e =
     both (no_room_def (length ts) (length cs) (length ns))
-    (λ t. let z : started.NoRoom ≡ started.Ready a = rw t at e in absurd (ready_not a z))
-    (λ t. let z : started.Ready initial ≡ started.Ready a = rw t at e in (t, sym (same_state initial a z)))
+    (λ t. let z : None ≡ Some a = rw t at e in absurd (ready_not a z))
+    (λ t. let z : Some initial ≡ Some a = rw t at e in (t, sym (same_state initial a z)))
   where
-    ready_not : (a : State) → started.NoRoom ≡ started.Ready a → ⊥
+    ready_not : (a : State) → None ≡ Some a → ⊥
     ready_not a z = let y : ◌≡◌ {A = ℕ} 0 1 = cc in omega arith
 
-    same_state : (b a : State) → started.Ready b ≡ started.Ready a → b ≡ a
+    same_state : (b a : State) → Some b ≡ Some a → b ≡ a
     same_state b a z = cc
 
 pub ready_stands : (h : LentState) → Ready h → Represents h (start base_limits)

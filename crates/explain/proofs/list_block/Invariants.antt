@@ -1,8 +1,9 @@
-use Rattle.std.proofs.Common.{◌≡◌, length}
+use Prim.Native.Nat.{◌-◌, ◌≤◌}
+use lib.ListN.{length}
 use Rattle.explain.proofs.list_block.Given as goal
 
-abbrev pub invariant-loop-budget : goal.invariant-loop-budget
-invariant-loop-budget l = length l.output ≡ length l.initial.output
+abbrev pub invariant-loop-at : goal.invariant-loop-at
+invariant-loop-at g l = l.at ≤ length l.block
 
-abbrev pub decreases-loop-budget : goal.decreases-loop-budget
-decreases-loop-budget l = l.budget
+abbrev pub decreases-loop-at : goal.decreases-loop-at
+decreases-loop-at g l = length l.block - l.at

@@ -1,6 +1,6 @@
 -- Lemmas about Queue.
-use Rattle.std.specs.Prelude.{◌≡◌, ℕ, zero, suc, ◌+◌, ◌%◌, ◌<◌, ◌≤◌, List, [], ◌∷◌, length, replicate, ◌==◌, ◌≢◌, nat_lt, slice_index, slice_index_or, refl}
-use Rattle.std.proofs.Common.{eqb-true, ltb-true, ltb-false, sym, ap, ◌∙◌, length-set, get_or-set_same, get_or-set_other, arith, add_assoc, zero-add}
+use Rattle.std.specs.Prelude.{◌≡◌, ℕ, ◌+◌, ◌%◌, ◌<◌, ◌≤◌, List, [], length, replicate, ◌==◌, ◌≢◌, nat_lt, slice_index, slice_index_or, refl}
+use Rattle.std.proofs.Common.{eqb-true, ltb-true, ltb-false, ◌∙◌, length-set, get_or-set_same, get_or-set_other, arith, add_assoc}
 use Rattle.std.proofs.lemmas.Bool.{eqb-false}
 use Rattle.processor.specs.Words.{width, word, put_word}
 use Rattle.processor.proofs.Laws.Words.{put_row_other}

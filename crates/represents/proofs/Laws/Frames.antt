@@ -1,15 +1,14 @@
 -- One word of a CPU that is none of its queue's is written, or fields of a record that no queue asks for.
-use Rattle.std.specs.Prelude.{ℕ, ◌+◌, ◌%◌, ◌≤◌, ◌<◌, ◌≡◌, ◌≢◌, Bool, cond, true, false, length, get_or, set, eqb}
+use Rattle.std.specs.Prelude.{ℕ, ◌+◌, ◌%◌, ◌≤◌, ◌<◌, ◌≡◌, ◌≢◌, Bool, cond, true, false, length, get_or, set, eqb, None, is_some}
 use Rattle.std.proofs.Math.Path.{refl, sym, ap}
 use Rattle.std.proofs.Common.{subst, ◌∙◌, true≢false, length-set, get_or-set_same, eqb-true, ne_eqb, arith}
 use mathlib.Core.List.{List, []}
-use Rattle.std.proofs.Math.Option.{none}
 use Rattle.std.proofs.lemmas.Bool.{eqb-false}
 use Rattle.rules.specs.Line.{has}
 use Rattle.rules.proofs.Laws.Line.{both}
 use Rattle.rules.specs.Queue.{Queue, order}
 use Rattle.rules.specs.Times as times
-use Rattle.rules.specs.Times.{pinned, is_some, donated_to, critical_at}
+use Rattle.rules.specs.Times.{pinned, donated_to, critical_at}
 use Rattle.rules.specs.State.{at, Limits, Topology, Cpu}
 use Rattle.rules.specs.Schedule.{World, with_cpu, with_thread, set_rebalance, with_preempt, with_draws, with_rebalance_time, with_ticks}
 use Rattle.rules.proofs.Laws.Sound.{at_here, at_there, at_keeps}
@@ -271,10 +270,10 @@ module _ {limits : Limits} {topology : Topology} {known active : ℕ → Bool} {
   shows_fields x t u h r n l p v q = shows_record x t u h r (λ d e. (n, (p, v))) q (places_kept x t l s.places)
 
   -- 19: `remove_donated_priority`
-  pub shows_removed : (x : ℕ) → x < limits.threads → WorldRep limits topology known active (set ts x (remove_donated_priority (record_at ts x))) cs (with_thread w x (donated_to (w.threads x) none))
+  pub shows_removed : (x : ℕ) → x < limits.threads → WorldRep limits topology known active (set ts x (remove_donated_priority (record_at ts x))) cs (with_thread w x (donated_to (w.threads x) None))
   unfolding donated_to pinned
   shows_removed x h =
-      shows_fields x (remove_donated_priority (record_at ts x)) _ h (reads_removed (record_at ts x) ∙ ap (λ (t : times.Thread). donated_to t none) (s.threads x h))
+      shows_fields x (remove_donated_priority (record_at ts x)) _ h (reads_removed (record_at ts x) ∙ ap (λ (t : times.Thread). donated_to t None) (s.threads x h))
       (removed_next (record_at ts x)) (removed_place (record_at ts x)) refl refl (s.queue_cpus x h)
 
   -- 1A: the critical mark

@@ -2,10 +2,9 @@
 use Prim.Native.Nat.{ℕ, zero, suc, ◌+◌, ◌-◌, ◌/◌, ◌%◌, ◌^◌, ◌≤◌, ◌<◌}
 use Rattle.std.proofs.Math.Path.{◌≡◌, refl, sym, ap}
 use Rattle.std.proofs.Common.{◌∙◌, subst}
-use Rattle.std.specs.Prelude.{true, false, ◌||◌, ◌&&◌, eqb, ltb, length, get_or}
+use Rattle.std.specs.Prelude.{true, false, ◌||◌, ◌&&◌, eqb, ltb, length, get_or, Option, None, Some}
 use Rattle.std.proofs.Math.Bool.{not, true≢false, and-true, and-false, or-true}
 use Rattle.std.proofs.lemmas.Bool.{false≢true}
-use Rattle.std.proofs.Math.Option.{Option, none, some}
 use mathlib.Core.List.{List, [], ◌∷◌, ◌++◌, append-nil}
 use native.Mathlib.Omega.{arith}
 use Rattle.std.proofs.Math.Nat.{zero-div}
@@ -322,7 +321,7 @@ module _ (limits : Limits) (rows : List (List ℕ)) (t : Topology) (tree : Topol
   leaf_new : leaf limits t' n ≡ true
   leaf_new = leaf_grown n ∙ rw (ne_eqb p n pn) (unfold leaf in rw (children_none limits t p k tree.sound.root tree.sound.parents p_there) (unfold no_nodes in refl))
 
-  not_on_p : (c : ℕ) → t.placed c ≡ some p → ⊥
+  not_on_p : (c : ℕ) → t.placed c ≡ Some p → ⊥
   unfolding is_number
   not_on_p c e =
       true≢false (sym (any_true limits.cpus (λ c. is_number p (t.placed c)) c (tree.sound.placed_there c p e).0 (rw e (eq-eqb p p refl))) ∙ no_cpus)
@@ -340,11 +339,11 @@ module _ (limits : Limits) (rows : List (List ℕ)) (t : Topology) (tree : Topol
   parents_now m a b =
       all_nodes (λ m. 0 < m → parent_of limits t' m < m) (λ a. rw (parent_new limits t p k) p_there) (λ m h a. rw (parent_old limits t p k m h) (tree.sound.parents m a h)) m b a
 
-  placed_now : (c m : ℕ) → t'.placed c ≡ some m → (c < limits.cpus) × ((m < suc n) × (leaf limits t' m ≡ true))
+  placed_now : (c m : ℕ) → t'.placed c ≡ Some m → (c < limits.cpus) × ((m < suc n) × (leaf limits t' m ≡ true))
   unfolding with_node
   placed_now c m e =
       let b : (c < limits.cpus) × ((m < n) × (leaf limits t m ≡ true)) = tree.sound.placed_there c m e in
-      (b.0, (omega (arith, b.1.0), leaf_grown m ∙ rw (b.1.1, ne_eqb p m (λ r. not_on_p c (e ∙ ap some (sym r))))))
+      (b.0, (omega (arith, b.1.0), leaf_grown m ∙ rw (b.1.1, ne_eqb p m (λ r. not_on_p c (e ∙ ap Some (sym r))))))
 
   within_now : (x : ℕ) → has x (met_first limits t') ≡ true → x < suc n
   within_now x h =
@@ -383,19 +382,19 @@ module _ (limits : Limits) (rows : List (List ℕ)) (t : Topology) (tree : Topol
   unfolding above
   above_old m h = rw (nr_grown limits t p k) (up_old (suc n) m h ∙ up_enough limits t tree.sound n m (omega arith) h)
 
-  on_old : (z : ℕ) (o : Option ℕ) → ((m : ℕ) → o ≡ some m → m < n) → on_node limits t' o z ≡ on_node limits t o z
+  on_old : (z : ℕ) (o : Option ℕ) → ((m : ℕ) → o ≡ Some m → m < n) → on_node limits t' o z ≡ on_node limits t o z
   unfolding on_node
-  on_old z none h = refl
-  on_old z (some m) h = holds_has limits t' z (above limits t' m) ∙ ap (has z) (above_old m (h m refl)) ∙ sym (holds_has limits t z (above limits t m))
+  on_old z None h = refl
+  on_old z (Some m) h = holds_has limits t' z (above limits t' m) ∙ ap (has z) (above_old m (h m refl)) ∙ sym (holds_has limits t z (above limits t m))
 
-  on_new : (o : Option ℕ) → ((m : ℕ) → o ≡ some m → m < n) → on_node limits t o n ≡ false
+  on_new : (o : Option ℕ) → ((m : ℕ) → o ≡ Some m → m < n) → on_node limits t o n ≡ false
   unfolding on_node above
-  on_new none h = refl
-  on_new (some m) h =
+  on_new None h = refl
+  on_new (Some m) h =
       holds_has limits t n (upward limits t n m)
       ∙ both (has n (upward limits t n m)) (λ e. absurd (omega (arith, h m refl, up_within limits t tree.sound n m n (h m refl) e))) (λ e. e)
 
-  there : (c m : ℕ) → t.placed c ≡ some m → m < n
+  there : (c m : ℕ) → t.placed c ≡ Some m → m < n
   there c m e = (tree.sound.placed_there c m e).1.0
 
   -- ---- the tree

@@ -1,6 +1,6 @@
 -- One part of a run queue: the code's first and last threads of each list, and the links, show the buckets.
 use Prim.Native.Nat.{ℕ, zero, suc, ◌+◌, ◌-◌, ◌%◌, ◌≤◌, ◌<◌}
-use Rattle.std.specs.Prelude.{◌≡◌, false, set, replicate, eqb, ltb}
+use Rattle.std.specs.Prelude.{◌≡◌, false, set, replicate, eqb, ltb, Option, None}
 use Rattle.std.proofs.Math.Path.{refl, sym, ap}
 use Rattle.std.proofs.Common.{◌∙◌, add-one}
 use Rattle.std.proofs.Math.Bool.{true, cond, true≢false}
@@ -20,17 +20,16 @@ use Rattle.rules.specs.Queue.{nr_buckets, empty, highest_bucket}
 use Rattle.rules.proofs.Laws.Effect.{some_bucket}
 use Rattle.queue.specs.declared.lists.Lists.{Lists}
 use Rattle.queue.specs.declared.lists.Found.{Found}
-use Rattle.queue.specs.declared.lists.Found.TheVariants.{At, Nothing}
 use Rattle.thread.specs.Thread.{NONE}
-use Rattle.queue.specs.Lists.{no_lists_def, push_back, unlinked, scan_heads, top_heads}
+use Rattle.queue.specs.Lists.{found_at, no_lists_def, push_back, unlinked, scan_heads, top_heads}
 use Rattle.represents.specs.Linked.{Chain, Ends, Linked}
 use Rattle.represents.proofs.Laws.Linked.{link_after, Alike, linked_frame, linked_head, linked_pop, linked_push, link_alike, below_has, linked_none, BehindIn, behind_in}
 use Rattle.represents.specs.Linked.{ListsRep}
 
 -- the code's answer for what a scan finds
-unfoldable pub as_found : Foundₗ → Found
-as_found nothing = Nothing
-as_found (found j x) = At j x
+unfoldable pub as_found : Foundₗ → Option Found
+as_found nothing = None
+as_found (found j x) = found_at j x
 
 -- ---- a bucket is in the line
 
@@ -114,11 +113,11 @@ module _ (f : ℕ → ℕ) (l : Lists) (bs : Buckets) (s : ℕ) (w : ListsRep f 
     unfolding push_back
     push_behind = rw (mod-eq_of_lt jn) (both (eqb head NONE) (λ e. rw e) (λ e. rw e))
 
-    push_heads : (push_back l j y).lists.heads ≡ cond (eqb head NONE) (set l.heads j y) l.heads
+    push_heads : (push_back l j y).queue.heads ≡ cond (eqb head NONE) (set l.heads j y) l.heads
     unfolding push_back
     push_heads = rw (mod-eq_of_lt jn) (both (eqb head NONE) (λ e. rw e) (λ e. rw e))
 
-    push_tails : (push_back l j y).lists.tails ≡ set l.tails j y
+    push_tails : (push_back l j y).queue.tails ≡ set l.tails j y
     unfolding push_back
     push_tails = rw (mod-eq_of_lt jn) (both (eqb head NONE) (λ e. rw e) (λ e. rw e))
 
@@ -131,7 +130,7 @@ module _ (f : ℕ → ℕ) (l : Lists) (bs : Buckets) (s : ℕ) (w : ListsRep f 
     pub push_in : (k : ℕ) → Below k (around nr_buckets bs s nr_buckets) → BehindIn k (push_back l j y).behind
     push_in k c = rw push_behind (behind_in k f head end (get_or bs j []) (w.linked j jn) (below_bucket nr_buckets bs k s j jn c) (below_bucket nr_buckets bs NONE s j jn b))
 
-    push_here : Linked links (get_or (push_back l j y).lists.heads j 0) (get_or (push_back l j y).lists.tails j 0) (get_or (join bs j y) j [])
+    push_here : Linked links (get_or (push_back l j y).queue.heads j 0) (get_or (push_back l j y).queue.tails j 0) (get_or (join bs j y) j [])
     unfolding join
     push_here =
         let p : j < length l.heads = rw w.heads_full jn in
@@ -142,7 +141,7 @@ module _ (f : ℕ → ℕ) (l : Lists) (bs : Buckets) (s : ℕ) (w : ListsRep f 
         rw (push_behind, push_heads, push_tails, k, get_or-set_same l.tails j y 0 q, get_or-set_same bs j (get_or bs j [] ++ (y ∷ [])) [] r)
         (linked_push f head end (get_or bs j []) y (w.linked j jn) (distinct_bucket nr_buckets bs s j jn d) (below_bucket nr_buckets bs NONE s j jn b) (no_bucket nr_buckets bs s j y jn free))
 
-    push_there : (i : ℕ) → i < nr_buckets → eqb i j ≡ false → Linked links (get_or (push_back l j y).lists.heads i 0) (get_or (push_back l j y).lists.tails i 0) (get_or (join bs j y) i [])
+    push_there : (i : ℕ) → i < nr_buckets → eqb i j ≡ false → Linked links (get_or (push_back l j y).queue.heads i 0) (get_or (push_back l j y).queue.tails i 0) (get_or (join bs j y) i [])
     unfolding join
     push_there i h e =
         let far : i ≡ j → ⊥ = eqb-false i j e in
@@ -155,7 +154,7 @@ module _ (f : ℕ → ℕ) (l : Lists) (bs : Buckets) (s : ℕ) (w : ListsRep f 
         (ne_eqb z y (λ q. true≢false (sym (has_bucket nr_buckets bs s i z h p) ∙ rw q free))))
         (w.linked i h))
 
-    pub shown_push : ListsRep links (push_back l j y).lists (join bs j y)
+    pub shown_push : ListsRep links (push_back l j y).queue (join bs j y)
     unfolding join
     shown_push = record {
       heads_full = rw push_heads (both (eqb head NONE) (λ e. rw e (length-set l.heads j y ∙ w.heads_full)) (λ e. rw e w.heads_full));
@@ -194,9 +193,9 @@ module _ (f : ℕ → ℕ) (l : Lists) (bs : Buckets) (s : ℕ) (w : ListsRep f 
       where
         go : (t : List ℕ) → Linked f (get_or l.heads (i % nr_buckets) 0) (get_or l.tails (i % nr_buckets) 0) t
             → scan_heads nr_buckets l.heads (suc i) k ≡ as_found (scan nr_buckets bs (suc i) k)
-            → cond (empty t) (scan_heads nr_buckets l.heads (suc i) k) (At (i % nr_buckets) (get_or l.heads (i % nr_buckets) 0)) ≡ as_found (oldest t (i % nr_buckets) (scan nr_buckets bs (suc i) k))
+            → cond (empty t) (scan_heads nr_buckets l.heads (suc i) k) (found_at (i % nr_buckets) (get_or l.heads (i % nr_buckets) 0)) ≡ as_found (oldest t (i % nr_buckets) (scan nr_buckets bs (suc i) k))
         go [] c ih = unfold empty oldest in ih
-        go (x ∷ t) c ih = unfold empty oldest in ap (At (i % nr_buckets)) (linked_head f _ _ x t c)
+        go (x ∷ t) c ih = unfold empty oldest in ap (found_at (i % nr_buckets)) (linked_head f _ _ x t c)
 
     pub top_same : (k : ℕ) → k ≤ nr_buckets → top_heads l.heads k ≡ highest_bucket bs k
     unfolding top_heads highest_bucket bucket

@@ -1,15 +1,14 @@
 -- WHAT IS READ: each number that the scheduler asks of the words is the rules'.
 use Prim.Native.Nat.{ℕ, ◌+◌, ◌*◌, ◌%◌, ◌^◌, ◌≤◌, ◌<◌}
-use Rattle.std.specs.Prelude.{◌≡◌, refl, Bool, not, List, [], get_or, eqb}
+use Rattle.std.specs.Prelude.{◌≡◌, refl, Bool, not, List, [], get_or, eqb, Option, None, Some, is_some}
 use Rattle.std.proofs.Common.{sym, ◌∙◌, arith, mul-le-mul, ne_eqb}
 use Rattle.std.proofs.Math.Path.{ap}
 use Rattle.std.proofs.Math.Bool.{cond}
-use Rattle.std.proofs.Math.Option.{Option, none, some}
 use Rattle.rules.specs.Questions.{most_shortest}
 use Rattle.rules.specs.declared.PriorityClass.{PriorityClass}
 use Rattle.rules.proofs.Laws.Line.{distinct_length}
 use Rattle.rules.specs.Priority.{from_raw}
-use Rattle.rules.specs.Times.{timeslice, deadline_distance, is_some, pinned}
+use Rattle.rules.specs.Times.{timeslice, deadline_distance, pinned}
 use Rattle.rules.specs.Queue.{Queue, order, load, timeshare_load}
 use Rattle.rules.specs.State.{Limits, Topology}
 use Rattle.rules.specs.Schedule.{World, one_unless_idle, current_load, current_priority, is_empty, movable_on}
@@ -44,10 +43,10 @@ unfolding word queue_at queue_in_def queue_from built_of
 word_movable cs c = sym (load_at (get_or cs c []) 64 8 8 0 (omega arith) (omega arith))
 
 -- the word for none
-pub none_number : (o : Option ℕ) → ((x : ℕ) → o ≡ some x → x < NONE) → eqb (number_or_none o) NONE ≡ not (is_some o)
-unfolding number_or_none is_some
-none_number none h = refl
-none_number (some x) h = let l : x < NONE = h x refl in ne_eqb x NONE (λ e. omega arith)
+pub none_number : (o : Option ℕ) → ((x : ℕ) → o ≡ Some x → x < NONE) → eqb (number_or_none o) NONE ≡ not (is_some o)
+unfolding number_or_none
+none_number None h = refl
+none_number (Some x) h = let l : x < NONE = h x refl in ne_eqb x NONE (λ e. omega arith)
 
 -- ---- bounds
 
@@ -58,14 +57,14 @@ distance_most shortest c l n h k =
     let m : timeslice shortest c l * n ≤ 2147483648 * 2147483648 = mul-le-mul (slice_most 2147483648 shortest c l (omega arith) h) k in omega arith
 
 one_more : (n : ℕ) (o : Option ℕ) → n ≤ 2147483648 → cond (is_some o) ((n + 1) % 2 ^ 64) n ≡ n + one_unless_idle o
-unfolding is_some one_unless_idle
-one_more n none h = omega arith
-one_more n (some x) h = omega arith
+unfolding one_unless_idle
+one_more n None h = omega arith
+one_more n (Some x) h = omega arith
 
 one_most : (o : Option ℕ) → one_unless_idle o ≤ 1
 unfolding one_unless_idle
-one_most none = omega arith
-one_most (some x) = omega arith
+one_most None = omega arith
+one_most (Some x) = omega arith
 
 module _ {limits : Limits} {topology : Topology} {known active : ℕ → Bool} {ts : List Thread} {cs : List (List ℕ)} {w : World} (s : WorldRep limits topology known active ts cs w) (small : Small limits) (c : ℕ) (near : c < limits.cpus) where
   well : QueueRep limits.threads (marks ts) (queue_at cs c) (reading_of (w.cpus c))

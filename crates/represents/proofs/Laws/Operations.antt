@@ -1,6 +1,6 @@
 -- THE LAWS OF ONE RUN QUEUE: what a put, a look, a take, a clock and a hard tick of the code's run queue do is what the rules' do.
 use Prim.Native.Nat.{ℕ, zero, suc, ◌+◌, ◌-◌, ◌*◌, ◌/◌, ◌%◌, ◌^◌, ◌≤◌, ◌<◌}
-use Rattle.std.specs.Prelude.{◌≡◌, Bool, cond, ◌&&◌, ◌||◌, List, [], ◌∷◌, ◌++◌, map, length, get_or, eqb, ltb}
+use Rattle.std.specs.Prelude.{◌≡◌, Bool, cond, ◌&&◌, ◌||◌, List, [], ◌∷◌, ◌++◌, map, length, get_or, eqb, ltb, Option, None}
 use Rattle.std.proofs.Math.Path.{refl, sym, ap}
 use Rattle.std.proofs.Common.{◌∙◌, true≢false, eq-eqb, ne_eqb, mod-eq_of_lt, div-le_self, arith}
 use Rattle.std.proofs.Math.Bool.{true, false}
@@ -28,7 +28,6 @@ use Rattle.queue.specs.declared.pq.PriorityQueue.{PriorityQueue}
 use Rattle.queue.specs.declared.timeshare.TimeshareQueue.{TimeshareQueue}
 use Rattle.runqueue.specs.declared.rq.RunQueue.{RunQueue}
 use Rattle.runqueue.specs.declared.rq.Arrival.{Arrival}
-use Rattle.runqueue.specs.declared.rq.Front.TheVariants as front
 use Rattle.queue.specs.Num.{sum, difference, difference_exact, half_product}
 use Rattle.queue.specs.Lists.{push_back}
 use Rattle.queue.specs.PriorityQueue.{pq_highest, pq_insert}
@@ -272,7 +271,7 @@ module _ (limit : ℕ) (small : limit ≤ NONE) (m : Marks) (q : RunQueue) (R : 
           rw (← u, ← v, ← k) d
 
   idle_follows : (f : Foundₗ) → scan nr_buckets Q.idle 0 nr_buckets ≡ f → next Q ≡ first_in part.Idle f nobody
-      → Follows limit m q R (first_in_def part.Idle (as_found f) front.Nothing) (first_in part.Idle f nobody)
+      → Follows limit m q R (first_in_def part.Idle (as_found f) None) (first_in part.Idle f nobody)
   unfolding Follows first_in_def as_found first_in leave take_reading said_after_take said_idle rq_taken rq_taken_from rq_taken_idle advertising with_idle uncounted realtime_line timeshare_line idle_line timeshare_load
   idle_follows nothing e t = refl
   idle_follows (found j x) e t =
@@ -295,7 +294,7 @@ module _ (limit : ℕ) (small : limit ≤ NONE) (m : Marks) (q : RunQueue) (R : 
       )
 
   timeshare_follows : (f : Foundₗ) → scan nr_buckets Q.timeshare Q.take_idx nr_buckets ≡ f → next Q ≡ first_in part.Timeshare f (next_idle Q)
-      → Follows limit m q R (first_in_def part.Timeshare (as_found f) (first_in_def part.Idle (as_found (scan nr_buckets Q.idle 0 nr_buckets)) front.Nothing)) (first_in part.Timeshare f (next_idle Q))
+      → Follows limit m q R (first_in_def part.Timeshare (as_found f) (first_in_def part.Idle (as_found (scan nr_buckets Q.idle 0 nr_buckets)) None)) (first_in part.Timeshare f (next_idle Q))
   unfolding Follows first_in_def as_found first_in next_idle leave take_reading said_after_take said_timeshare said_idle rq_taken rq_taken_from rq_taken_timeshare rq_recalc advertising with_timeshare uncounted realtime_line timeshare_line idle_line timeshare_load
   timeshare_follows nothing e t = idle_follows (scan nr_buckets Q.idle 0 nr_buckets) refl t
   timeshare_follows (found j x) e t =
@@ -318,7 +317,7 @@ module _ (limit : ℕ) (small : limit ≤ NONE) (m : Marks) (q : RunQueue) (R : 
       )
 
   realtime_follows : (f : Foundₗ) → scan nr_buckets Q.realtime 0 nr_buckets ≡ f → next Q ≡ first_in part.Realtime f (next_timeshare Q)
-      → Follows limit m q R (first_in_def part.Realtime (as_found f) (first_in_def part.Timeshare (as_found (scan nr_buckets Q.timeshare Q.take_idx nr_buckets)) (first_in_def part.Idle (as_found (scan nr_buckets Q.idle 0 nr_buckets)) front.Nothing)))
+      → Follows limit m q R (first_in_def part.Realtime (as_found f) (first_in_def part.Timeshare (as_found (scan nr_buckets Q.timeshare Q.take_idx nr_buckets)) (first_in_def part.Idle (as_found (scan nr_buckets Q.idle 0 nr_buckets)) None)))
       (first_in part.Realtime f (next_timeshare Q))
   unfolding Follows first_in_def as_found first_in next_timeshare leave take_reading said_after_take said_realtime rq_taken rq_taken_from rq_taken_realtime advertising with_realtime uncounted realtime_line timeshare_line idle_line timeshare_load
   realtime_follows nothing e t = timeshare_follows (scan nr_buckets Q.timeshare Q.take_idx nr_buckets) refl t

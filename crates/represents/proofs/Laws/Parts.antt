@@ -1,6 +1,6 @@
 -- The parts of a run queue, with their counts: what a put, a take and a look do to them.
 use Prim.Native.Nat.{ℕ, zero, suc, ◌+◌, ◌*◌, ◌/◌, ◌%◌, ◌≤◌, ◌<◌}
-use Rattle.std.specs.Prelude.{◌≡◌, Bool, cond, set, replicate, ltb}
+use Rattle.std.specs.Prelude.{◌≡◌, Bool, cond, set, replicate, ltb, Option, None}
 use Rattle.std.proofs.Math.Path.{refl, ap}
 use Rattle.std.proofs.Common.{sym, ◌∙◌, get_or-set_other, zero-add, mod-eq_of_lt, mul-le-mul_right, add-one, arith}
 use Rattle.std.proofs.Math.Bool.{true, false}
@@ -22,8 +22,7 @@ use Rattle.rules.proofs.Laws.Effect.{some_bucket, empty_true, hit_in, next_take_
 use Rattle.rules.proofs.Laws.Held.{has_head}
 use Rattle.thread.specs.Thread.{NONE}
 use Rattle.queue.specs.declared.lists.Lists.{Lists}
-use Rattle.queue.specs.declared.lists.Pushed.{Pushed}
-use Rattle.queue.specs.declared.lists.Found.TheVariants.{Nothing}
+use Rattle.queue.specs.declared.lists.Put.{Put}
 use Rattle.queue.specs.declared.pq.PriorityQueue.{PriorityQueue}
 use Rattle.queue.specs.declared.timeshare.TimeshareQueue.{TimeshareQueue}
 use Rattle.queue.specs.Num.{sum}
@@ -119,12 +118,12 @@ top_is_highest value (x ∷ l) h =
 
 -- a look at the first bucket that holds a thread
 look : (f : ℕ → ℕ) (l : Lists) (bs : Buckets) (s c : ℕ) → ListsRep f l bs → s < nr_buckets → Below NONE (line bs s) → c ≡ length (line bs s)
-    → cond (eqb c 0) Nothing (first_from l s) ≡ as_found (scan nr_buckets bs s nr_buckets)
+    → cond (eqb c 0) None (first_from l s) ≡ as_found (scan nr_buckets bs s nr_buckets)
 look f l bs s c w h b e =
     both (eqb c 0) (λ p. rw p (go (scan nr_buckets bs s nr_buckets) refl (eqb-true c 0 p)))
     (λ p. rw p (unfold first_from in rw (mod-eq_of_lt h) (scan_same f l bs s w b s nr_buckets)))
   where
-    go : (o : Foundₗ) → scan nr_buckets bs s nr_buckets ≡ o → c ≡ 0 → Nothing ≡ as_found o
+    go : (o : Foundₗ) → scan nr_buckets bs s nr_buckets ≡ o → c ≡ 0 → None ≡ as_found o
     go nothing q z = unfold as_found in refl
     go (found j x) q z =
         let g = around_pop nr_buckets bs s j x w.full (scan_found nr_buckets bs s nr_buckets j x q) in
@@ -172,8 +171,8 @@ module _ (f : ℕ → ℕ) (p : PriorityQueue) (bs : Buckets) (w : PartRep f p b
       (both (empty (line bs 0)) (λ e. rw e (sym (top_none bs nr_buckets (omega arith) (λ i h. none_in bs 0 i h (empty_true _ e))))) (λ e. rw e))
 
   pub part_push : (j y : ℕ) → j < nr_buckets → Distinct (line bs 0) → Below NONE (line bs 0) → has y (line bs 0) ≡ false → length (line bs 0) < NONE
-      → (let u : Pushed = push_back p.queues j y in
-      PartRep (link_after f u.behind y) (record { count = sum p.count 1; queues = u.lists }) (join bs j y))
+      → (let u : Put Lists = push_back p.queues j y in
+      PartRep (link_after f u.behind y) (record { count = sum p.count 1; queues = u.queue }) (join bs j y))
   part_push j y h d b n c = record {
     shown = shown_push f p.queues bs 0 w.shown j y h d b n;
     counted = rw (w.counted, up_one (length (line bs 0)) c) (sym (comes_length (around_join nr_buckets bs 0 j y w.shown.full h)));
@@ -244,13 +243,13 @@ module _ (f value : ℕ → ℕ) (t : TimeshareQueue) (bs : Buckets) (fl em : �
 
   pub share_push : (j y v : ℕ) → j < nr_buckets → v < nr_values → value y ≡ v
       → Distinct (line bs em) → Below NONE (line bs em) → has y (line bs em) ≡ false → length (line bs em) < NONE
-      → (let u : Pushed = push_back t.queues j y in
+      → (let u : Put Lists = push_back t.queues j y in
       TimeshareRep (link_after f u.behind y) value (record {
         count = sum t.count 1;
         priorities = set t.priorities (slot v) (sum (get_or t.priorities (slot v) 0) 1);
         insert_idx = t.insert_idx;
         take_idx = t.take_idx;
-        queues = u.lists;
+        queues = u.queue;
       }) (join bs j y) fl em)
   share_push j y v h vn e d b n c =
       let comes : Comes y (line bs em) (line (join bs j y) em) = around_join nr_buckets bs em j y w.shown.full h in

@@ -1,10 +1,10 @@
 -- A CPU put on a leaf and all nodes above, and a CPU declared: the words are then the topology of the rules.
 use Prim.Native.Nat.{ℕ, zero, suc, ◌+◌, ◌-◌, ◌/◌, ◌%◌, ◌≤◌, ◌<◌}
-use Rattle.std.specs.Prelude.{◌≡◌, Bool, ◌||◌, ◌&&◌, ltb}
+use Rattle.std.proofs.lemmas.Option.{same_Some}
+use Rattle.std.specs.Prelude.{◌≡◌, Bool, ◌||◌, ◌&&◌, ltb, Option, None, Some}
 use Rattle.std.proofs.Math.Path.{refl, sym, ap}
 use Rattle.std.proofs.Common.{◌∙◌}
 use Rattle.std.proofs.Math.Bool.{true, false, and-true, and-false, or-true, or-false}
-use Rattle.std.proofs.Math.Option.{Option, none, some, some-injective}
 use mathlib.Core.List.{List, [], ◌∷◌}
 use native.Mathlib.Omega.{arith}
 use Rattle.std.proofs.Math.Dec.{eqb}
@@ -232,11 +232,11 @@ module _ (limits : Limits) (t : Topology) (d : ℕ → Bool) (pl : ℕ → Optio
 
   on_any : (o : Option ℕ) (n : ℕ) → on_node limits alike o n ≡ on_node limits t o n
   unfolding on_node above nr_nodes
-  on_any none n = refl
-  on_any (some m) n =
+  on_any None n = refl
+  on_any (Some m) n =
       holds_has limits alike n (upward limits alike (nr_nodes limits t) m) ∙ ap (has n) (up_any (nr_nodes limits t) m) ∙ sym (holds_has limits t n (upward limits t (nr_nodes limits t) m))
 
-  sound_any : TopologySound limits t → ((c m : ℕ) → pl c ≡ some m → (c < limits.cpus) × ((m < nr_nodes limits t) × (leaf limits t m ≡ true))) → TopologySound limits alike
+  sound_any : TopologySound limits t → ((c m : ℕ) → pl c ≡ Some m → (c < limits.cpus) × ((m < nr_nodes limits t) × (leaf limits t m ≡ true))) → TopologySound limits alike
   unfolding nr_nodes parent_of met_first children
   sound_any s h = record {
     root = s.root;
@@ -249,7 +249,7 @@ module _ (limits : Limits) (t : Topology) (d : ℕ → Bool) (pl : ℕ → Optio
   }
 
   -- words that differ from a tree's in the sets alone
-  tree_any : (rows rows' : List (List ℕ)) → TopologyRep limits rows t → ((c m : ℕ) → pl c ≡ some m → (c < limits.cpus) × ((m < nr_nodes limits t) × (leaf limits t m ≡ true)))
+  tree_any : (rows rows' : List (List ℕ)) → TopologyRep limits rows t → ((c m : ℕ) → pl c ≡ Some m → (c < limits.cpus) × ((m < nr_nodes limits t) × (leaf limits t m ≡ true)))
       → Sized rows' → length rows' ≡ length rows → ((z u : ℕ) → u % 32 < 16 → (u % 32 ≡ 3 → ⊥) → (u % 32 ≡ 4 → ⊥) → word rows' z u ≡ word rows z u)
       → ((n : ℕ) → n < nr_nodes limits t → (c : ℕ) → c < limits.cpus → contains_at rows' n c ≡ on_node limits t (pl c) n) → ((n : ℕ) → n < nr_nodes limits t → Ranged limits.cpus rows' n)
       → TopologyRep limits rows' alike
@@ -277,12 +277,12 @@ tree_declared limits rows t c tree =
 
 -- A CPU PUT ON A LEAF AND ALL NODES ABOVE
 module _ (limits : Limits) (rows : List (List ℕ)) (t : Topology) (tree : TopologyRep limits rows t) (m c : ℕ) (m_there : m < nr_nodes limits t) (m_leaf : leaf limits t m ≡ true)
-    (c_fits : c < limits.cpus) (unplaced : t.placed c ≡ none) where
+    (c_fits : c < limits.cpus) (unplaced : t.placed c ≡ None) where
   c_small : c < max_cpu_id
   c_small = omega (arith, tree.cpus_fit)
 
   abbrev on : ℕ → Option ℕ
-  on = at t.placed c (some m)
+  on = at t.placed c (Some m)
 
   is_put_all : set_cpu rows m c ≡ put_all c (above limits t m) rows
   unfolding set_cpu
@@ -294,11 +294,11 @@ module _ (limits : Limits) (rows : List (List ℕ)) (t : Topology) (tree : Topol
       (all_put c c_small limits.cpus c_fits (above limits t m) rows tree.sized
       (λ x e. omega (arith, tree.room, up_within limits t tree.sound (nr_nodes limits t) m x m_there (unfold above in e))))
 
-  there_now : (d x : ℕ) → on d ≡ some x → (d < limits.cpus) × ((x < nr_nodes limits t) × (leaf limits t x ≡ true))
+  there_now : (d x : ℕ) → on d ≡ Some x → (d < limits.cpus) × ((x < nr_nodes limits t) × (leaf limits t x ≡ true))
   unfolding at
   there_now d x e =
       both (eqb d c)
-      (λ q. let k : m ≡ x = some-injective m x (rw q at e) in (rw (eqb-true d c q) c_fits, (rw (← k) m_there, rw (← k) m_leaf)))
+      (λ q. let k : m ≡ x = same_Some m x (rw q at e) in (rw (eqb-true d c q) c_fits, (rw (← k) m_there, rw (← k) m_leaf)))
       (λ q. tree.sound.placed_there d x (rw q at e))
 
   set_now : (n : ℕ) → n < nr_nodes limits t → (d : ℕ) → d < limits.cpus → contains_at (set_cpu rows m c) n d ≡ on_node limits t (on d) n

@@ -1,10 +1,9 @@
 -- A PUT AND A TAKE: what the definitions of the lent functions leave shows what `insert` and `take` of the rules leave.
-use Rattle.std.specs.Prelude.{ℕ, ◌≤◌, ◌<◌, ◌≢◌, Bool, false, ◌||◌, List, [], ◌∷◌, length, set, eqb}
+use Rattle.std.specs.Prelude.{ℕ, ◌≤◌, ◌<◌, ◌≢◌, Bool, false, ◌||◌, List, [], ◌∷◌, length, set, eqb, Option, None, Some}
 use Rattle.std.proofs.Math.Path.{◌≡◌, refl, sym, ap, subst}
 use Rattle.std.proofs.Common.{◌∙◌, true≢false, length-set, eqb-true, eq-eqb, ne_eqb, arith}
 use Rattle.std.proofs.Math.Bool.{true, cond}
 use Rattle.std.proofs.lemmas.Bool.{false≢true, eqb-false}
-use Rattle.std.proofs.Math.Option.{Option, none, some}
 use Rattle.rules.specs.declared.Part.{Part}
 use Rattle.rules.specs.declared.Part.TheVariants as part
 use Rattle.rules.specs.Line.{has}
@@ -30,16 +29,13 @@ use Rattle.thread.specs.Priority.{stable_effective_priority, effective_below}
 use Rattle.runqueue.specs.declared.rq.RunQueue.{RunQueue}
 use Rattle.runqueue.specs.declared.rq.Arrival.{Arrival}
 use Rattle.runqueue.specs.declared.rq.Front.{Front}
-use Rattle.runqueue.specs.declared.rq.Front.TheVariants as front
-use Rattle.runqueue.specs.RunQueue.{rq_front, rq_insert, rq_insert_into, rq_insert_realtime, rq_insert_timeshare, rq_insert_idle}
+use Rattle.runqueue.specs.RunQueue.{front_at, rq_front, rq_insert, rq_insert_into, rq_insert_realtime, rq_insert_timeshare, rq_insert_idle}
 use Rattle.processor.specs.Queue.{queue_at, queue_stored}
 use Rattle.processor.proofs.Laws.Queue.{word_after_store, row_length_store}
 use Rattle.represents.specs.Queue.{QueueReading}
 use Rattle.represents.proofs.Laws.Readings.{put_reading, as_arrival, take_reading}
 use Rattle.represents.proofs.Laws.Linked.{has_later}
 use Rattle.represents.proofs.Laws.Operations.{put_has, in_ts, movable_same}
-use Rattle.records.specs.declared.rq.Taken.{Taken}
-use Rattle.records.specs.declared.rq.Taken.TheVariants as taken
 use Rattle.records.specs.Left.{mem, Memory, Left}
 use Rattle.records.specs.Rq.{record_at, arrival_of, steady_in, put_in_def, put_of_def, insert_def, left_by_def, took_from_def, take_def}
 use Rattle.represents.specs.QueueRead.{marks}
@@ -207,16 +203,12 @@ said_same part.Idle f g said Q h = refl
 
 -- the threads active once somebody was handed out
 unfoldable pub active_with : (ℕ → Bool) → Option ℕ → ℕ → Bool
-active_with active none = active
-active_with active (some x) = at active x true
-
-unfoldable pub as_taken : Option ℕ → Taken
-as_taken none = taken.Nobody
-as_taken (some x) = taken.Thread x
+active_with active None = active
+active_with active (Some x) = at active x true
 
 -- a take answers what the rules hand out, and leaves what the rules leave
-pub record TakeShows (limits : Limits) (topology : Topology) (known active : ℕ → Bool) (d : Left Taken Memory) (g : Got) : Type 0 where
-  pub answer : d.answer ≡ as_taken g.got
+pub record TakeShows (limits : Limits) (topology : Topology) (known active : ℕ → Bool) (d : Left (Option ℕ) Memory) (g : Got) : Type 0 where
+  pub answer : d.answer ≡ g.got
   pub left : WorldRep limits topology known (active_with active g.got) d.memory.threads d.memory.cpus g.world
 
 module _ (limits : Limits) (topology : Topology) (tick us : ℕ) (known : ℕ → Bool) (numbered : (x : ℕ) → known x ≡ true → x < limits.threads) (small : Small limits) (H : ℕ → List PutOrTake) where
@@ -284,39 +276,39 @@ module _ (limits : Limits) (topology : Topology) (tick us : ℕ) (known : ℕ �
             (λ d h. absurd (true≢false (sym h ∙ kept_taken.handed_free x (unfold handed_out in refl) d))) (λ h. refl) (λ a f. absurd (true≢false (sym (at_here active x true) ∙ a))) s.places
 
         some_shows : (p' : Part) (b' : ℕ)
-            → QueuesRep limits.threads limits.cpus (took_from_def c (front.At p' b' x) (mem ts cs)).memory.threads (took_from_def c (front.At p' b' x) (mem ts cs)).memory.cpus
+            → QueuesRep limits.threads limits.cpus (took_from_def c (front_at p' b' x) (mem ts cs)).memory.threads (took_from_def c (front_at p' b' x) (mem ts cs)).memory.cpus
             (at (λ d. reading_of (w.cpus d)) c (take_reading (marks ts).value (reading_of (w.cpus c)) p b))
-            → TakeShows limits topology known active (took_from_def c (front.At p' b' x) (mem ts cs)) got
-        unfolding took_from_def handed_out active_with as_taken noted with_cpu
+            → TakeShows limits topology known active (took_from_def c (front_at p' b' x) (mem ts cs)) got
+        unfolding took_from_def handed_out active_with noted with_cpu
         some_shows p' b' g = record {
           answer = refl;
           left =
-              shows_stored s c running_now (left_by_def (queue_at cs c) (front.At p' b' x) (record_at ts x)) left_cpu got.world refl (length-set ts x (with_place (record_at ts x) RUNNING))
-              (subst (λ (R : QueueReading). QueuesRep limits.threads limits.cpus running_now (queue_stored cs c (left_by_def (queue_at cs c) (front.At p' b' x) (record_at ts x))) (at (λ d. reading_of (w.cpus d)) c R)) read_left g)
+              shows_stored s c running_now (left_by_def (queue_at cs c) (front_at p' b' x) (record_at ts x)) left_cpu got.world refl (length-set ts x (with_place (record_at ts x) RUNNING))
+              (subst (λ (R : QueueReading). QueuesRep limits.threads limits.cpus running_now (queue_stored cs c (left_by_def (queue_at cs c) (front_at p' b' x) (record_at ts x))) (at (λ d. reading_of (w.cpus d)) c R)) read_left g)
               (words_queue cs c (w.cpus c) _ _ (s.words c near))
               (λ z h. kept reads ts x (with_place (record_at ts x) RUNNING) z (reads_place (record_at ts x) RUNNING) ∙ s.threads z h)
               s.queue_cpus
               take_places;
         }
 
-      none_shows : TakeShows limits topology known active (took_from_def c front.Nothing (mem ts cs)) (handed_out limits topology tick us w c stealing nobody)
-      unfolding took_from_def handed_out active_with as_taken noted
+      none_shows : TakeShows limits topology known active (took_from_def c None (mem ts cs)) (handed_out limits topology tick us w c stealing nobody)
+      unfolding took_from_def handed_out active_with noted
       none_shows = record {
         answer = refl;
-        left = shows_alike w (noted w c (a_take stealing none)) (λ d. refl) (λ x. refl) s;
+        left = shows_alike w (noted w c (a_take stealing None)) (λ d. refl) (λ x. refl) s;
       }
 
-      go : (f : Front) (n : Next) → asked (pinned_in w) Q stealing ≡ n → TakenAs limits.threads limits.cpus ts cs (λ d. reading_of (w.cpus d)) c (took_from_def c f (mem ts cs)) n
+      go : (f : Option Front) (n : Next) → asked (pinned_in w) Q stealing ≡ n → TakenAs limits.threads limits.cpus ts cs (λ d. reading_of (w.cpus d)) c (took_from_def c f (mem ts cs)) n
           → TakeShows limits topology known active (took_from_def c f (mem ts cs)) (handed_out limits topology tick us w c stealing n)
       unfolding TakenAs took_from_def
-      go front.Nothing nobody a e = none_shows
-      go front.Nothing (next_in p b x) a e = let z : ◌≡◌ {A = Taken} taken.Nobody (taken.Thread x) = e.0 in let y : ◌≡◌ {A = ℕ} 0 1 = cc in absurd (omega arith)
-      go (front.At p' b' x') nobody a e = let z : ◌≡◌ {A = Taken} (taken.Thread x') taken.Nobody = ap (λ (d : Left Taken Memory). d.answer) e in let y : ◌≡◌ {A = ℕ} 0 1 = cc in absurd (omega arith)
-      go (front.At p' b' x') (next_in p b x) a e =
-          let z : ◌≡◌ {A = Taken} (taken.Thread x') (taken.Thread x) = e.0 in
-          let y : x' ≡ x = cc in
-          subst (λ (u : ℕ). TakeShows limits topology known active (took_from_def c (front.At p' b' x') (mem ts cs)) (handed_out limits topology tick us w c stealing (next_in p b u))) y
-          (some_shows p b x' (a ∙ ap (next_in p b) (sym y)) p' b' e.1)
+      go None nobody a e = none_shows
+      go None (next_in p b x) a e = let z : ◌≡◌ {A = Option ℕ} None (Some x) = e.0 in let y : ◌≡◌ {A = ℕ} 0 1 = cc in absurd (omega arith)
+      go (Some f) nobody a e = let z : ◌≡◌ {A = Option ℕ} (Some f.thread) None = ap (λ (d : Left (Option ℕ) Memory). d.answer) e in let y : ◌≡◌ {A = ℕ} 0 1 = cc in absurd (omega arith)
+      go (Some f) (next_in p b x) a e =
+          let z : ◌≡◌ {A = Option ℕ} (Some f.thread) (Some x) = e.0 in
+          let y : f.thread ≡ x = cc in
+          subst (λ (u : ℕ). TakeShows limits topology known active (took_from_def c (Some f) (mem ts cs)) (handed_out limits topology tick us w c stealing (next_in p b u))) y
+          (some_shows p b f.thread (a ∙ ap (next_in p b) (sym y)) f.part f.bucket e.1)
 
       asked_as : asked (marks ts).pinned (reading_of (w.cpus c)).queue stealing ≡ asked (pinned_in w) Q stealing
       unfolding reading_of

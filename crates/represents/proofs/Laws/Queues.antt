@@ -1,5 +1,5 @@
 -- THE RUN QUEUES OF ALL CPUS OVER ONE SLICE OF RECORDS: what one does leaves the others as they are.
-use Rattle.std.specs.Prelude.{ℕ, ◌≤◌, ◌<◌, ◌≡◌, refl, Bool, true, false, ◌&&◌, eqb}
+use Rattle.std.specs.Prelude.{ℕ, ◌≤◌, ◌<◌, ◌≡◌, refl, Bool, true, false, ◌&&◌, eqb, Option, None, Some}
 use Rattle.std.proofs.Common.{sym, ◌∙◌, true≢false}
 use borrow.Author.Tests.{eqb-true, eqb-false, ne_eqb}
 use Rattle.rules.specs.declared.Part.{Part}
@@ -15,8 +15,7 @@ use Rattle.runqueue.specs.declared.rq.RunQueue.{RunQueue}
 use Rattle.runqueue.specs.declared.rq.Arrival.{Arrival}
 use Rattle.runqueue.specs.declared.rq.Put.{Put}
 use Rattle.runqueue.specs.declared.rq.Front.{Front}
-use Rattle.runqueue.specs.declared.rq.Front.TheVariants as front
-use Rattle.runqueue.specs.RunQueue.{rq_insert, rq_front, rq_taken, rq_clock, rq_hardtick}
+use Rattle.runqueue.specs.RunQueue.{front_at, rq_insert, rq_front, rq_taken, rq_clock, rq_hardtick}
 use Rattle.represents.proofs.Laws.Linked.{Alike, has_later}
 use Rattle.represents.specs.QueueRead.{Marks}
 use Rattle.represents.specs.Queue.{QueueReading, QueueRep}
@@ -31,11 +30,11 @@ pub record Agree (m' m : Marks) (Q : Queue) : Type 0 where
   pub values : Alike m'.value m.value (order Q)
 
 -- a take at CPU c: the thread that `front` answers is the one that the rules ask for, and what is left reads as the rules leave it
-unfoldable pub AllFollow : ℕ → ℕ → Marks → (ℕ → RunQueue) → (ℕ → QueueReading) → ℕ → Front → Next → Type 0
-AllFollow limit n m qs Rs c front.Nothing a = a ≡ nobody
-AllFollow limit n m qs Rs c (front.At p b x) a =
-    (a ≡ next_in p b x)
-    × AllQueuesRep limit n m (at qs c (rq_taken (qs c) (front.At p b x) NONE (m.next x) (m.value x) (m.pinned x))) (at Rs c (take_reading m.value (Rs c) p b))
+unfoldable pub AllFollow : ℕ → ℕ → Marks → (ℕ → RunQueue) → (ℕ → QueueReading) → ℕ → Option Front → Next → Type 0
+AllFollow limit n m qs Rs c None a = a ≡ nobody
+AllFollow limit n m qs Rs c (Some f) a =
+    (a ≡ next_in f.part f.bucket f.thread)
+    × AllQueuesRep limit n m (at qs c (rq_taken (qs c) (Some f) NONE (m.next f.thread) (m.value f.thread) (m.pinned f.thread))) (at Rs c (take_reading m.value (Rs c) f.part f.bucket))
 
 -- ----
 
@@ -90,12 +89,12 @@ module _ (limit n : ℕ) (m : Marks) (qs : ℕ → RunQueue) (Rs : ℕ → Queue
       pub all_take : (stealing : Bool) → AllFollow limit n m qs Rs c (rq_front (qs c) stealing) (asked m.pinned (Rs c).queue stealing)
       all_take stealing = go (rq_front (qs c) stealing) (take_follows limit small m (qs c) (Rs c) (w.each c cn) stealing)
         where
-          go : (f : Front) → Follows limit m (qs c) (Rs c) f (asked m.pinned (Rs c).queue stealing) → AllFollow limit n m qs Rs c f (asked m.pinned (Rs c).queue stealing)
-          go front.Nothing e = unfold AllFollow Follows in e
-          go (front.At p b x) e = unfold AllFollow Follows in (
+          go : (f : Option Front) → Follows limit m (qs c) (Rs c) f (asked m.pinned (Rs c).queue stealing) → AllFollow limit n m qs Rs c f (asked m.pinned (Rs c).queue stealing)
+          go None e = unfold AllFollow Follows in e
+          go (Some f) e = unfold AllFollow Follows in (
             e.0,
             all_set m _ _ e.1 (λ d h k. stays d)
-                (λ d z h k a. elsewhere d z h k (rw (taken_order limit small m (qs c) (Rs c) (w.each c cn) p b x (asked_next m.pinned (Rs c).queue stealing p b x e.0)) (has_later z x _ (unfold take_reading in a)))),
+                (λ d z h k a. elsewhere d z h k (rw (taken_order limit small m (qs c) (Rs c) (w.each c cn) f.part f.bucket f.thread (asked_next m.pinned (Rs c).queue stealing f.part f.bucket f.thread e.0)) (has_later z f.thread _ (unfold take_reading in a)))),
           )
 
       -- A PUT AT ONE CPU

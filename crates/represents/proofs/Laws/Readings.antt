@@ -1,5 +1,5 @@
 -- The rules' operations on what is read off a run queue, and the marks of the records after a put.
-use Rattle.std.specs.Prelude.{ℕ, ◌≡◌}
+use Rattle.std.specs.Prelude.{ℕ, ◌≡◌, Option, None, Some}
 use Rattle.rules.specs.declared.Part.{Part}
 use Rattle.rules.specs.declared.Part.TheVariants as part
 use Rattle.rules.specs.Priority.{from_raw}
@@ -11,8 +11,7 @@ use Rattle.runqueue.specs.declared.rq.RunQueue.{RunQueue}
 use Rattle.runqueue.specs.declared.rq.Arrival.{Arrival}
 use Rattle.runqueue.specs.declared.rq.Put.{Put}
 use Rattle.runqueue.specs.declared.rq.Front.{Front}
-use Rattle.runqueue.specs.declared.rq.Front.TheVariants as front
-use Rattle.runqueue.specs.RunQueue.{rq_taken}
+use Rattle.runqueue.specs.RunQueue.{front_at, rq_taken}
 use Rattle.represents.proofs.Laws.Linked.{link_after}
 use Rattle.represents.specs.QueueRead.{Marks, queue_read}
 use Rattle.represents.specs.Queue.{QueueReading, QueueRep}
@@ -64,7 +63,7 @@ marks_after m u a = record {
 
 -- ---- what the code's `front` answers is what the rules ask for, and what `taken` leaves reads as what the rules leave
 
-unfoldable pub Follows : ℕ → Marks → RunQueue → QueueReading → Front → Next → Type 0
-Follows limit m q R front.Nothing n = n ≡ nobody
-Follows limit m q R (front.At p b x) n =
-    (n ≡ next_in p b x) × QueueRep limit m (rq_taken q (front.At p b x) NONE (m.next x) (m.value x) (m.pinned x)) (take_reading m.value R p b)
+unfoldable pub Follows : ℕ → Marks → RunQueue → QueueReading → Option Front → Next → Type 0
+Follows limit m q R None n = n ≡ nobody
+Follows limit m q R (Some f) n =
+    (n ≡ next_in f.part f.bucket f.thread) × QueueRep limit m (rq_taken q (Some f) NONE (m.next f.thread) (m.value f.thread) (m.pinned f.thread)) (take_reading m.value R f.part f.bucket)

@@ -1,7 +1,7 @@
 -- THE LAWS OF PUT, TAKE, STEAL, CLOCK AND HARD TICK IN LENT MEMORY: over the thread records ts and the words cs of n CPUs, each leaves what is well
 -- formed well formed; the queue of its CPU then reads as the rules' function of what it read before, and every other CPU's reads as before.
 -- Any number of CPUs and threads.
-use Rattle.std.specs.Prelude.{ℕ, ◌-◌, ◌^◌, ◌≤◌, ◌<◌, ◌≡◌, Bool, get_or, set, eqb}
+use Rattle.std.specs.Prelude.{ℕ, ◌-◌, ◌^◌, ◌≤◌, ◌<◌, ◌≡◌, Bool, get_or, set, eqb, Option, Some, None}
 use Rattle.std.proofs.Math.Path.{refl}
 use Rattle.std.proofs.Common.{sym, subst, ◌∙◌, inl, inr, length-set, get_or-set_same, eqb-true, arith}
 use Rattle.std.proofs.Math.Bool.{false}
@@ -25,8 +25,7 @@ use Rattle.runqueue.specs.declared.rq.RunQueue.{RunQueue}
 use Rattle.runqueue.specs.declared.rq.Arrival.{Arrival}
 use Rattle.runqueue.specs.declared.rq.Put.{Put}
 use Rattle.runqueue.specs.declared.rq.Front.{Front}
-use Rattle.runqueue.specs.declared.rq.Front.TheVariants as front
-use Rattle.runqueue.specs.RunQueue.{no_run_queue, rq_front, rq_taken, rq_clock, rq_hardtick}
+use Rattle.runqueue.specs.RunQueue.{front_at, no_run_queue, rq_front, rq_taken, rq_clock, rq_hardtick}
 use Rattle.processor.specs.Queue.{queue_at, queue_stored, queue_into, stored_from}
 use Rattle.processor.proofs.Laws.Queue.{Eights, length_lists, queue_after_store, queue_elsewhere, length_store}
 use Rattle.processor.specs.Window.{length_place}
@@ -37,8 +36,6 @@ use Rattle.represents.proofs.Laws.Readings.{reading, new_reading, put_reading, t
 use Rattle.represents.proofs.Laws.Operations.{reading_is, hardtick_ticks, put_behind, new_well}
 use Rattle.represents.specs.Queue.{waits, AllQueuesRep}
 use Rattle.represents.proofs.Laws.Queues.{Agree, AllFollow, all_frame, all_take, all_put, all_clock, all_hardtick}
-use Rattle.records.specs.declared.rq.Taken.{Taken}
-use Rattle.records.specs.declared.rq.Taken.TheVariants as taken
 use Rattle.records.specs.Left.{Memory, mem, Left}
 use Rattle.records.specs.Rq.{record_at, arrival_of, put_of_def, insert_def, left_by_def, took_from_def, take_def, clock_def, hardtick_def}
 use Rattle.represents.specs.QueueRead.{marks}
@@ -50,10 +47,10 @@ abbrev pub arriving : List Thread → ℕ → ℕ → Bool → Arrival
 arriving ts x tick current = arrival_of (record_at ts x) x tick current
 
 -- A take at CPU c where the rules ask for a: nobody comes out and nothing changes, or the thread that the rules hand out.
-unfoldable pub TakenAs : ℕ → ℕ → List Thread → List (List ℕ) → (ℕ → QueueReading) → ℕ → Left Taken Memory → Next → Type 0
-TakenAs limit n ts cs Rs c d nobody = d ≡ record { answer = taken.Nobody; memory = mem ts cs }
+unfoldable pub TakenAs : ℕ → ℕ → List Thread → List (List ℕ) → (ℕ → QueueReading) → ℕ → Left (Option ℕ) Memory → Next → Type 0
+TakenAs limit n ts cs Rs c d nobody = d ≡ record { answer = None; memory = mem ts cs }
 TakenAs limit n ts cs Rs c d (next_in p b x) =
-    (d.answer ≡ taken.Thread x) × QueuesRep limit n d.memory.threads d.memory.cpus (at Rs c (take_reading (marks ts).value (Rs c) p b))
+    (d.answer ≡ Some x) × QueuesRep limit n d.memory.threads d.memory.cpus (at Rs c (take_reading (marks ts).value (Rs c) p b))
 
 -- ---- for proofs
 
@@ -143,21 +140,21 @@ module _ (limit n : ℕ) (ts : List Thread) (cs : List (List ℕ)) (Rs : ℕ →
           (subst (λ (m : Marks). AllQueuesRep limit n m (at (queue_at cs) c u.queue) (at Rs c (put_reading (Rs c) a))) (sym e)
           (all_put limit n (marks ts) (queue_at cs) Rs g.shows c cn small a vn tn pin fr))
 
-      nothing_law : (a : Next) → a ≡ nobody → TakenAs limit n ts cs Rs c (took_from_def c front.Nothing (mem ts cs)) a
+      nothing_law : (a : Next) → a ≡ nobody → TakenAs limit n ts cs Rs c (took_from_def c None (mem ts cs)) a
       unfolding TakenAs took_from_def
       nothing_law a e = rw e
 
       some_law : (p : Part) (b x : ℕ) (a : Next) → a ≡ next_in p b x
-          → AllQueuesRep limit n (marks ts) (at (queue_at cs) c (rq_taken (queue_at cs c) (front.At p b x) NONE ((marks ts).next x) ((marks ts).value x) ((marks ts).pinned x))) (at Rs c (take_reading (marks ts).value (Rs c) p b))
-          → TakenAs limit n ts cs Rs c (took_from_def c (front.At p b x) (mem ts cs)) a
+          → AllQueuesRep limit n (marks ts) (at (queue_at cs) c (rq_taken (queue_at cs c) (front_at p b x) NONE ((marks ts).next x) ((marks ts).value x) ((marks ts).pinned x))) (at Rs c (take_reading (marks ts).value (Rs c) p b))
+          → TakenAs limit n ts cs Rs c (took_from_def c (front_at p b x) (mem ts cs)) a
       unfolding TakenAs took_from_def
       some_law p b x a e w =
           let t : Thread = with_place (record_at ts x) RUNNING in
           let k : marks (set ts x t) ≡ marks ts = marks_kept ts x t (unfold with_place in refl) (reads_place (record_at ts x) RUNNING) in
           rw e (
             refl,
-            stored (set ts x t) (left_by_def (queue_at cs c) (front.At p b x) (record_at ts x)) _ (rw (length-set ts x t) g.records)
-                (subst (λ (m : Marks). AllQueuesRep limit n m (at (queue_at cs) c (left_by_def (queue_at cs c) (front.At p b x) (record_at ts x))) (at Rs c (take_reading (marks ts).value (Rs c) p b))) (sym k)
+            stored (set ts x t) (left_by_def (queue_at cs c) (front_at p b x) (record_at ts x)) _ (rw (length-set ts x t) g.records)
+                (subst (λ (m : Marks). AllQueuesRep limit n m (at (queue_at cs) c (left_by_def (queue_at cs c) (front_at p b x) (record_at ts x))) (at Rs c (take_reading (marks ts).value (Rs c) p b))) (sym k)
                 (unfold left_by_def marks reads in w)),
           )
 
@@ -166,9 +163,9 @@ module _ (limit n : ℕ) (ts : List Thread) (cs : List (List ℕ)) (Rs : ℕ →
       unfolding take_def
       take_law stealing = go (rq_front (queue_at cs c) stealing) (asked (marks ts).pinned (Rs c).queue stealing) (all_take limit n (marks ts) (queue_at cs) Rs g.shows c cn small stealing)
         where
-          go : (f : Front) (a : Next) → AllFollow limit n (marks ts) (queue_at cs) Rs c f a → TakenAs limit n ts cs Rs c (took_from_def c f (mem ts cs)) a
-          go front.Nothing a e = nothing_law a (unfold AllFollow in e)
-          go (front.At p b x) a e = some_law p b x a (unfold AllFollow in e.0) (unfold AllFollow in e.1)
+          go : (f : Option Front) (a : Next) → AllFollow limit n (marks ts) (queue_at cs) Rs c f a → TakenAs limit n ts cs Rs c (took_from_def c f (mem ts cs)) a
+          go None a e = nothing_law a (unfold AllFollow in e)
+          go (Some f) a e = some_law f.part f.bucket f.thread a (unfold AllFollow in e.0) (unfold AllFollow in e.1)
 
       -- A CLOCK
       pub clock_law : QueuesRep limit n ts (clock_def c cs) (at Rs c (clock_reading (Rs c)))

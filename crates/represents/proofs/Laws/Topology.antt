@@ -1,11 +1,10 @@
 -- What the words of the nodes must be to be a topology of the rules; the orders in which they are walked are then those of the rules.
 use Prim.Native.Nat.{ℕ, zero, suc, ◌-◌, ◌≤◌, ◌<◌}
-use Rattle.std.specs.Prelude.{◌≡◌, Bool, false, ◌||◌, ◌&&◌, length}
+use Rattle.std.specs.Prelude.{◌≡◌, Bool, false, ◌||◌, ◌&&◌, length, Option, None, Some}
 use Rattle.std.proofs.Math.Path.{refl, sym, ap}
 use Rattle.std.proofs.Common.{◌∙◌, arith, length-append}
 use Rattle.std.proofs.Math.Bool.{true, true≢false}
 use Rattle.std.proofs.lemmas.Bool.{false≢true}
-use Rattle.std.proofs.Math.Option.{Option, none, some}
 use mathlib.Core.List.{List, [], ◌∷◌, ◌++◌, append-nil}
 use Rattle.std.proofs.Math.Dec.{eqb, ltb}
 use borrow.Author.Tests.{eqb-true, eqb-false, eq-eqb, ne_eqb, lt-ltb, ltb-true, ltb-false}
@@ -36,10 +35,10 @@ only_one : (y x : ℕ) → has x (y ∷ []) ≡ true → y ≡ x
 unfolding has
 only_one y x g = both (eqb y x) (λ q. eqb-true y x q) (λ q. absurd (false≢true (rw q at g)))
 
-pub number_is : (x : ℕ) (o : Option ℕ) → is_number x o ≡ true → o ≡ some x
+pub number_is : (x : ℕ) (o : Option ℕ) → is_number x o ≡ true → o ≡ Some x
 unfolding is_number
-number_is x none e = absurd (false≢true e)
-number_is x (some y) e = ap some (eqb-true y x e)
+number_is x None e = absurd (false≢true e)
+number_is x (Some y) e = ap Some (eqb-true y x e)
 
 -- ---- the way up to the root
 
@@ -98,10 +97,10 @@ module _ (limits : Limits) (t : Topology) (sound : TopologySound limits t) where
       let b : parent_of limits t y < y = sound.parents y (omega arith) l in
       rw (z, up_leaf k m (parent_of limits t y) e (omega arith)) (ne_eqb _ m (leaf_childless m y e (omega arith) l)))))
 
-  pub on_leaf : (m : ℕ) → leaf limits t m ≡ true → (o : Option ℕ) → ((y : ℕ) → o ≡ some y → y < nr_nodes limits t) → on_node limits t o m ≡ is_number m o
+  pub on_leaf : (m : ℕ) → leaf limits t m ≡ true → (o : Option ℕ) → ((y : ℕ) → o ≡ Some y → y < nr_nodes limits t) → on_node limits t o m ≡ is_number m o
   unfolding on_node is_number above
-  on_leaf m e none h = refl
-  on_leaf m e (some y) h = holds_has limits t m (upward limits t (nr_nodes limits t) y) ∙ up_leaf (nr_nodes limits t) m y e (h y refl)
+  on_leaf m e None h = refl
+  on_leaf m e (Some y) h = holds_has limits t m (upward limits t (nr_nodes limits t) y) ∙ up_leaf (nr_nodes limits t) m y e (h y refl)
 
 -- ---- a tree in words is walked as the rules walk the topology
 
@@ -133,7 +132,7 @@ module _ (limits : Limits) (rows : List (List ℕ)) (t : Topology) (tree : Topol
   above_same m h = root_up (length rows) (nr_nodes limits t) m (omega (arith, tree.room)) (omega arith) h
 
   -- THE ORDER IN WHICH STEALING LOOKS
-  pub nearest_same : (m : ℕ) → m < nr_nodes limits t → nearest_at rows limits.cpus m ≡ nearest_from limits t (some m)
+  pub nearest_same : (m : ℕ) → m < nr_nodes limits t → nearest_at rows limits.cpus m ≡ nearest_from limits t (Some m)
   unfolding nearest_at nearest_from above
   nearest_same m h =
       ap (join_all (cpus_at rows limits.cpus)) (above_same m h)

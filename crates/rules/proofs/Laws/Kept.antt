@@ -1,9 +1,8 @@
 -- What every put, take and `advance_insert_index` keeps of a queue and its puts and takes, and what follows of demand 3 for one queue.
-use Rattle.std.specs.Prelude.{ℕ, suc, ◌+◌, ◌*◌, ◌≤◌, ◌<◌, ◌≡◌, refl, ◌≢◌, ◌↔◌, Bool, true, false, cond, not, ◌&&◌, ◌||◌, length, eqb}
+use Rattle.std.specs.Prelude.{ℕ, suc, ◌+◌, ◌*◌, ◌≤◌, ◌<◌, ◌≡◌, refl, ◌≢◌, ◌↔◌, Bool, true, false, cond, not, ◌&&◌, ◌||◌, length, eqb, Option, None, Some}
 use Rattle.std.proofs.Common.{sym, ap, subst, ◌∙◌, inl, inr, true≢false, length-append, eqb-true, eq-eqb, ne_eqb, zero-add, arith}
 use Rattle.std.proofs.lemmas.Bool.{false≢true, eqb-false}
 use Rattle.std.proofs.Math.Bool.{or-false}
-use Rattle.std.proofs.Math.Option.{Option, none, some}
 use mathlib.Core.List.{List, [], ◌∷◌, ◌++◌, append_assoc, append-nil, nil≢cons}
 use Rattle.rules.specs.declared.Part.{Part}
 use Rattle.rules.specs.declared.Part.TheVariants as part
@@ -138,10 +137,10 @@ pub record Moment (limit : ℕ) (l : List PutOrTake) : Type 0 where
   pub still : (pre mid : List PutOrTake) (p : Put) → l ≡ pre ++ (a_put p ∷ mid) → (gone p.thread mid ≡ false) ↔ (served mid < a_of pre p + b_of pre p mid + 1)
   pub within : (pre mid : List PutOrTake) (p : Put) → l ≡ pre ++ (a_put p ∷ mid) → p.part ≡ part.Timeshare → calm_while p.thread mid ≡ true
       → a_of pre p + b_of pre p mid + 1 ≤ limit * nr_buckets
-  pub turn : (pre mid : List PutOrTake) (p : Put) (s : Bool) (y : ℕ) → l ≡ (pre ++ (a_put p ∷ mid)) ++ (a_take s (some y) ∷ []) → gone p.thread mid ≡ false
+  pub turn : (pre mid : List PutOrTake) (p : Put) (s : Bool) (y : ℕ) → l ≡ (pre ++ (a_put p ∷ mid)) ++ (a_take s (Some y) ∷ []) → gone p.thread mid ≡ false
       → (y ≡ p.thread) ↔ (served mid + 1 ≡ a_of pre p + b_of pre p mid + 1)
-  pub own : (pre : List PutOrTake) (o : Option ℕ) → l ≡ pre ++ (a_take false o ∷ []) → (o ≡ none) ↔ (who_waits pre ≡ [])
-  pub stealing : (pre : List PutOrTake) (o : Option ℕ) → l ≡ pre ++ (a_take true o ∷ []) → (o ≡ none) ↔ (how_many unpinned (who_waits pre) ≡ 0)
+  pub own : (pre : List PutOrTake) (o : Option ℕ) → l ≡ pre ++ (a_take false o ∷ []) → (o ≡ None) ↔ (who_waits pre ≡ [])
+  pub stealing : (pre : List PutOrTake) (o : Option ℕ) → l ≡ pre ++ (a_take true o ∷ []) → (o ≡ None) ↔ (how_many unpinned (who_waits pre) ≡ 0)
 
 pub record Kept (limit : ℕ) (q : Queue) (l : List PutOrTake) : Type 0 where
   pub fits : Fits limit q l
@@ -158,7 +157,7 @@ kept_start limit = record {
   past = λ pre post e. let f : pre ≡ [] = nil_front pre post e in rw f (record {
     still = λ pre mid p e. absurd (nil_not pre (a_put p) mid e);
     within = λ pre mid p e. absurd (nil_not pre (a_put p) mid e);
-    turn = λ pre mid p s y e. absurd (nil_not (pre ++ (a_put p ∷ mid)) (a_take s (some y)) [] e);
+    turn = λ pre mid p s y e. absurd (nil_not (pre ++ (a_put p ∷ mid)) (a_take s (Some y)) [] e);
     own = λ pre o e. absurd (nil_not pre (a_take false o) [] e);
     stealing = λ pre o e. absurd (nil_not pre (a_take true o) [] e);
   });
@@ -172,9 +171,9 @@ kept_start limit = record {
 
 -- what a new take is about
 record NewTake (q q' : Queue) (l : List PutOrTake) (e : PutOrTake) : Type 0 where
-  head : (s : Bool) (y : ℕ) → e ≡ a_take s (some y) → order q ≡ y ∷ order q'
-  own : (o : Option ℕ) → e ≡ a_take false o → (o ≡ none) ↔ (who_waits l ≡ [])
-  stealing : (o : Option ℕ) → e ≡ a_take true o → (o ≡ none) ↔ (how_many unpinned (who_waits l) ≡ 0)
+  head : (s : Bool) (y : ℕ) → e ≡ a_take s (Some y) → order q ≡ y ∷ order q'
+  own : (o : Option ℕ) → e ≡ a_take false o → (o ≡ None) ↔ (who_waits l ≡ [])
+  stealing : (o : Option ℕ) → e ≡ a_take true o → (o ≡ None) ↔ (how_many unpinned (who_waits l) ≡ 0)
 
 nil_snoc : (l : List PutOrTake) (e : PutOrTake) → [] ≡ l ++ (e ∷ []) → ⊥
 nil_snoc l e h = nil_not l e [] h
@@ -213,7 +212,7 @@ module _ {limit : ℕ} {q : Queue} {l : List PutOrTake} (k : Kept limit q l) (q'
     );
     within = λ pre mid p h. (turns_now pre mid p h).within;
     turn = λ pre mid p s y h g.
-        let z = last_of l e (pre ++ (a_put p ∷ mid)) (a_take s (some y)) h in
+        let z = last_of l e (pre ++ (a_put p ∷ mid)) (a_take s (Some y)) h in
         head_number p.thread y (order q) (order q') (served mid) _ (t.head s y z.1) ((k.turns pre mid p z.0).waits_yet g);
     own = λ pre o h. let z = last_of l e pre (a_take false o) h in rw (← z.0) (t.own o z.1);
     stealing = λ pre o h. let z = last_of l e pre (a_take true o) h in rw (← z.0) (t.stealing o z.1);
@@ -312,14 +311,14 @@ module _ {limit : ℕ} {q q' : Queue} (l pre mid : List PutOrTake) (p r : Put) (
       }
 
 -- an old put, when a take hands out nothing
-turn_none : {limit : ℕ} {q : Queue} (pre mid : List PutOrTake) (p : Put) (s : Bool) → Turning limit q pre p mid → Turning limit q pre p (mid ++ (a_take s none ∷ []))
+turn_none : {limit : ℕ} {q : Queue} (pre mid : List PutOrTake) (p : Put) (s : Bool) → Turning limit q pre p mid → Turning limit q pre p (mid ++ (a_take s None ∷ []))
 unfolding b_of counts is_number
 turn_none pre mid p s t =
     let x : ℕ = p.thread in
-    let m_is = served_take mid s none in
-    let b_is = ahead_take (put_after pre p) (suc (length pre)) mid s none in
-    let g_is : gone x (mid ++ (a_take s none ∷ [])) ≡ gone x mid = gone_take x mid s none ∙ or-false (gone x mid) in
-    let c_is = calm_take x mid s none in
+    let m_is = served_take mid s None in
+    let b_is = ahead_take (put_after pre p) (suc (length pre)) mid s None in
+    let g_is : gone x (mid ++ (a_take s None ∷ [])) ≡ gone x mid = gone_take x mid s None ∙ or-false (gone x mid) in
+    let c_is = calm_take x mid s None in
     record {
       waits_yet = λ g. let y = t.waits_yet (sym g_is ∙ g) in omega arith;
       has_left = λ g. let y = t.has_left (sym g_is ∙ g) in omega arith;
@@ -341,14 +340,14 @@ or_both true t e = absurd (true≢false e)
 or_both false t e = (refl, e)
 
 turn_some : {limit : ℕ} {q q' : Queue} (pre mid : List PutOrTake) (p : Put) (s : Bool) (y : ℕ) → order q ≡ y ∷ order q'
-    → ((x k : ℕ) → eqb y x ≡ false → Soon limit x q k → (k' : ℕ) × Soon limit x q' k' × (k' < k)) → Turning limit q pre p mid → Turning limit q' pre p (mid ++ (a_take s (some y) ∷ []))
+    → ((x k : ℕ) → eqb y x ≡ false → Soon limit x q k → (k' : ℕ) × Soon limit x q' k' × (k' < k)) → Turning limit q pre p mid → Turning limit q' pre p (mid ++ (a_take s (Some y) ∷ []))
 unfolding b_of counts is_number
 turn_some {limit} {q} {q'} pre mid p s y o f t =
     let x : ℕ = p.thread in
-    let m_is = served_take mid s (some y) in
-    let b_is = ahead_take (put_after pre p) (suc (length pre)) mid s (some y) in
-    let g_is : gone x (mid ++ (a_take s (some y) ∷ [])) ≡ (gone x mid || eqb y x) = gone_take x mid s (some y) in
-    let c_is = calm_take x mid s (some y) in
+    let m_is = served_take mid s (Some y) in
+    let b_is = ahead_take (put_after pre p) (suc (length pre)) mid s (Some y) in
+    let g_is : gone x (mid ++ (a_take s (Some y) ∷ [])) ≡ (gone x mid || eqb y x) = gone_take x mid s (Some y) in
+    let c_is = calm_take x mid s (Some y) in
     record {
       waits_yet = λ g.
           let (h, n) = or_both (gone x mid) (eqb y x) (sym g_is ∙ g) in
@@ -416,10 +415,10 @@ has_without_is x y (z ∷ l) =
     (λ e. rw e)))
 
 pub fits_left : {limit : ℕ} {q : Queue} {l : List PutOrTake} (q' : Queue) (s : Bool) (y : ℕ) → Fits limit q l → Shape q' → Left y q q' → Comes y (order q') (order q)
-    → Fits limit q' (l ++ (a_take s (some y) ∷ []))
+    → Fits limit q' (l ++ (a_take s (Some y) ∷ []))
 unfolding counts
 fits_left {limit} {q} {l} q' s y f h m c =
-    let ws : who_waits (l ++ (a_take s (some y) ∷ [])) ≡ others y (who_waits l) = waiting_some 0 l s y in
+    let ws : who_waits (l ++ (a_take s (Some y) ∷ [])) ≡ others y (who_waits l) = waiting_some 0 l s y in
     let (d, n) = remove_distinct y c.front c.back (rw c.after at f.once) in
     let gone_from : has y (order q') ≡ false = rw c.before n in
     record {
@@ -430,14 +429,14 @@ fits_left {limit} {q} {l} q' s y f h m c =
           (both (eqb y x) (λ e. rw e (rw (eqb-true y x e) at gone_from)) (λ e. rw e));
       apart = rw (ws, others_threads) (distinct_without y (threads (who_waits l)) f.apart);
       below = rw c.before (remove_below limit y c.front c.back (rw c.after at f.below));
-      load_is = omega (arith, comes_length c, served_take l s (some y), puts_take l s (some y), f.load_is);
+      load_is = omega (arith, comes_length c, served_take l s (Some y), puts_take l s (Some y), f.load_is);
     }
 
-fits_none : {limit : ℕ} {q : Queue} {l : List PutOrTake} (s : Bool) → Fits limit q l → Fits limit q (l ++ (a_take s none ∷ []))
+fits_none : {limit : ℕ} {q : Queue} {l : List PutOrTake} (s : Bool) → Fits limit q l → Fits limit q (l ++ (a_take s None ∷ []))
 unfolding counts
 fits_none {limit} {q} {l} s f =
     let ws = waiting_none 0 l s in
-    record { shape = f.shape; held = rw ws f.held; once = f.once; holds = rw ws f.holds; apart = rw ws f.apart; below = f.below; load_is = omega (arith, served_take l s none, puts_take l s none, f.load_is) }
+    record { shape = f.shape; held = rw ws f.held; once = f.once; holds = rw ws f.holds; apart = rw ws f.apart; below = f.below; load_is = omega (arith, served_take l s None, puts_take l s None, f.load_is) }
 
 -- ---- who is pinned
 
@@ -522,7 +521,7 @@ put_is_no_take p s o e = let z : ◌≡◌ {A = ℕ} 0 1 = cc in absurd (omega a
 
 no_take : (q q' : Queue) (l : List PutOrTake) (p : Put) → NewTake q q' l (a_put p)
 no_take q q' l p = record {
-  head = λ s y e. put_is_no_take p s (some y) e;
+  head = λ s y e. put_is_no_take p s (Some y) e;
   own = λ o e. put_is_no_take p false o e;
   stealing = λ o e. put_is_no_take p true o e;
 }
@@ -577,9 +576,9 @@ unfolding movable
 no_movable pinned l e = rw e
 
 pub kept_none : {limit : ℕ} {q : Queue} {l : List PutOrTake} (pinned : ℕ → Bool) (s : Bool) → Kept limit q l → Agrees pinned (who_waits l) → asked pinned q s ≡ nobody
-    → Kept limit q (l ++ (a_take s none ∷ []))
+    → Kept limit q (l ++ (a_take s None ∷ []))
 kept_none {limit} {q} {l} pinned s k g a =
-    grows k q (a_take s none) (fits_none s k.fits) (λ pre p e z. put_is_no_take p s none (sym z)) (λ pre mid p e. turn_none pre mid p s (k.turns pre mid p e)) (record {
+    grows k q (a_take s None) (fits_none s k.fits) (λ pre p e z. put_is_no_take p s None (sym z)) (λ pre mid p e. turn_none pre mid p s (k.turns pre mid p e)) (record {
       head = λ t y z. cc;
       own = λ o z. (λ e. own (asking pinned q s) (cc), λ e. cc);
       stealing = λ o z. (λ e. stealing (asking pinned q s), λ e. cc);
@@ -620,14 +619,14 @@ asked_head pinned q s p j y h a = go (asking pinned q s)
         next_to (subst (NextIs q) n (next_is q h)) n m
 
 pub kept_leave : {limit : ℕ} {q : Queue} {l : List PutOrTake} (pinned : ℕ → Bool) (s : Bool) (p : Part) (j y : ℕ) → Kept limit q l → Agrees pinned (who_waits l)
-    → asked pinned q s ≡ next_in p j y → Kept limit (leave p q j) (l ++ (a_take s (some y) ∷ []))
+    → asked pinned q s ≡ next_in p j y → Kept limit (leave p q j) (l ++ (a_take s (Some y) ∷ []))
 unfolding Falls
 kept_leave {limit} {q} {l} pinned s p j y k g a =
     let h : Head pinned q s p j y = asked_head pinned q s p j y k.fits.shape a in
     let left : Left y q (leave p q j) = leave_left q (who_waits l) p j y h.rest k.fits.shape k.fits.held k.fits.apart h.near h.oldest in
     let comes : Comes y (order (leave p q j)) (order q) = record { front = []; back = order (leave p q j); before = refl; after = h.first } in
-    grows k (leave p q j) (a_take s (some y)) (fits_left (leave p q j) s y k.fits h.shape left comes)
-    (λ pre r f z. put_is_no_take r s (some y) (sym z))
+    grows k (leave p q j) (a_take s (Some y)) (fits_left (leave p q j) s y k.fits h.shape left comes)
+    (λ pre r f z. put_is_no_take r s (Some y) (sym z))
     (λ pre mid r f. turn_some pre mid r s y h.first
     (λ x i d u. (subst (Falls limit x i q) h.is_next (falls limit x i q k.fits.shape (crowd k.fits) u)) d)
     (k.turns pre mid r f)) (record {

@@ -1,7 +1,6 @@
 -- Limits that differ in the shortest timeslice alone, which is a setting; and what reading a command asks of the limits.
-use Rattle.std.specs.Prelude.{ℕ, ◌≡◌, refl, List, [], ◌∷◌}
+use Rattle.std.specs.Prelude.{ℕ, ◌≡◌, refl, List, [], ◌∷◌, Option, None, Some}
 use Rattle.std.proofs.Common.{sym, ap, ◌∙◌}
-use Rattle.std.proofs.Math.Option.{Option, none, some}
 use Rattle.rules.specs.State.{Limits, with_shortest}
 use Rattle.rules.specs.Requests.{operands, pin_of, request, widths, read_operands, read}
 
@@ -33,8 +32,8 @@ request_same l k e byte v = rw e.of_cpus
 
 read_operands_same : (l k : Limits) → Widths l k → (byte : ℕ) (bytes : List ℕ) (o : Option (List ℕ)) → read_operands l byte bytes o ≡ read_operands k byte bytes o
 unfolding read_operands
-read_operands_same l k e byte bytes none = refl
-read_operands_same l k e byte bytes (some ns) = rw (request_same l k e byte (operands ns bytes))
+read_operands_same l k e byte bytes None = refl
+read_operands_same l k e byte bytes (Some ns) = rw (request_same l k e byte (operands ns bytes))
 
 pub read_widths : (l k : Limits) → Widths l k → (bytes : List ℕ) → read l bytes ≡ read k bytes
 unfolding read

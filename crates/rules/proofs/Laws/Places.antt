@@ -1,8 +1,7 @@
 -- Every thread is in one place, and a queue's load is its puts less the threads handed out: for every list of calls from the start.
-use Rattle.std.specs.Prelude.{ℕ, zero, suc, ◌+◌, ◌<◌, ◌≡◌, refl, ◌↔◌, Bool, true, false, ◌||◌, List}
+use Rattle.std.specs.Prelude.{ℕ, zero, suc, ◌+◌, ◌<◌, ◌≡◌, refl, ◌↔◌, Bool, true, false, ◌||◌, List, Option, None, Some}
 use Rattle.std.proofs.Common.{sym, ap, ◌∙◌, true≢false, eqb-true}
 use Rattle.std.proofs.lemmas.Bool.{false≢true, not-true}
-use Rattle.std.proofs.Math.Option.{Option, none, some}
 use Rattle.rules.specs.Line.{has}
 use Rattle.rules.proofs.Laws.Line.{both}
 use Rattle.rules.specs.Queue.{order, load}
@@ -25,10 +24,10 @@ pub record InOnePlace (s : State) : Type 0 where
 
 -- ---- the proof
 
-is_some_number : (x : ℕ) (o : Option ℕ) → is_number x o ≡ true → o ≡ some x
+is_some_number : (x : ℕ) (o : Option ℕ) → is_number x o ≡ true → o ≡ Some x
 unfolding is_number
-is_some_number x none e = absurd (false≢true e)
-is_some_number x (some y) e = ap some (eqb-true y x e)
+is_some_number x None e = absurd (false≢true e)
+is_some_number x (Some y) e = ap Some (eqb-true y x e)
 
 all_not : (n : ℕ) (test : ℕ → Bool) → ((c : ℕ) → test c ≡ false) → any_below n test ≡ false
 unfolding any_below

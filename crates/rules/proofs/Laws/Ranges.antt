@@ -1,8 +1,7 @@
 -- Question 6 as far as it needs no state, among the questions of each command.
-use Rattle.std.specs.Prelude.{ℕ, ◌≤◌, ◌≡◌, ◌≢◌, true, false, List, [], ◌∷◌, ltb}
+use Rattle.std.specs.Prelude.{ℕ, ◌≤◌, ◌≡◌, ◌≢◌, true, false, List, [], ◌∷◌, ltb, None, Some}
 use Rattle.std.proofs.Math.Path.{refl}
 use Rattle.std.proofs.Common.{true≢false, ltb-true, arith}
-use Rattle.std.proofs.Math.Option.{none, some}
 use Rattle.std.proofs.lemmas.Bool.{eqb-false}
 use Rattle.rules.specs.State.{State}
 use Rattle.rules.specs.Requests.{Request, declare_cpu, add_node, place_cpu, seal, set_shortest, declare_thread, set_tick, schedule_thread, schedule, hardtick, stattick, resched, maybe_preempt, donate, remove_donation, set_critical, asks}
@@ -45,9 +44,9 @@ module _ (s : State) (used : ℕ) where
   out_of_range (place_cpu n c) h = absurd (true≢false h)
   out_of_range seal h = absurd (true≢false h)
   out_of_range (set_shortest k) h = then_on _ _ (low 3 refl refl) (stops _ _ (low 6 refl refl) h)
-  out_of_range (declare_thread x k v none) h =
+  out_of_range (declare_thread x k v None) h =
       then_on _ _ (low 3 refl refl) (then_on _ _ (low 4 refl refl) (then_on _ _ (low 5 refl refl) (stops _ _ (low 6 refl refl) h)))
-  out_of_range (declare_thread x k v (some c)) h =
+  out_of_range (declare_thread x k v (Some c)) h =
       then_on _ _ (low 3 refl refl) (then_on _ _ (low 4 refl refl) (then_on _ _ (low 5 refl refl) (stops _ _ (low 6 refl refl) h)))
   out_of_range (set_tick t) h = absurd (true≢false h)
   out_of_range (schedule_thread c x) h = absurd (true≢false h)
@@ -71,8 +70,8 @@ module _ (s : State) (used : ℕ) where
   in_range_passes (place_cpu m c) h n = absurd (true≢false n)
   in_range_passes seal h n = other _ _ (eqb-false 3 6 refl) (other _ _ (eqb-false 9 6 refl) room_left)
   in_range_passes (set_shortest k) h n = other _ _ (eqb-false 3 6 refl) (passes _ _ h room_left)
-  in_range_passes (declare_thread x k v none) h n = other _ _ (eqb-false 3 6 refl) (other _ _ (eqb-false 4 6 refl) (other _ _ (eqb-false 5 6 refl) (passes _ _ h room_left)))
-  in_range_passes (declare_thread x k v (some c)) h n = other _ _ (eqb-false 3 6 refl) (other _ _ (eqb-false 4 6 refl) (other _ _ (eqb-false 5 6 refl) (passes _ _ h room_left)))
+  in_range_passes (declare_thread x k v None) h n = other _ _ (eqb-false 3 6 refl) (other _ _ (eqb-false 4 6 refl) (other _ _ (eqb-false 5 6 refl) (passes _ _ h room_left)))
+  in_range_passes (declare_thread x k v (Some c)) h n = other _ _ (eqb-false 3 6 refl) (other _ _ (eqb-false 4 6 refl) (other _ _ (eqb-false 5 6 refl) (passes _ _ h room_left)))
   in_range_passes (set_tick t) h n = other _ _ (eqb-false 3 6 refl) (other _ _ (eqb-false 8 6 refl) room_left)
   in_range_passes (schedule_thread c x) h n = other _ _ (eqb-false 3 6 refl) (other _ _ (eqb-false 4 6 refl) (other _ _ (eqb-false 5 6 refl) (other _ _ (eqb-false 7 6 refl) room_left)))
   in_range_passes (schedule c f) h n = other _ _ (eqb-false 3 6 refl) (other _ _ (eqb-false 4 6 refl) (passes _ _ h room_left))

@@ -1,10 +1,9 @@
 -- What every call keeps, and so every list of calls from the start.
-use Rattle.std.specs.Prelude.{ℕ, zero, suc, ◌≤◌, ◌<◌, ◌≡◌, Bool, true, false, ◌&&◌, List, [], ◌∷◌, ◌++◌, eqb, ltb, leb}
+use Rattle.std.specs.Prelude.{ℕ, zero, suc, ◌≤◌, ◌<◌, ◌≡◌, Bool, true, false, ◌&&◌, List, [], ◌∷◌, ◌++◌, eqb, ltb, leb, Option, None, Some}
 use Rattle.std.proofs.Math.Path.{refl}
 use Rattle.std.proofs.Common.{sym, subst, ◌∙◌, true≢false, append_assoc, append-nil, eqb-true, eq-eqb, ltb-true, leb-true, arith}
 use Rattle.std.proofs.Math.Bool.{not}
 use Rattle.std.proofs.lemmas.Bool.{false≢true, eqb-false, not-true}
-use Rattle.std.proofs.Math.Option.{Option, none, some}
 use Rattle.rules.specs.Line.{has}
 use Rattle.rules.proofs.Laws.Line.{both}
 use Rattle.rules.specs.Priority.{nr_values, priority, class_at}
@@ -51,7 +50,7 @@ reached_start limits = record {
   };
 }
   where
-    nothing_runs : (x : ℕ) → none ≡ some x → ⊥
+    nothing_runs : (x : ℕ) → None ≡ Some x → ⊥
     nothing_runs x e = let z : ◌≡◌ {A = ℕ} 0 1 = cc in omega arith
 
 -- ---- a command that runs on a CPU, and one that does not
@@ -137,10 +136,10 @@ any_not (suc n) test e c h =
     (λ p. rw (eqb-true c n p) (rw t at e))
     (λ p. let q : ¬ (c ≡ n) = eqb-false c n p in any_not n test t c (omega arith)))
 
-pub number_is : (x : ℕ) (o : Option ℕ) → o ≡ some x → is_number x o ≡ true
+pub number_is : (x : ℕ) (o : Option ℕ) → o ≡ Some x → is_number x o ≡ true
 unfolding is_number
-number_is x none e = cc
-number_is x (some y) e = let z : y ≡ x = cc in eq-eqb y x z
+number_is x None e = cc
+number_is x (Some y) e = let z : y ≡ x = cc in eq-eqb y x z
 
 pub blocked_new : {H : ℕ → List PutOrTake} {s : State} (c x : ℕ) → Reached H s → blocked s x ≡ true → s.known x ≡ true → c < s.limits.cpus
     → New s.limits s.known nobody_but (world_of s) c x
@@ -158,8 +157,8 @@ blocked_new {H} {s} c x r b k h = record {
 reached_scheduled : {H : ℕ → List PutOrTake} {s : State} (us x : ℕ) (w : World) (o : Option ℕ) → Reached H s → us < s.limits.cpus → s.known x ≡ true → blocked s x ≡ true
     → Same s.limits (world_of s) w → Under s.limits.cpus o → Reached (λ c. H c ++ (scheduled_on s us x w o).log c) (scheduled_on s us x w o).state
 unfolding scheduled_on Under
-reached_scheduled {H} {s} us x w none r h k b e u = reached_ran w _ r (sound_same e r.sound)
-reached_scheduled {H} {s} us x w (some c) r h k b e u =
+reached_scheduled {H} {s} us x w None r h k b e u = reached_ran w _ r (sound_same e r.sound)
+reached_scheduled {H} {s} us x w (Some c) r h k b e u =
     reached_ran _ _ r (ok_scheduled s.limits s.topology s.tick us s.known r.numbered H h (world_of s) w x c r.sound e (blocked_new c x r b k u))
 
 -- ---- each obeyed command
@@ -204,8 +203,8 @@ reached_shortened n r = record {
 
 pub pin_in : (s : State) (p : Option ℕ) (l : List Question) → first_no (pin_declared s p ∷ l) ≡ 0 → Under s.limits.cpus p × (first_no l ≡ 0)
 unfolding pin_declared cpu_declared Under
-pin_in s none l e = (tt, (yes 3 true l e).1)
-pin_in s (some c) l e = let a = yes 3 (declared s c) l e in (declared_in s c a.0, a.1)
+pin_in s None l e = (tt, (yes 3 true l e).1)
+pin_in s (Some c) l e = let a = yes 3 (declared s c) l e in (declared_in s c a.0, a.1)
 
 module _ {H : ℕ → List PutOrTake} {s : State} (r : Reached H s) where
   abbrev Goes : Request → Type 0
@@ -228,7 +227,7 @@ module _ {H : ℕ → List PutOrTake} {s : State} (r : Reached H s) where
       let a = runs_below s c _ e in
       let b = yes 4 (s.known x) _ a.1 in
       let d = yes 6 (blocked s x) _ b.1 in
-      let g = select_cpu_selected s.limits s.topology s.tick c s.known r.numbered H a.0 (world_of s) x none (r.sound.mild x) in
+      let g = select_cpu_selected s.limits s.topology s.tick c s.known r.numbered H a.0 (world_of s) x None (r.sound.mild x) in
       reached_scheduled c x _ _ r a.0 b.0 d.0 g.same g.under
 
   donate_goes : (c x k v : ℕ) → Goes (donate c x k v)
@@ -254,7 +253,7 @@ module _ {H : ℕ → List PutOrTake} {s : State} (r : Reached H s) where
   goes (resched c) e = reached_ran _ _ r (ok_resched s.limits s.topology s.tick c s.known r.numbered H (runs_below s c _ e).0 (world_of s) r.sound)
   goes (maybe_preempt c) e = reached_ran _ _ r (ok_maybe_preempt s.limits s.topology s.tick c s.known r.numbered H (runs_below s c _ e).0 (world_of s) r.sound)
   goes (donate c x k v) e = donate_goes c x k v e
-  goes (remove_donation x) e = reached_thread x (donated_to (s.threads x) none) r refl ((alike_donated s.limits (s.threads x) none tt).mild_alike (r.sound.mild x))
+  goes (remove_donation x) e = reached_thread x (donated_to (s.threads x) None) r refl ((alike_donated s.limits (s.threads x) None tt).mild_alike (r.sound.mild x))
   goes (set_critical x m) e = reached_thread x (critical_at (s.threads x) (eqb m 1)) r refl ((alike_critical s.limits (s.threads x) (eqb m 1)).mild_alike (r.sound.mild x))
 
 -- ---- each call
@@ -289,8 +288,8 @@ reached_calls {H} {s} (bytes ∷ calls) r =
 -- no call changes a limit but the shortest timeslice
 limits_on : (s : State) (us x : ℕ) (w : World) (o : Option ℕ) → (scheduled_on s us x w o).state.limits ≡ s.limits
 unfolding scheduled_on ran
-limits_on s us x w none = refl
-limits_on s us x w (some c) = refl
+limits_on s us x w None = refl
+limits_on s us x w (Some c) = refl
 
 limits_obeyed : (s : State) (q : Request) → SameButShortest s.limits (obeys s q).state.limits
 unfolding obeys changed ran_on ran schedules shortened with_shortest

@@ -1,7 +1,6 @@
 -- A refused call leaves the state as it was and makes no puts and takes; its number is that of the first question answered no.
-use Rattle.std.specs.Prelude.{ℕ, ◌≡◌, refl, ◌≢◌, List, [], eqb}
+use Rattle.std.specs.Prelude.{ℕ, ◌≡◌, refl, ◌≢◌, List, [], eqb, Option, None, Some}
 use Rattle.std.proofs.Common.{sym, ◌∙◌, eqb-true}
-use Rattle.std.proofs.Math.Option.{Option, none, some}
 use Rattle.rules.proofs.Laws.Line.{both}
 use Rattle.rules.specs.State.{State}
 use Rattle.rules.specs.Schedule.{World}
@@ -11,8 +10,8 @@ use Rattle.rules.specs.Commands.{nothing_shown, shown, no_log, refuses, changed,
 
 obeyed_on : (s : State) (us x : ℕ) (w : World) (o : Option ℕ) → (scheduled_on s us x w o).answer.refused ≡ 0
 unfolding scheduled_on ran shown
-obeyed_on s us x w none = refl
-obeyed_on s us x w (some c) = refl
+obeyed_on s us x w None = refl
+obeyed_on s us x w (Some c) = refl
 
 obeyed : (s : State) (q : Request) → (obeys s q).answer.refused ≡ 0
 unfolding obeys changed ran_on ran schedules nothing_shown shown

@@ -2,10 +2,9 @@
 use Prim.Native.Nat.{ℕ, ◌≤◌, ◌<◌, ◌/◌}
 use Rattle.std.proofs.Common.{div-le_self, mul-le-mul_left, arith, ◌∙◌, true≢false}
 use Rattle.std.specs.Float.Ieee.Nearest.{div_mono}
-use Rattle.std.specs.Prelude.{◌≡◌, cond, not, ◌&&◌, List, [], ◌∷◌, ◌++◌, eqb, ltb}
+use Rattle.std.specs.Prelude.{◌≡◌, cond, not, ◌&&◌, List, [], ◌∷◌, ◌++◌, eqb, ltb, Option, None, Some}
 use Rattle.std.proofs.Math.Path.{refl, sym, ap}
 use Rattle.std.proofs.Math.Bool.{true, false}
-use Rattle.std.proofs.Math.Option.{Option, none, some}
 use Rattle.std.proofs.Math.Dec.{leb}
 use borrow.Author.Tests.{eqb-true, ne_eqb, leb-true, ltb-true, ltb-false, not-true}
 use Rattle.rules.specs.declared.PriorityClass.TheVariants as class
@@ -61,8 +60,8 @@ module _ (s : State) where
 
   limits_on : (us x : ℕ) (w : World) (o : Option ℕ) → ((scheduled_on s us x w o).state.limits.shortest ≡ s.limits.shortest) × ((scheduled_on s us x w o).state.sealed ≡ s.sealed)
   unfolding scheduled_on ran
-  limits_on us x w none = (refl, refl)
-  limits_on us x w (some c) = (refl, refl)
+  limits_on us x w None = (refl, refl)
+  limits_on us x w (Some c) = (refl, refl)
 
   set_goes : (n : ℕ) → first_no (concerning s (set_shortest n) ++ (room s ∷ [])) ≡ 0 → Obeyed s (set_shortest n)
   unfolding concerning open_yet shortest_in_range obeys changed shortened with_shortest figure_after
@@ -106,13 +105,13 @@ figure_asked l n byte v = both (eqb byte 0x01) (λ e. rw (eqb-true byte 0x01 e))
     (both (eqb byte 0x12) (λ e. rw e) (λ e. rw e (both (eqb byte 0x13) (λ e. rw e) (λ e. rw e (both (eqb byte 0x14) (λ e. rw e) (λ e. rw e (both (eqb byte 0x15) (λ e. rw e) (λ e. rw e
     (both (eqb byte 0x16) (λ e. rw e) (λ e. rw e (both (eqb byte 0x17) (λ e. rw e) (λ e. rw e (both (eqb byte 0x18) (λ e. rw e) (λ e. rw e (both (eqb byte 0x19) (λ e. rw e) (λ e. rw e)))))))))))))))))))))))))))))
 
-first_operand : (l : Limits) (n byte : ℕ) (ns bytes : List ℕ) → widths l byte ≡ some ns → cond (eqb byte 0x05) (nth 0 (operands ns bytes)) n ≡ cond (eqb byte 0x05) (operand 1 bytes) n
+first_operand : (l : Limits) (n byte : ℕ) (ns bytes : List ℕ) → widths l byte ≡ Some ns → cond (eqb byte 0x05) (nth 0 (operands ns bytes)) n ≡ cond (eqb byte 0x05) (operand 1 bytes) n
 unfolding widths nth operands
 first_operand l n byte ns bytes h =
     both (eqb byte 0x05)
     (λ e.
     let five : byte ≡ 0x05 = eqb-true byte 0x05 e in
-    let row : some (1 ∷ []) ≡ some ns = rw five at h in
+    let row : Some (1 ∷ []) ≡ Some ns = rw five at h in
     let is : ns ≡ 1 ∷ [] = cc in
     rw (e, is))
     (λ e. rw e)
@@ -148,8 +147,8 @@ module _ (s : State) where
   read_call : (byte : ℕ) (bytes : List ℕ) (o : Option (List ℕ)) → widths s.limits byte ≡ o
       → Read s (read_operands s.limits byte bytes o) (cond (eqb byte 0x05) (operand 1 bytes) s.limits.shortest)
   unfolding read_operands
-  read_call byte bytes none h = unfold answered refuses refusal in record { becomes = refl; in_range = λ r. r; sealed_keeps = λ t. refl; stays_sealed = λ t. t; before = λ t. refl }
-  read_call byte bytes (some ns) h =
+  read_call byte bytes None h = unfold answered refuses refusal in record { becomes = refl; in_range = λ r. r; sealed_keeps = λ t. refl; stays_sealed = λ t. t; before = λ t. refl }
+  read_call byte bytes (Some ns) h =
       both (at_least (sum ns) bytes)
       (λ e. rw e (read_asks _ _ _ (figure_asked s.limits s.limits.shortest byte (operands ns bytes) ∙ first_operand s.limits s.limits.shortest byte ns bytes h)))
       (λ e. rw e (unfold answered refuses refusal in record { becomes = refl; in_range = λ r. r; sealed_keeps = λ t. refl; stays_sealed = λ t. t; before = λ t. refl }))

@@ -1,17 +1,16 @@
 -- What the rules keep of all CPUs and threads: each queue is that of its puts and takes, a thread waits in one queue, runs on one CPU, or does neither.
-use Rattle.std.specs.Prelude.{ℕ, ◌+◌, ◌<◌, ◌≢◌, ◌⊎◌, Bool, false, cond, ◌||◌, length, eqb}
+use Rattle.std.specs.Prelude.{ℕ, ◌+◌, ◌<◌, ◌≢◌, ◌⊎◌, Bool, false, cond, ◌||◌, length, eqb, Option, None, Some, is_some}
 use Rattle.std.proofs.Math.Path.{◌≡◌, refl, sym, ap}
 use Rattle.std.proofs.Common.{subst, ◌∙◌, arith}
 use Rattle.std.proofs.Math.Logic.{inl, inr}
 use Rattle.std.proofs.Math.Bool.{true, true≢false, or-false}
-use Rattle.std.proofs.Math.Option.{Option, none, some}
 use mathlib.Core.List.{List, [], ◌∷◌, ◌++◌, append_assoc}
 use borrow.Author.Tests.{eqb-true, eqb-false, eq-eqb, ne_eqb}
 use Rattle.rules.specs.declared.Priority.{Priority}
 use Rattle.rules.specs.Line.{has, Distinct}
 use Rattle.rules.proofs.Laws.Line.{both, has_append}
 use Rattle.rules.specs.Priority.{nr_values, less, greater_of, effective}
-use Rattle.rules.specs.Times.{Thread, effective_priority, pinned, is_some, critical_at, donated_to, steadied, moving_to_queue, moving_to_active, reset_time, paid_to}
+use Rattle.rules.specs.Times.{Thread, effective_priority, pinned, critical_at, donated_to, steadied, moving_to_queue, moving_to_active, reset_time, paid_to}
 use Rattle.rules.specs.Queue.{Queue, order, Arrival, part_for, insert, is_timeshare, Next, nobody, next_in, asked, leave, said_after_take}
 use Rattle.rules.specs.Puts.{Put, PutOrTake, a_put, a_take, put_made}
 use Rattle.rules.specs.State.{at, Limits, Topology, Cpu}
@@ -26,8 +25,8 @@ use Rattle.rules.specs.Waits.{Under, waits, Free}
 -- ---- threads
 
 unfoldable pub Valued : Option Priority → Type 0
-Valued none = Unit
-Valued (some p) = p.value < nr_values
+Valued None = Unit
+Valued (Some p) = p.value < nr_values
 
 -- values are below 128, CPUs below the limit
 pub record Mild (limits : Limits) (t : Thread) : Type 0 where
@@ -38,8 +37,8 @@ pub record Mild (limits : Limits) (t : Thread) : Type 0 where
 
 effective_in : (p : Priority) (d : Option Priority) → p.value < nr_values → Valued d → (effective p d).value < nr_values
 unfolding effective greater_of Valued
-effective_in p none h v = h
-effective_in p (some d) h v = both (less p d) (λ e. rw e v) (λ e. rw e h)
+effective_in p None h v = h
+effective_in p (Some d) h v = both (less p d) (λ e. rw e v) (λ e. rw e h)
 
 pub mild_value : {limits : Limits} {t : Thread} → Mild limits t → (effective_priority t).value < nr_values
 unfolding effective_priority
@@ -121,9 +120,9 @@ pub record Sound (limits : Limits) (known : ℕ → Bool) (H : ℕ → List PutO
   pub mild : (x : ℕ) → Mild limits (w.threads x)
   pub alone : (c d x : ℕ) → waits w c x ≡ true → waits w d x ≡ true → c ≡ d
   pub placed : (c x : ℕ) → waits w c x ≡ true → (c < limits.cpus) × (known x ≡ true)
-  pub free : (c x : ℕ) → but c ≡ false → (w.cpus c).running ≡ some x → Free w x
-  pub one : (c d x : ℕ) → (w.cpus c).running ≡ some x → (w.cpus d).running ≡ some x → c ≡ d
-  pub runs : (c x : ℕ) → (w.cpus c).running ≡ some x → (c < limits.cpus) × (known x ≡ true)
+  pub free : (c x : ℕ) → but c ≡ false → (w.cpus c).running ≡ Some x → Free w x
+  pub one : (c d x : ℕ) → (w.cpus c).running ≡ Some x → (w.cpus d).running ≡ Some x → c ≡ d
+  pub runs : (c x : ℕ) → (w.cpus c).running ≡ Some x → (c < limits.cpus) × (known x ≡ true)
 
 -- the same queues, puts and takes, threads running and pins
 pub record Same (limits : Limits) (w v : World) : Type 0 where
@@ -203,7 +202,7 @@ pub record New (limits : Limits) (known : ℕ → Bool) (but : ℕ → Bool) (w 
   pub nowhere : Free w x
   pub is_known : known x ≡ true
   pub near : c < limits.cpus
-  pub runs_not : (d : ℕ) → but d ≡ false → (w.cpus d).running ≢ some x
+  pub runs_not : (d : ℕ) → but d ≡ false → (w.cpus d).running ≢ Some x
 
 pub not_true_is : (t : Bool) → (t ≡ true → ⊥) → t ≡ false
 not_true_is true h = absurd (h refl)
@@ -235,7 +234,7 @@ module _ {limits : Limits} {known : ℕ → Bool} {H : ℕ → List PutOrTake} {
   placed_now a x (inl h) = d.placed a x h
   placed_now a x (inr n) = (n.0.near, n.0.is_known)
 
-  free_now : (a b x : ℕ) → but a ≡ false → (w.cpus a).running ≡ some x → (waits w b x ≡ true) ⊎ (New limits known but w b x × (b ≡ c)) → ⊥
+  free_now : (a b x : ℕ) → but a ≡ false → (w.cpus a).running ≡ Some x → (waits w b x ≡ true) ⊎ (New limits known but w b x × (b ≡ c)) → ⊥
   free_now a b x t r (inl h) = true≢false (sym h ∙ d.free a x t r b)
   free_now a b x t r (inr n) = n.0.runs_not a t r
 
@@ -340,9 +339,9 @@ module _ (limits : Limits) (topology : Topology) (tick us : ℕ) (known : ℕ �
     pub sound : Sound limits known H but g.world
     pub running : (c : ℕ) → (g.world.cpus c).running ≡ (w.cpus c).running
     pub still_free : (x : ℕ) → Free w x → Free g.world x
-    pub handed_free : (x : ℕ) → g.got ≡ some x → Free g.world x
-    pub handed_known : (x : ℕ) → g.got ≡ some x → known x ≡ true
-    pub handed_idle : (x d : ℕ) → g.got ≡ some x → but d ≡ false → (w.cpus d).running ≢ some x
+    pub handed_free : (x : ℕ) → g.got ≡ Some x → Free g.world x
+    pub handed_known : (x : ℕ) → g.got ≡ Some x → known x ≡ true
+    pub handed_idle : (x d : ℕ) → g.got ≡ Some x → but d ≡ false → (w.cpus d).running ≢ Some x
 
   only_none : (w : World) (c : ℕ) (e : PutOrTake) → Only limits w (noted w c e) c (w.cpus c).queue (w.log c ++ (e ∷ []))
   unfolding noted
@@ -387,8 +386,8 @@ module _ (limits : Limits) (topology : Topology) (tick us : ℕ) (known : ℕ �
   unfolding handed_out
   handed_taken but w c s d nobody a =
       let l : List PutOrTake = H c ++ w.log c in
-      let e : H c ++ (w.log c ++ (a_take s none ∷ [])) ≡ l ++ (a_take s none ∷ []) = sym (append_assoc (H c) (w.log c) (a_take s none ∷ [])) in
-      let o = only_none w c (a_take s none) in
+      let e : H c ++ (w.log c ++ (a_take s None ∷ [])) ≡ l ++ (a_take s None ∷ []) = sym (append_assoc (H c) (w.log c) (a_take s None ∷ [])) in
+      let o = only_none w c (a_take s None) in
       record {
         sound = sound_only o d (rw e (kept_none (pinned_in w) s (d.kept c) (d.pins c) a)) (rw (e, waiting_none 0 l s) (d.pins c)) (λ x h. inl h);
         running = o.running;
@@ -400,8 +399,8 @@ module _ (limits : Limits) (topology : Topology) (tick us : ℕ) (known : ℕ �
   handed_taken but w c s d (next_in p j y) a =
       let l : List PutOrTake = H c ++ w.log c in
       let q : Queue = (w.cpus c).queue in
-      let e : H c ++ (w.log c ++ (a_take s (some y) ∷ [])) ≡ l ++ (a_take s (some y) ∷ []) = sym (append_assoc (H c) (w.log c) (a_take s (some y) ∷ [])) in
-      let o = only_left w c (leave p q j) (said_after_take p (λ z. (w.threads z).stable.value) (w.cpus c).advertised (leave p q j)) (a_take s (some y)) in
+      let e : H c ++ (w.log c ++ (a_take s (Some y) ∷ [])) ≡ l ++ (a_take s (Some y) ∷ []) = sym (append_assoc (H c) (w.log c) (a_take s (Some y) ∷ [])) in
+      let o = only_left w c (leave p q j) (said_after_take p (λ z. (w.threads z).stable.value) (w.cpus c).advertised (leave p q j)) (a_take s (Some y)) in
       let h : Head (pinned_in w) q s p j y = asked_head (pinned_in w) q s p j y (d.kept c).fits.shape a in
       let fewer : (x : ℕ) → has x (order (leave p q j)) ≡ true → waits w c x ≡ true = λ x t. has_tail x y (order q) (order (leave p q j)) h.first t in
       let was : waits w c y ≡ true = rw h.first (has_head y (order (leave p q j))) in

@@ -1,13 +1,16 @@
 -- Every function of Schedule.antt keeps what Sound.antt says.
 use Prim.Native.Nat.{ℕ, zero, suc, ◌+◌, ◌-◌, ◌%◌, ◌≤◌, ◌<◌}
-use Rattle.std.specs.Prelude.{◌≡◌, ◌≢◌, Bool, cond, ◌&&◌, ◌||◌, List, [], ◌∷◌, ◌++◌, eqb}
+use Rattle.std.specs.Prelude.{◌≡◌, ◌≢◌, Bool, cond, ◌&&◌, ◌||◌, List, [], ◌∷◌, ◌++◌, eqb, Option, None, Some}
 use Rattle.std.proofs.Math.Path.{refl, sym, ap}
 use Rattle.std.proofs.Common.{◌∙◌, arith}
 use Rattle.std.proofs.Math.Bool.{true, false, not}
 use Rattle.std.proofs.lemmas.Bool.{false≢true}
-use Rattle.std.proofs.Math.Option.{Option, none, some}
 use Rattle.std.proofs.Math.Dec.{ltb}
 use borrow.Author.Tests.{eqb-true, eqb-false, ne_eqb}
+use Rattle.rules.specs.declared.choice.Searched.{Searched}
+use Rattle.rules.specs.declared.choice.Pair.{Pair}
+use Rattle.rules.specs.declared.choice.Extremes.{Extremes}
+use Rattle.rules.specs.declared.choice.Best.{Best}
 use Rattle.rules.specs.declared.Priority.{Priority}
 use Rattle.rules.specs.Line.{has, Below}
 use Rattle.rules.proofs.Laws.Line.{both}
@@ -18,7 +21,7 @@ use Rattle.rules.specs.Puts.{PutOrTake}
 use Rattle.rules.specs.Draw.{next_state, draw}
 use Rattle.rules.specs.State.{those_below, join_all, Limits, Topology, Cpu}
 use Rattle.rules.specs.Topology.{leaf, children, cpus_of, visits, visited}
-use Rattle.rules.specs.Choice.{Best, none_yet, best, lower, Searched, find_cpu, Extremes, weigh, extremes, Pair, no_pair, pair, pair_of, choose_cpu_balance}
+use Rattle.rules.specs.Choice.{lower, find_cpu, weigh, extremes, pair_of, choose_cpu_balance}
 use Rattle.rules.specs.Schedule.{World, Got, Balancing, Flags, with_cpu, with_thread, with_running, with_draws, with_preempt, set_rebalance, with_rebalance_time, with_ticks, same_cpu}
 use Rattle.rules.specs.Schedule as sched
 use Rattle.rules.specs.Waits.{Under, waits, Free}
@@ -43,14 +46,14 @@ unfolding join_all Below
 join_in_all n f [] h = tt
 join_in_all n f (x ∷ l) h = below_append n (f x) _ (h x) (join_in_all n f l h)
 
-unfoldable BestUnder : ℕ → Best → Type 0
-BestUnder n none_yet = Unit
-BestUnder n (best s c) = c < n
+unfoldable BestUnder : ℕ → Option Best → Type 0
+BestUnder n None = Unit
+BestUnder n (Some b) = b.cpu < n
 
-lower_in : (n : ℕ) (b : Best) (s c : ℕ) → BestUnder n b → c < n → BestUnder n (lower b s c)
+lower_in : (n : ℕ) (b : Option Best) (s c : ℕ) → BestUnder n b → c < n → BestUnder n (lower b s c)
 unfolding lower BestUnder
-lower_in n none_yet s c b h = h
-lower_in n (best t d) s c b h = both (ltb s t) (λ e. rw e h) (λ e. rw e b)
+lower_in n None s c b h = h
+lower_in n (Some b0) s c b h = both (ltb s b0.score) (λ e. rw e h) (λ e. rw e b)
 
 find_in : (n us : ℕ) (skip : ℕ → Bool) (load : ℕ → ℕ) (l : List ℕ) (f : Searched) → Below n l → BestUnder n f.found → BestUnder n (find_cpu us skip load l f).found
 unfolding find_cpu Below
@@ -72,14 +75,14 @@ extremes_in n us allowed load (c ∷ l) e b h =
     (λ t. rw t (extremes_in n us allowed load l _ b.1 (weigh_in n e _ c _ b.0 h)))
     (λ t. rw t (extremes_in n us allowed load l e b.1 h))
 
-unfoldable PairUnder : ℕ → Pair → Type 0
-PairUnder n no_pair = Unit
-PairUnder n (pair donor recipient) = recipient < n
+unfoldable PairUnder : ℕ → Option Pair → Type 0
+PairUnder n None = Unit
+PairUnder n (Some p) = p.recipient < n
 
-pair_in : (n h : ℕ) (b : Best) → BestUnder n b → PairUnder n (pair_of h b)
+pair_in : (n h : ℕ) (b : Option Best) → BestUnder n b → PairUnder n (pair_of h b)
 unfolding pair_of BestUnder PairUnder
-pair_in n h none_yet b = tt
-pair_in n h (best s c) b = both (eqb c h) (λ e. rw e tt) (λ e. rw e b)
+pair_in n h None b = tt
+pair_in n h (Some b0) b = both (eqb b0.cpu h) (λ e. rw e tt) (λ e. rw e b)
 
 choose_in : (n us : ℕ) (allowed : ℕ → Bool) (load : ℕ → ℕ) (l : List ℕ) (d : ℕ) → Below n l → PairUnder n (choose_cpu_balance us allowed load l d).found
 unfolding choose_cpu_balance BestUnder
@@ -148,10 +151,10 @@ module _ (limits : Limits) (topology : Topology) (tick us : ℕ) (known : ℕ �
   unfolding with_draws
   draws_same w n = same_cpu_changed limits w us (with_draws (w.cpus us) n) refl refl
 
-  best_under : (b : Best) → BestUnder limits.cpus b → Under limits.cpus (sched.cpu_of limits topology tick us b)
+  best_under : (b : Option Best) → BestUnder limits.cpus b → Under limits.cpus (sched.cpu_of limits topology tick us b)
   unfolding sched.cpu_of BestUnder Under
-  best_under none_yet h = tt
-  best_under (best s c) h = h
+  best_under None h = tt
+  best_under (Some b) h = h
 
   find_selected : (w : World) (p : Option Priority) → Selected w (sched.find_cpu_from_topo limits topology tick us w p)
   unfolding sched.find_cpu_from_topo BestUnder
@@ -164,37 +167,37 @@ module _ (limits : Limits) (topology : Topology) (tick us : ℕ) (known : ℕ �
   selected_then s t = record { same = same_then s t.same; under = t.under }
 
   -- as it is
-  selected_self : (w : World) (c : ℕ) → c < limits.cpus → Selected w (record { got = some c; world = w })
+  selected_self : (w : World) (c : ℕ) → c < limits.cpus → Selected w (record { got = Some c; world = w })
   unfolding Under
   selected_self w c h = record { same = same_self limits w; under = h }
 
   found_selected : (w : World) (avoid o : Option ℕ) → Under limits.cpus o → Selected w (sched.found_or_any limits topology tick us w avoid o)
   unfolding sched.found_or_any Under
-  found_selected w avoid none h = find_selected w none
-  found_selected w avoid (some c) h = both (same_cpu c avoid) (λ e. rw e (find_selected w none)) (λ e. rw e (selected_self w c h))
+  found_selected w avoid None h = find_selected w None
+  found_selected w avoid (Some c) h = both (same_cpu c avoid) (λ e. rw e (find_selected w None)) (λ e. rw e (selected_self w c h))
 
   select_selected : (w : World) (x : ℕ) (avoid o : Option ℕ) → Under limits.cpus o → Selected w (sched.select_from limits topology tick us w x avoid o)
   unfolding sched.select_from Under
-  select_selected w x avoid none h =
-      let g = find_selected w (some (effective_priority (w.threads x))) in
+  select_selected w x avoid None h =
+      let g = find_selected w (Some (effective_priority (w.threads x))) in
       selected_then g.same (found_selected _ avoid _ g.under)
-  select_selected w x avoid (some c) h = selected_self w c h
+  select_selected w x avoid (Some c) h = selected_self w c h
 
-  under_if : (n : ℕ) (b : Bool) (c : ℕ) → c < n → Under n (cond b (some c) none)
+  under_if : (n : ℕ) (b : Bool) (c : ℕ) → c < n → Under n (cond b (Some c) None)
   unfolding Under
   under_if n true c h = h
   under_if n false c h = tt
 
   preferred_under : (w : World) (x : ℕ) (avoid o : Option ℕ) → Under limits.cpus o → Under limits.cpus (sched.preferred limits topology tick us w x avoid o)
   unfolding sched.preferred Under
-  preferred_under w x avoid none h = tt
-  preferred_under w x avoid (some c) h = under_if limits.cpus
+  preferred_under w x avoid None h = tt
+  preferred_under w x avoid (Some c) h = under_if limits.cpus
       (not (same_cpu c avoid) && (eqb (load (w.cpus c).queue) 0 || less (sched.current_priority (w.cpus c)) (effective_priority (w.threads x)))) c h
 
   either_under : (n : ℕ) (a b : Option ℕ) → Under n a → Under n b → Under n (either a b)
   unfolding either Under
-  either_under n none b h k = k
-  either_under n (some c) b h k = h
+  either_under n None b h k = k
+  either_under n (Some c) b h k = h
 
   pub select_cpu_selected : (w : World) (x : ℕ) (avoid : Option ℕ) → Mild limits (w.threads x) → Selected w (sched.select_cpu limits topology tick us w x avoid)
   unfolding sched.select_cpu preferred_cpu
@@ -203,7 +206,7 @@ module _ (limits : Limits) (topology : Topology) (tick us : ℕ) (known : ℕ �
 
   -- ---- takes and steals
 
-  taken_none : (but : ℕ → Bool) (w : World) → OK but w → Took but w (record { got = none; world = w })
+  taken_none : (but : ℕ → Bool) (w : World) → OK but w → Took but w (record { got = None; world = w })
   taken_none but w d = record {
     sound = d;
     running = λ c. refl;
@@ -215,8 +218,8 @@ module _ (limits : Limits) (topology : Topology) (tick us : ℕ) (known : ℕ �
 
   moved_taken : (but : ℕ → Bool) (w : World) (d : ℕ) (o : Option ℕ) (v : World) → Took but w (record { got = o; world = v }) → Took but w (sched.moved_for limits topology tick us d o v)
   unfolding sched.moved_for
-  moved_taken but w d none v t = t
-  moved_taken but w d (some x) v t =
+  moved_taken but w d None v t = t
+  moved_taken but w d (Some x) v t =
       let s : Same limits v (with_thread v x (moving_to_queue (v.threads x) d)) = same_thread_changed limits v x _ (alike_queue limits (v.threads x) d) in
       record {
         sound = sound_same s t.sound;
@@ -233,8 +236,8 @@ module _ (limits : Limits) (topology : Topology) (tick us : ℕ) (known : ℕ �
 
   steal_taken : (but : ℕ → Bool) (w : World) (o : Option ℕ) → OK but w → Took but w (sched.steal_from limits topology tick us w o)
   unfolding sched.steal_from
-  steal_taken but w none d = taken_none but w d
-  steal_taken but w (some c) d = take_from_taken but w c us d
+  steal_taken but w None d = taken_none but w d
+  steal_taken but w (Some c) d = take_from_taken but w c us d
 
   try_steal_taken : (but : ℕ → Bool) (w : World) → OK but w → Took but w (sched.try_steal limits topology tick us w)
   unfolding sched.try_steal
@@ -243,7 +246,7 @@ module _ (limits : Limits) (topology : Topology) (tick us : ℕ) (known : ℕ �
   -- ---- `balance`
 
   -- a thread that was taken may be put elsewhere
-  taken_new : {but : ℕ → Bool} {w : World} {g : Got} (c x : ℕ) → c < limits.cpus → Took but w g → g.got ≡ some x → New limits known but g.world c x
+  taken_new : {but : ℕ → Bool} {w : World} {g : Got} (c x : ℕ) → c < limits.cpus → Took but w g → g.got ≡ Some x → New limits known but g.world c x
   taken_new c x h t e = record {
     nowhere = t.handed_free x e;
     is_known = t.handed_known x e;
@@ -254,23 +257,23 @@ module _ (limits : Limits) (topology : Topology) (tick us : ℕ) (known : ℕ �
   ok_received : (w : World) (allowed : ℕ → Bool) (n recipient : ℕ) (g : Got) (o : Option ℕ) → g.got ≡ o → recipient < limits.cpus → Took nobody_but w g
       → OK nobody_but (sched.received limits topology tick us g.world allowed n recipient o).world
   unfolding sched.received
-  ok_received w allowed n recipient g none e h t = t.sound
-  ok_received w allowed n recipient g (some x) e h t = ok_put nobody_but g.world recipient x t.sound (taken_new recipient x h t e)
+  ok_received w allowed n recipient g None e h t = t.sound
+  ok_received w allowed n recipient g (Some x) e h t = ok_put nobody_but g.world recipient x t.sound (taken_new recipient x h t e)
 
   ok_move : (w : World) (allowed : ℕ → Bool) (n donor recipient : ℕ) → recipient < limits.cpus → OK nobody_but w
       → OK nobody_but (sched.move_one limits topology tick us w allowed n donor recipient).world
   unfolding sched.move_one
   ok_move w allowed n donor recipient h d = ok_received w _ n recipient _ _ refl h (take_from_taken nobody_but w donor recipient d)
 
-  ok_pair : (w : World) (allowed : ℕ → Bool) (n : ℕ) (p : Pair) → PairUnder limits.cpus p → OK nobody_but w → OK nobody_but (sched.balance_pair limits topology tick us w allowed n p).world
+  ok_pair : (w : World) (allowed : ℕ → Bool) (n : ℕ) (p : Option Pair) → PairUnder limits.cpus p → OK nobody_but w → OK nobody_but (sched.balance_pair limits topology tick us w allowed n p).world
   unfolding sched.balance_pair PairUnder set_rebalance
-  ok_pair w allowed n no_pair h d = d
-  ok_pair w allowed n (pair donor recipient) h d =
-      let v : World = with_cpu w donor (set_rebalance (w.cpus donor)) in
-      let d' : OK nobody_but v = sound_same (same_cpu_changed limits w donor (set_rebalance (w.cpus donor)) refl refl) d in
-      both (eqb (sched.current_load (w.cpus donor)) 0)
+  ok_pair w allowed n None h d = d
+  ok_pair w allowed n (Some p) h d =
+      let v : World = with_cpu w p.donor (set_rebalance (w.cpus p.donor)) in
+      let d' : OK nobody_but v = sound_same (same_cpu_changed limits w p.donor (set_rebalance (w.cpus p.donor)) refl refl) d in
+      both (eqb (sched.current_load (w.cpus p.donor)) 0)
       (λ e. rw e d)
-      (λ e. rw e (both (ltb 0 (load (w.cpus donor).queue)) (λ f. rw f (ok_move v allowed n donor recipient h d')) (λ f. rw f d')))
+      (λ e. rw e (both (ltb 0 (load (w.cpus p.donor).queue)) (λ f. rw f (ok_move v allowed n p.donor p.recipient h d')) (λ f. rw f d')))
 
   ok_step : (b : Balancing) → OK nobody_but b.world → OK nobody_but (sched.balance_step limits topology tick us b).world
   unfolding sched.balance_step
@@ -295,7 +298,7 @@ module _ (limits : Limits) (topology : Topology) (tick us : ℕ) (known : ℕ �
 
   -- a thread that may run here: it waits nowhere, and runs on no other CPU
   abbrev Fine : World → Option ℕ → Type 0
-  Fine w x = (y : ℕ) → x ≡ some y → Free w y × (known y ≡ true) × ((d : ℕ) → d ≢ us → (w.cpus d).running ≢ some y)
+  Fine w x = (y : ℕ) → x ≡ Some y → Free w y × (known y ≡ true) × ((d : ℕ) → d ≢ us → (w.cpus d).running ≢ Some y)
 
   pub weaker : (w : World) → OK nobody_but w → OK only_us w
   unfolding nobody_but
@@ -310,7 +313,7 @@ module _ (limits : Limits) (topology : Topology) (tick us : ℕ) (known : ℕ �
     runs = d.runs;
   }
 
-  whole : (w : World) → OK only_us w → ((y : ℕ) → (w.cpus us).running ≡ some y → Free w y) → OK nobody_but w
+  whole : (w : World) → OK only_us w → ((y : ℕ) → (w.cpus us).running ≡ Some y → Free w y) → OK nobody_but w
   whole w d f = record {
     kept = d.kept;
     pins = d.pins;
@@ -341,10 +344,10 @@ module _ (limits : Limits) (topology : Topology) (tick us : ℕ) (known : ℕ �
     back : (c y : ℕ) → waits switched c y ≡ waits w c y
     back c y = ap (λ (q : Queue). has y (order q)) (queue_kept c)
 
-    here : (c y : ℕ) → eqb c us ≡ true → (switched.cpus c).running ≡ some y → x ≡ some y
+    here : (c y : ℕ) → eqb c us ≡ true → (switched.cpus c).running ≡ Some y → x ≡ Some y
     here c y p r = sym runs_here ∙ (rw (eqb-true c us p) at r)
 
-    there : (c y : ℕ) → eqb c us ≡ false → (switched.cpus c).running ≡ some y → (w.cpus c).running ≡ some y
+    there : (c y : ℕ) → eqb c us ≡ false → (switched.cpus c).running ≡ Some y → (w.cpus c).running ≡ Some y
     there c y p r = sym (runs_there c (eqb-false c us p)) ∙ r
 
     ok_running : OK nobody_but switched
@@ -369,21 +372,21 @@ module _ (limits : Limits) (topology : Topology) (tick us : ℕ) (known : ℕ �
 
   same_activated : (w : World) (x : Option ℕ) → Same limits w (sched.activated limits topology tick us w x)
   unfolding sched.activated
-  same_activated w none = same_self limits w
-  same_activated w (some x) = same_thread_changed limits w x _ (alike_active limits (w.threads x) us us_in)
+  same_activated w None = same_self limits w
+  same_activated w (Some x) = same_thread_changed limits w x _ (alike_active limits (w.threads x) us us_in)
 
   ok_switch : (w : World) (x : Option ℕ) → OK only_us w → Fine w x → OK nobody_but (sched.switch_to limits topology tick us w x)
   unfolding sched.switch_to
   ok_switch w x d f = sound_same (same_activated _ x) (ok_running w x _ d f)
 
-  ok_switch_idle : (w : World) → OK only_us w → OK nobody_but (sched.switch_to limits topology tick us w none)
-  ok_switch_idle w d = ok_switch w none d (λ y e. absurd (not_none y e))
+  ok_switch_idle : (w : World) → OK only_us w → OK nobody_but (sched.switch_to limits topology tick us w None)
+  ok_switch_idle w d = ok_switch w None d (λ y e. absurd (not_none y e))
     where
-      not_none : (y : ℕ) → none ≡ some y → ⊥
+      not_none : (y : ℕ) → None ≡ Some y → ⊥
       not_none y e = let z : ◌≡◌ {A = ℕ} 0 1 = cc in omega arith
 
   -- a thread that was taken may run here
-  taken_fine : {w : World} {g : Got} (y : ℕ) → Took only_us w g → g.got ≡ some y → Fine g.world (some y)
+  taken_fine : {w : World} {g : Got} (y : ℕ) → Took only_us w g → g.got ≡ Some y → Fine g.world (Some y)
   taken_fine y t e z f =
       let s : y ≡ z = cc in
       rw (← s) (t.handed_free y e, t.handed_known y e, λ d n r. t.handed_idle y d e (ne_eqb d us n) (sym (t.running d) ∙ r))
@@ -391,24 +394,24 @@ module _ (limits : Limits) (topology : Topology) (tick us : ℕ) (known : ℕ �
   ok_stolen : (w : World) (g : Got) (cur o : Option ℕ) → g.got ≡ o → (w.cpus us).running ≡ cur → Took only_us w g
       → OK nobody_but (sched.run_stolen limits topology tick us g.world cur o)
   unfolding sched.run_stolen
-  ok_stolen w g cur (some y) e r t = ok_switch g.world (some y) t.sound (taken_fine y t e)
-  ok_stolen w g none none e r t = whole g.world t.sound (λ y s c. let z : none ≡ some y = sym r ∙ sym (t.running us) ∙ s in cc)
-  ok_stolen w g (some x) none e r t = ok_switch_idle g.world t.sound
+  ok_stolen w g cur (Some y) e r t = ok_switch g.world (Some y) t.sound (taken_fine y t e)
+  ok_stolen w g None None e r t = whole g.world t.sound (λ y s c. let z : None ≡ Some y = sym r ∙ sym (t.running us) ∙ s in cc)
+  ok_stolen w g (Some x) None e r t = ok_switch_idle g.world t.sound
 
-  same_cpu_is : (c : ℕ) (o : Option ℕ) → same_cpu c o ≡ true → o ≡ some c
+  same_cpu_is : (c : ℕ) (o : Option ℕ) → same_cpu c o ≡ true → o ≡ Some c
   unfolding same_cpu
-  same_cpu_is c none e = absurd (false≢true e)
-  same_cpu_is c (some d) e = ap some (eqb-true d c e)
+  same_cpu_is c None e = absurd (false≢true e)
+  same_cpu_is c (Some d) e = ap Some (eqb-true d c e)
 
   ok_taken : (w : World) (g : Got) (cur o : Option ℕ) → g.got ≡ o → (w.cpus us).running ≡ cur → Took only_us w g
       → OK nobody_but (sched.run_taken limits topology tick us g.world cur o)
   unfolding sched.run_taken
-  ok_taken w g cur (some y) e r t =
+  ok_taken w g cur (Some y) e r t =
       both (same_cpu y cur)
       (λ s. rw s (whole g.world t.sound
       (λ z q. let same : y ≡ z = cc (same_cpu_is y cur s, r, t.running us, q) in rw (← same) (t.handed_free y e))))
-      (λ s. rw s (ok_switch g.world (some y) t.sound (taken_fine y t e)))
-  ok_taken w g cur none e r t =
+      (λ s. rw s (ok_switch g.world (Some y) t.sound (taken_fine y t e)))
+  ok_taken w g cur None e r t =
       ok_stolen g.world (sched.try_steal limits topology tick us g.world) cur _ refl (t.running us ∙ r) (try_steal_taken only_us g.world t.sound)
 
   ok_pick : (w : World) → OK only_us w → OK nobody_but (sched.pick_next limits topology tick us w)
@@ -422,7 +425,7 @@ module _ (limits : Limits) (topology : Topology) (tick us : ℕ) (known : ℕ �
   ok_cond but false v w d e = e
 
   -- the thread running here may go into a queue
-  pub running_new : (w : World) (c x : ℕ) → OK nobody_but w → (w.cpus us).running ≡ some x → c < limits.cpus → New limits known only_us w c x
+  pub running_new : (w : World) (c x : ℕ) → OK nobody_but w → (w.cpus us).running ≡ Some x → c < limits.cpus → New limits known only_us w c x
   unfolding nobody_but
   running_new w c x d r h = record {
     nowhere = d.free us x refl r;
@@ -431,11 +434,11 @@ module _ (limits : Limits) (topology : Topology) (tick us : ℕ) (known : ℕ �
     runs_not = λ e b s. eqb-false e us b (d.one e us x s r);
   }
 
-  ok_reinserted : (w v : World) (x : ℕ) (o : Option ℕ) → OK nobody_but w → (w.cpus us).running ≡ some x → Same limits w v → Under limits.cpus o
+  ok_reinserted : (w v : World) (x : ℕ) (o : Option ℕ) → OK nobody_but w → (w.cpus us).running ≡ Some x → Same limits w v → Under limits.cpus o
       → OK only_us (sched.reinserted limits topology tick us v x o)
   unfolding sched.reinserted Under
-  ok_reinserted w v x none d r s h = sound_same s (weaker w d)
-  ok_reinserted w v x (some c) d r s h = ok_put only_us v c x (sound_same s (weaker w d)) (new_same s (running_new w c x d r h))
+  ok_reinserted w v x None d r s h = sound_same s (weaker w d)
+  ok_reinserted w v x (Some c) d r s h = ok_put only_us v c x (sound_same s (weaker w d)) (new_same s (running_new w c x d r h))
 
   selected_if : (w : World) (t : Bool) (g h : Got) → Selected w g → Selected w h → Selected w (cond t g h)
   selected_if w true g h a b = a
@@ -443,9 +446,9 @@ module _ (limits : Limits) (topology : Topology) (tick us : ℕ) (known : ℕ �
 
   reinsert_selected : (w : World) (x : ℕ) → OK nobody_but w → Selected w (sched.reinsert_at limits topology tick us w x)
   unfolding sched.reinsert_at
-  reinsert_selected w x d = selected_if w (w.cpus us).must_rebalance _ _ (select_cpu_selected w x (some us) (d.mild x)) (selected_self w us us_in)
+  reinsert_selected w x d = selected_if w (w.cpus us).must_rebalance _ _ (select_cpu_selected w x (Some us) (d.mild x)) (selected_self w us us_in)
 
-  ok_reinsert : (w : World) (x : ℕ) (yield preempt : Bool) → OK nobody_but w → (w.cpus us).running ≡ some x → OK nobody_but (sched.reinsert limits topology tick us w x yield preempt)
+  ok_reinsert : (w : World) (x : ℕ) (yield preempt : Bool) → OK nobody_but w → (w.cpus us).running ≡ Some x → OK nobody_but (sched.reinsert limits topology tick us w x yield preempt)
   unfolding sched.reinsert
   ok_reinsert w x yield preempt d r =
       let g = reinsert_selected w x d in
@@ -455,8 +458,8 @@ module _ (limits : Limits) (topology : Topology) (tick us : ℕ) (known : ℕ �
 
   ok_schedule_of : (w : World) (cur : Option ℕ) (f : Flags) → (w.cpus us).running ≡ cur → OK nobody_but w → OK nobody_but (sched.do_schedule_of limits topology tick us w cur f)
   unfolding sched.do_schedule_of
-  ok_schedule_of w none f r d = ok_pick w (weaker w d)
-  ok_schedule_of w (some x) f r d = ok_cond nobody_but f.again _ _ (ok_reinsert w x f.yield f.preempt d r) (ok_pick w (weaker w d))
+  ok_schedule_of w None f r d = ok_pick w (weaker w d)
+  ok_schedule_of w (Some x) f r d = ok_cond nobody_but f.again _ _ (ok_reinsert w x f.yield f.preempt d r) (ok_pick w (weaker w d))
 
   pub ok_schedule : (w : World) (f : Flags) → OK nobody_but w → OK nobody_but (sched.schedule limits topology tick us w f)
   unfolding sched.schedule sched.do_schedule
@@ -470,8 +473,8 @@ module _ (limits : Limits) (topology : Topology) (tick us : ℕ) (known : ℕ �
 
   ok_paid : (w : World) (o : Option ℕ) (n : ℕ) → OK nobody_but w → OK nobody_but (sched.paid_by limits topology tick us w o n)
   unfolding sched.paid_by with_ticks with_cpu
-  ok_paid w none n d = sound_same (same_cpu_changed limits w us (with_ticks (w.cpus us) tick n) refl refl) d
-  ok_paid w (some x) n d =
+  ok_paid w None n d = sound_same (same_cpu_changed limits w us (with_ticks (w.cpus us) tick n) refl refl) d
+  ok_paid w (Some x) n d =
       sound_same (same_then (same_cpu_changed limits w us (with_ticks (w.cpus us) tick (w.cpus us).idle_timeslice) refl refl)
       (same_thread_changed limits _ x _ (alike_paid limits (w.threads x) n))) d
 
@@ -505,13 +508,13 @@ module _ (limits : Limits) (topology : Topology) (tick us : ℕ) (known : ℕ �
 
   ok_wakeup : (w : World) (x : ℕ) (o : Option ℕ) → OK nobody_but w → OK nobody_but (sched.maybe_wakeup limits topology tick us w x o)
   unfolding sched.maybe_wakeup
-  ok_wakeup w x none d = d
-  ok_wakeup w x (some c) d = sound_same (same_wakeup limits us w c _) d
+  ok_wakeup w x None d = d
+  ok_wakeup w x (Some c) d = sound_same (same_wakeup limits us w c _) d
 
   pub ok_donate : (w : World) (x : ℕ) (p : Priority) → p.value < nr_values → OK nobody_but w → OK nobody_but (sched.donate_priority limits topology tick us w x p)
   unfolding sched.donate_priority Valued
   ok_donate w x p h d =
-      let e : OK nobody_but (with_thread w x (donated_to (w.threads x) (some p))) = sound_same (same_thread_changed limits w x _ (alike_donated limits (w.threads x) (some p) h)) d in
+      let e : OK nobody_but (with_thread w x (donated_to (w.threads x) (Some p))) = sound_same (same_thread_changed limits w x _ (alike_donated limits (w.threads x) (Some p) h)) d in
       let t : Thread = w.threads x in
       ok_cond nobody_but (donation_accepted t.donated p) _ _
       (ok_cond nobody_but (less (effective_priority t) p && not (same_cpu x (w.cpus us).running)) _ _ (ok_wakeup _ x t.queue_cpu e) e) d

@@ -1,9 +1,8 @@
 -- Who waits, as puts and takes are added at the end: lemmas of Puts.antt.
-use Rattle.std.specs.Prelude.{ℕ, suc, ◌+◌, ◌<◌, ◌≡◌, refl, Bool, true, false, cond, ◌||◌, List, [], ◌∷◌, ◌++◌, length, eqb}
+use Rattle.std.specs.Prelude.{ℕ, suc, ◌+◌, ◌<◌, ◌≡◌, refl, Bool, true, false, cond, ◌||◌, List, [], ◌∷◌, ◌++◌, length, eqb, None, Some}
 use Rattle.std.proofs.Common.{sym, ap, ◌∙◌, true≢false, inl, inr, eqb-true, eq-eqb, ne_eqb, add-zero, add-suc, suc-add, arith}
 use Rattle.std.proofs.lemmas.Bool.{false≢true, eqb-false}
 use Rattle.std.proofs.Math.Bool.{or-false, or_assoc}
-use Rattle.std.proofs.Math.Option.{none, some}
 use Rattle.rules.specs.Line.{has, Distinct}
 use Rattle.rules.proofs.Laws.Line.{both, without}
 use Rattle.rules.specs.Puts.{Put, PutOrTake, a_put, a_take}
@@ -103,20 +102,20 @@ waiting_put n (a_put r ∷ es) p =
     both (gone r.thread es) (λ t. rw (e, t, add-suc, ← suc-add) (waiting_put (suc n) es p)) (λ t. rw (e, t, add-suc, ← suc-add, waiting_put (suc n) es p))
 waiting_put n (a_take s o ∷ es) p = rw (add-suc, ← suc-add) (waiting_put (suc n) es p)
 
-pub waiting_none : (n : ℕ) (es : List PutOrTake) (s : Bool) → waiting n (es ++ (a_take s none ∷ [])) ≡ waiting n es
+pub waiting_none : (n : ℕ) (es : List PutOrTake) (s : Bool) → waiting n (es ++ (a_take s None ∷ [])) ≡ waiting n es
 unfolding waiting gone is_number
 waiting_none n [] s = refl
 waiting_none n (a_put r ∷ es) s =
-    let e : gone r.thread (es ++ (a_take s none ∷ [])) ≡ gone r.thread es = gone_append r.thread es (a_take s none ∷ []) ∙ or-false _ in
+    let e : gone r.thread (es ++ (a_take s None ∷ [])) ≡ gone r.thread es = gone_append r.thread es (a_take s None ∷ []) ∙ or-false _ in
     both (gone r.thread es) (λ t. rw (e, t) (waiting_none (suc n) es s)) (λ t. rw (e, t, waiting_none (suc n) es s))
 waiting_none n (a_take t o ∷ es) s = waiting_none (suc n) es s
 
-pub waiting_some : (n : ℕ) (es : List PutOrTake) (s : Bool) (y : ℕ) → waiting n (es ++ (a_take s (some y) ∷ [])) ≡ others y (waiting n es)
+pub waiting_some : (n : ℕ) (es : List PutOrTake) (s : Bool) (y : ℕ) → waiting n (es ++ (a_take s (Some y) ∷ [])) ≡ others y (waiting n es)
 unfolding waiting gone is_number others
 waiting_some n [] s y = refl
 waiting_some n (a_put r ∷ es) s y =
-    let e : gone r.thread (es ++ (a_take s (some y) ∷ [])) ≡ (gone r.thread es || eqb r.thread y) =
-    gone_append r.thread es (a_take s (some y) ∷ []) ∙ rw (or-false, eqb_swap y r.thread) in
+    let e : gone r.thread (es ++ (a_take s (Some y) ∷ [])) ≡ (gone r.thread es || eqb r.thread y) =
+    gone_append r.thread es (a_take s (Some y) ∷ []) ∙ rw (or-false, eqb_swap y r.thread) in
     both (gone r.thread es)
     (λ t. rw (e, t) (waiting_some (suc n) es s y))
     (λ t. both (eqb r.thread y) (λ u. rw (e, t, u) (waiting_some (suc n) es s y)) (λ u. rw (e, t, u, waiting_some (suc n) es s y)))

@@ -1,9 +1,8 @@
 -- Lemmas about Writer: numbers and fields as bytes, read back.
 use Prim.Native.Nat.{ℕ, zero, suc, ◌+◌, ◌*◌, ◌-◌, ◌/◌, ◌%◌, ◌^◌, ◌≤◌, ◌<◌}
-use Rattle.std.specs.Prelude.{◌≡◌, Bool, true, false, cond, ◌&&◌, length, take, drop, replicate, eqb, ltb, leb}
+use Rattle.std.specs.Prelude.{◌≡◌, Bool, true, false, cond, ◌&&◌, length, take, drop, replicate, eqb, ltb, leb, Option, None, Some}
 use Rattle.std.proofs.Math.Path.{refl}
 use Rattle.std.proofs.Common.{sym, ap, ◌∙◌, true≢false, length-append, arith, suc-add, zero-add, eqb-true, ltb-true, lt-ltb}
-use Rattle.std.proofs.Math.Option.{Option, none, some}
 use mathlib.Core.List.{List, [], ◌∷◌, ◌++◌, append_assoc}
 use Rattle.std.proofs.Math.Seq.{take-add}
 use Rattle.std.proofs.Math.Nat.{pow-succ', one-le-pow}
@@ -226,8 +225,8 @@ request_read l byte ns vs rest h =
 pub read_row : (l : Limits) (byte : ℕ) (vs rest : List ℕ) (o : Option (List ℕ)) → widths l byte ≡ o → has_row o ≡ true → fits (widths_or [] o) vs ≡ true
     → read_operands l byte (field_bytes (widths_or [] o) vs ++ rest) o ≡ asks (request l byte vs) (suc (length (field_bytes (widths_or [] o) vs)))
 unfolding read_operands widths_or has_row
-read_row l byte vs rest none e k h = let z : false ≡ true = k in cc
-read_row l byte vs rest (some ns) e k h =
+read_row l byte vs rest None e k h = let z : false ≡ true = k in cc
+read_row l byte vs rest (Some ns) e k h =
     rw (enough_bytes (field_bytes ns vs) rest (sum ns) (fields_length ns vs), request_read l byte ns vs rest h, fields_length ns vs) (ap (asks (request l byte vs)) (omega arith))
 
 -- ---- a command that was read
@@ -241,8 +240,8 @@ cut_asks q used e = let z : ◌≡◌ {A = ℕ} 0 1 = cc in absurd (omega arith)
 pub read_known : (l : Limits) (byte : ℕ) (bytes : List ℕ) (q : Request) (used : ℕ) (o : Option (List ℕ)) → read_operands l byte bytes o ≡ asks q used
     → (has_row o ≡ true) × (at_least (sum (widths_or [] o)) bytes ≡ true) × (request l byte (operands (widths_or [] o) bytes) ≡ q) × (suc (sum (widths_or [] o)) ≡ used)
 unfolding read_operands widths_or has_row
-read_known l byte bytes q used none e = absurd (no_asks q used e)
-read_known l byte bytes q used (some ns) e =
+read_known l byte bytes q used None e = absurd (no_asks q used e)
+read_known l byte bytes q used (Some ns) e =
     both (at_least (sum ns) bytes)
     (λ h. let k : asks (request l byte (operands ns bytes)) (1 + sum ns) ≡ asks q used = rw h at e in
     let u : 1 + sum ns ≡ used = cc in

@@ -1,7 +1,6 @@
 -- No line is longer than 48 bytes, the least buffer that is written to: neither the line of any command nor the end line.
-use Rattle.std.specs.Prelude.{ℕ, zero, suc, ◌/◌, ◌^◌, ◌≤◌, ◌<◌, ◌≡◌, refl, List, [], ◌∷◌, ◌++◌, eqb, ltb}
+use Rattle.std.specs.Prelude.{ℕ, zero, suc, ◌/◌, ◌^◌, ◌≤◌, ◌<◌, ◌≡◌, refl, List, [], ◌∷◌, ◌++◌, eqb, ltb, Option, None, Some}
 use Rattle.std.proofs.Common.{ap, length-append, eqb-true, arith}
-use Rattle.std.proofs.Math.Option.{Option, none, some}
 use Rattle.std.proofs.Math.ListN.{length}
 use Rattle.rules.proofs.Laws.Limits.{SameButShortest}
 use Rattle.rules.proofs.Laws.Line.{both, distinct_length}
@@ -11,14 +10,16 @@ use Rattle.rules.specs.State.{Limits, base_limits, with_shortest, State}
 use Rattle.rules.specs.Schedule.{World}
 use Rattle.rules.specs.Requests.{Request, declare_cpu, add_node, place_cpu, seal, set_shortest, declare_thread, set_tick, schedule_thread, schedule, hardtick, stattick, resched, maybe_preempt, donate, remove_donation, set_critical, Reading, unknown, cut_short, asks, read}
 use Rattle.rules.specs.Questions.{concerning, first_no, room, refusal}
-use Rattle.rules.specs.Commands.{Running, thread, idle, Answer, nothing_shown, running_of, shown, refuses, changed, world_of, ran, ran_on, scheduled_on, schedules, obeys, answered, step}
+use Rattle.rules.specs.declared.Running.{Running}
+use Rattle.rules.specs.declared.Running.TheVariants as running
+use Rattle.rules.specs.Commands.{Answer, nothing_shown, running_of, shown, refuses, changed, world_of, ran, ran_on, scheduled_on, schedules, obeys, answered, step}
 use Rattle.rules.specs.Waits.{Under}
 use Rattle.rules.proofs.Laws.Steps.{select_cpu_selected}
 use Rattle.rules.proofs.Laws.Reached.{Reached, reached_step, runs_below}
 use Rattle.rules.specs.Lines.{digits, decimal, space, line_feed, dash, idle_word, header, end_word, number_or_dash, running_or_dash, line, end_line}
 use Rattle.lines.specs.declared.Refusal.{Refusal}
 use Rattle.lines.specs.declared.Refusal.TheVariants as refusal
-use Rattle.lines.specs.Lines.{refusal_number}
+use Rattle.lines.specs.Lines.{question_number, refusal_number}
 use Rattle.lines.proofs.Digits.{digits_length}
 use Rattle.lines.proofs.Laws.{Below, RunsBelow}
 use Rattle.stream_laws.proofs.Laws.Wakeups.{wakeups_two}
@@ -34,10 +35,10 @@ within_nothing : (l : Limits) (n : ℕ) → ShownWithin l (nothing_shown n)
 unfolding nothing_shown Below RunsBelow
 within_nothing l n = record { cpu = tt; running = tt; load = tt }
 
-running_within : (limit : ℕ) (o : Option ℕ) → ((x : ℕ) → o ≡ some x → x < limit) → RunsBelow limit (some (running_of o))
+running_within : (limit : ℕ) (o : Option ℕ) → ((x : ℕ) → o ≡ Some x → x < limit) → RunsBelow limit (Some (running_of o))
 unfolding running_of RunsBelow
-running_within limit none h = tt
-running_within limit (some x) h = h x refl
+running_within limit None h = tt
+running_within limit (Some x) h = h x refl
 
 module _ {H : ℕ → List PutOrTake} (s : State) where
   ran_within : (w : World) (c : ℕ) → Reached H (ran s w (shown w c)).state → c < s.limits.cpus → ShownWithin s.limits (ran s w (shown w c)).answer
@@ -54,8 +55,8 @@ module _ {H : ℕ → List PutOrTake} (s : State) where
   scheduled_within : (us x : ℕ) (w : World) (o : Option ℕ) → us < s.limits.cpus → Under s.limits.cpus o → Reached H (scheduled_on s us x w o).state
       → ShownWithin s.limits (scheduled_on s us x w o).answer
   unfolding scheduled_on Under
-  scheduled_within us x w none h u r = ran_within w us r h
-  scheduled_within us x w (some c) h u r = ran_within _ c r u
+  scheduled_within us x w None h u r = ran_within w us r h
+  scheduled_within us x w (Some c) h u r = ran_within _ c r u
 
   obeyed_within : {G : ℕ → List PutOrTake} (q : Request) → Reached G s → first_no (concerning s q ++ (room s ∷ [])) ≡ 0 → Reached H (obeys s q).state
       → ShownWithin s.limits (obeys s q).answer
@@ -69,7 +70,7 @@ module _ {H : ℕ → List PutOrTake} (s : State) where
   obeyed_within (set_tick t) g e r = within_nothing s.limits 0
   obeyed_within {G} (schedule_thread c x) g e r =
       let a = runs_below s c _ e in
-      let d = select_cpu_selected s.limits s.topology s.tick c s.known g.numbered G a.0 (world_of s) x none (g.sound.mild x) in
+      let d = select_cpu_selected s.limits s.topology s.tick c s.known g.numbered G a.0 (world_of s) x None (g.sound.mild x) in
       scheduled_within c x _ _ a.0 d.under r
   obeyed_within (schedule c f) g e r = ran_within _ c r (runs_below s c _ e).0
   obeyed_within (hardtick c) g e r = ran_within _ c r (runs_below s c _ e).0
@@ -110,30 +111,34 @@ decimal_length k n h = digits_length 20 k n h
 
 number_length : (k limit : ℕ) (o : Option ℕ) → limit ≤ 10 ^ suc k → Below limit o → length (number_or_dash o) ≤ suc k
 unfolding number_or_dash dash Below
-number_length k limit none l h = omega arith
-number_length k limit (some n) l h = decimal_length k n (omega arith)
+number_length k limit None l h = omega arith
+number_length k limit (Some n) l h = decimal_length k n (omega arith)
 
 running_length : (limit : ℕ) (o : Option Running) → limit ≤ 10000 → RunsBelow limit o → length (running_or_dash o) ≤ 4
 unfolding running_or_dash dash idle_word RunsBelow
-running_length limit none l h = omega arith
-running_length limit (some idle) l h = omega arith
-running_length limit (some (thread x)) l h = decimal_length 3 x (omega arith)
+running_length limit None l h = omega arith
+running_length limit (Some running.Idle) l h = omega arith
+running_length limit (Some (running.Thread x)) l h = decimal_length 3 x (omega arith)
 
-refusal_most : (r : Refusal) → refusal_number r ≤ 12
+question_most : (r : Refusal) → question_number r ≤ 12
+unfolding question_number
+question_most refusal.UnknownCommand = omega arith
+question_most refusal.CutShort = omega arith
+question_most refusal.WrongSideOfSeal = omega arith
+question_most refusal.Cpu = omega arith
+question_most refusal.Thread = omega arith
+question_most refusal.OutOfRange = omega arith
+question_most refusal.NotBlocked = omega arith
+question_most refusal.Tick = omega arith
+question_most refusal.NotPlaced = omega arith
+question_most refusal.TooMany = omega arith
+question_most refusal.SmallBuffer = omega arith
+question_most refusal.ShortBuffer = omega arith
+
+refusal_most : (r : Option Refusal) → refusal_number r ≤ 12
 unfolding refusal_number
-refusal_most refusal.Obeyed = omega arith
-refusal_most refusal.UnknownCommand = omega arith
-refusal_most refusal.CutShort = omega arith
-refusal_most refusal.WrongSideOfSeal = omega arith
-refusal_most refusal.Cpu = omega arith
-refusal_most refusal.Thread = omega arith
-refusal_most refusal.OutOfRange = omega arith
-refusal_most refusal.NotBlocked = omega arith
-refusal_most refusal.Tick = omega arith
-refusal_most refusal.NotPlaced = omega arith
-refusal_most refusal.TooMany = omega arith
-refusal_most refusal.SmallBuffer = omega arith
-refusal_most refusal.ShortBuffer = omega arith
+refusal_most None = omega arith
+refusal_most (Some r) = question_most r
 
 line_most : (l : Limits) (number : ℕ) (a : Answer) → l.cpus ≤ 100 → l.threads < 10000 → a.refused ≤ 12 → ShownWithin l a → Below 3 a.wakeups
     → length (line number a) ≤ 48
@@ -151,7 +156,7 @@ line_most l number a cpus threads r w few =
     ))
 
 -- the line of a command, under the base's limits and any shortest timeslice, with any number
-pub line_fits : {H : ℕ → List PutOrTake} (s : State) (bytes : List ℕ) (number : ℕ) (r : Refusal) → Reached H s → SameButShortest base_limits s.limits
+pub line_fits : {H : ℕ → List PutOrTake} (s : State) (bytes : List ℕ) (number : ℕ) (r : Option Refusal) → Reached H s → SameButShortest base_limits s.limits
     → (step s bytes).answer.refused ≡ refusal_number r → length (line number (step s bytes).answer) ≤ 48
 unfolding base_limits with_shortest
 line_fits s bytes number r d e f =

@@ -1,8 +1,7 @@
 -- A command that stands whole at the front of some bytes reads the same whatever comes behind them; and how much it takes.
-use Rattle.std.specs.Prelude.{ℕ, zero, suc, ◌+◌, ◌-◌, ◌≤◌, ◌≡◌, refl, Bool, true, false, cond, List, [], ◌∷◌, ◌++◌, length, eqb, ltb}
+use Rattle.std.specs.Prelude.{ℕ, zero, suc, ◌+◌, ◌-◌, ◌≤◌, ◌≡◌, refl, Bool, true, false, cond, List, [], ◌∷◌, ◌++◌, length, eqb, ltb, Option, None, Some}
 use Rattle.std.proofs.Common.{sym, ap, ◌∙◌, true≢false, length-append, length-drop, ltb-true, ltb-false, arith}
 use Rattle.std.proofs.lemmas.Bool.{false≢true}
-use Rattle.std.proofs.Math.Option.{Option, none, some}
 use Rattle.std.proofs.lemmas.List.{drop-append-le}
 use Rattle.rules.proofs.Laws.Line.{both}
 use Rattle.rules.specs.State.{Limits, State}
@@ -45,8 +44,8 @@ operands_more (n ∷ ns) l m h =
 operands_read : (l : Limits) (byte : ℕ) (bytes m : List ℕ) (o : Option (List ℕ)) → is_whole (read_operands l byte bytes o) ≡ true
     → read_operands l byte (bytes ++ m) o ≡ read_operands l byte bytes o
 unfolding read_operands is_whole
-operands_read l byte bytes m none e = refl
-operands_read l byte bytes m (some ns) e =
+operands_read l byte bytes m None e = refl
+operands_read l byte bytes m (Some ns) e =
     both (at_least (sum ns) bytes)
     (λ t. let h : sum ns ≤ length bytes = enough_is (sum ns) bytes t in
     rw (t, enough (sum ns) (bytes ++ m) (rw length-append (omega arith)), operands_more ns bytes m h))
@@ -61,8 +60,8 @@ read_more l (byte ∷ bytes) m h e = operands_read l byte bytes m (widths l byte
 
 operands_used : (l : Limits) (byte : ℕ) (bytes : List ℕ) (o : Option (List ℕ)) → used (read_operands l byte bytes o) ≤ suc (length bytes)
 unfolding read_operands used
-operands_used l byte bytes none = omega arith
-operands_used l byte bytes (some ns) = both (at_least (sum ns) bytes) (λ t. rw t (omega (arith, enough_is (sum ns) bytes t))) (λ t. rw t (omega arith))
+operands_used l byte bytes None = omega arith
+operands_used l byte bytes (Some ns) = both (at_least (sum ns) bytes) (λ t. rw t (omega (arith, enough_is (sum ns) bytes t))) (λ t. rw t (omega arith))
 
 pub used_most : (l : Limits) (bytes : List ℕ) → used (read l bytes) ≤ length bytes
 unfolding read used
@@ -71,8 +70,8 @@ used_most l (byte ∷ bytes) = operands_used l byte bytes (widths l byte)
 
 operands_one : (l : Limits) (byte : ℕ) (bytes : List ℕ) (o : Option (List ℕ)) (r : _) (n : ℕ) → read_operands l byte bytes o ≡ asks r n → 1 ≤ n
 unfolding read_operands
-operands_one l byte bytes none r n e = absurd (let z : ◌≡◌ {A = ℕ} 0 1 = cc in omega arith)
-operands_one l byte bytes (some ns) r n e =
+operands_one l byte bytes None r n e = absurd (let z : ◌≡◌ {A = ℕ} 0 1 = cc in omega arith)
+operands_one l byte bytes (Some ns) r n e =
     both (at_least (sum ns) bytes)
     (λ t. let f : asks (request l byte (operands ns bytes)) (1 + sum ns) ≡ asks r n = rw t at e in let z : 1 + sum ns ≡ n = cc in omega arith)
     (λ t. let f : cut_short ≡ asks r n = rw t at e in absurd (let z : ◌≡◌ {A = ℕ} 0 1 = cc in omega arith))
@@ -144,8 +143,8 @@ turns (suc k) (suc m) s number refused bytes h i =
 -- ---- a command cut short has at most eight bytes
 
 unfoldable sum_of : Option (List ℕ) → ℕ
-sum_of none = 0
-sum_of (some ns) = sum ns
+sum_of None = 0
+sum_of (Some ns) = sum ns
 
 -- one row of the table, or those behind it
 row_or : (b : Bool) (o p : Option (List ℕ)) → sum_of o ≤ 8 → sum_of p ≤ 8 → sum_of (cond b o p) ≤ 8
@@ -174,8 +173,8 @@ widths_most l byte h i =
 
 operands_cut : (l : Limits) (byte : ℕ) (bytes : List ℕ) (o : Option (List ℕ)) → is_whole (read_operands l byte bytes o) ≡ false → suc (length bytes) ≤ sum_of o
 unfolding read_operands is_whole sum_of
-operands_cut l byte bytes none e = absurd (true≢false e)
-operands_cut l byte bytes (some ns) e =
+operands_cut l byte bytes None e = absurd (true≢false e)
+operands_cut l byte bytes (Some ns) e =
     both (at_least (sum ns) bytes) (λ t. absurd (true≢false (rw t at e)))
     (λ t. both (ltb (length bytes) (sum ns)) (λ f. ltb-true (length bytes) (sum ns) f)
     (λ f. absurd (true≢false (sym (enough (sum ns) bytes (ltb-false (length bytes) (sum ns) f)) ∙ t))))

@@ -1,19 +1,19 @@
 -- A COMMAND COUNTS AT MOST TWO WAKE-UPS. A put counts one at most, a donation likewise, and only `balance` puts more than one thread: document 01's "`balance`
 -- makes at most 20 choices and moves at most two threads".
 use Prim.Native.Nat.{ℕ, zero, suc, ◌+◌, ◌*◌, ◌≤◌, ◌<◌}
-use Rattle.std.specs.Prelude.{◌≡◌, refl, Bool, false, ◌&&◌, ◌||◌, List, eqb}
+use Rattle.std.specs.Prelude.{◌≡◌, refl, Bool, false, ◌&&◌, ◌||◌, List, eqb, Option, None, Some}
 use Rattle.std.proofs.Math.Bool.{not}
-use Rattle.std.proofs.Math.Option.{Option, none, some}
 use Rattle.std.proofs.Math.Dec.{ltb}
 use borrow.Author.Tests.{ltb-true}
 use native.Mathlib.Omega.{arith}
+use Rattle.rules.specs.declared.choice.Pair.{Pair}
 use Rattle.rules.specs.declared.Priority.{Priority}
 use Rattle.rules.proofs.Laws.Line.{both}
 use Rattle.rules.specs.Priority.{less, donation_accepted, priority, class_at}
 use Rattle.rules.specs.Times.{effective_priority}
 use Rattle.rules.specs.Queue.{load}
 use Rattle.rules.specs.State.{at, Limits, Topology, State}
-use Rattle.rules.specs.Choice.{Pair, no_pair, pair}
+use Rattle.rules.specs.Choice.{pair_at}
 use Rattle.rules.proofs.Laws.Effect.{and_right}
 use Rattle.rules.specs.Schedule as sched
 use Rattle.rules.specs.Schedule.{World, Got, Balancing, Flags, with_cpu, with_thread}
@@ -33,8 +33,8 @@ module _ (limits : Limits) (topology : Topology) (tick us : ℕ) where
 
   received_turn : (w : World) (allowed : ℕ → Bool) (n recipient : ℕ) (o : Option ℕ) → Turn w n (sched.received limits topology tick us w allowed n recipient o)
   unfolding sched.received
-  received_turn w allowed n recipient none = record { paid = omega arith; one = omega arith }
-  received_turn w allowed n recipient (some x) = record { paid = omega (arith, put_one limits topology tick us w recipient x); one = put_one limits topology tick us w recipient x }
+  received_turn w allowed n recipient None = record { paid = omega arith; one = omega arith }
+  received_turn w allowed n recipient (Some x) = record { paid = omega (arith, put_one limits topology tick us w recipient x); one = put_one limits topology tick us w recipient x }
 
   move_turn : (w : World) (allowed : ℕ → Bool) (n donor recipient : ℕ) → Turn w n (sched.move_one limits topology tick us w allowed n donor recipient)
   unfolding sched.move_one
@@ -44,14 +44,14 @@ module _ (limits : Limits) (topology : Topology) (tick us : ℕ) where
       let same : g.world.wakeups ≡ w.wakeups = from_wakeups limits topology tick us w donor recipient in
       record { paid = omega (arith, t.paid, same); one = omega (arith, t.one, same) }
 
-  pair_turn : (w : World) (allowed : ℕ → Bool) (n : ℕ) (p : Pair) → Turn w n (sched.balance_pair limits topology tick us w allowed n p)
+  pair_turn : (w : World) (allowed : ℕ → Bool) (n : ℕ) (p : Option Pair) → Turn w n (sched.balance_pair limits topology tick us w allowed n p)
   unfolding sched.balance_pair with_cpu
-  pair_turn w allowed n no_pair = record { paid = omega arith; one = omega arith }
-  pair_turn w allowed n (pair donor recipient) =
-      both (eqb (sched.current_load (w.cpus donor)) 0)
+  pair_turn w allowed n None = record { paid = omega arith; one = omega arith }
+  pair_turn w allowed n (Some p) =
+      both (eqb (sched.current_load (w.cpus p.donor)) 0)
       (λ e. rw e (record { paid = omega arith; one = omega arith }))
-      (λ e. rw e (both (ltb 0 (load (w.cpus donor).queue))
-      (λ h. rw h (let t = move_turn _ allowed n donor recipient in record { paid = t.paid; one = t.one }))
+      (λ e. rw e (both (ltb 0 (load (w.cpus p.donor).queue))
+      (λ h. rw h (let t = move_turn _ allowed n p.donor p.recipient in record { paid = t.paid; one = t.one }))
       (λ h. rw h (record { paid = omega arith; one = omega arith }))))
 
   step_turn : (b : Balancing) → Turn b.world b.steps (sched.balance_step limits topology tick us b)
@@ -77,12 +77,12 @@ module _ (limits : Limits) (topology : Topology) (tick us : ℕ) where
 
   reinsert_at_none : (w : World) (x : ℕ) → (sched.reinsert_at limits topology tick us w x).world.wakeups ≡ w.wakeups
   unfolding sched.reinsert_at
-  reinsert_at_none w x = both (w.cpus us).must_rebalance (λ e. rw e (select_wakeups limits topology tick us w x (some us))) (λ e. rw e)
+  reinsert_at_none w x = both (w.cpus us).must_rebalance (λ e. rw e (select_wakeups limits topology tick us w x (Some us))) (λ e. rw e)
 
   reinserted_one : (w : World) (x : ℕ) (o : Option ℕ) → (sched.reinserted limits topology tick us w x o).wakeups ≤ w.wakeups + 1
   unfolding sched.reinserted
-  reinserted_one w x none = omega arith
-  reinserted_one w x (some c) = put_one limits topology tick us w c x
+  reinserted_one w x None = omega arith
+  reinserted_one w x (Some c) = put_one limits topology tick us w c x
 
   reinsert_one : (w : World) (x : ℕ) (yield preempt : Bool) → (sched.reinsert limits topology tick us w x yield preempt).wakeups ≤ w.wakeups + 1
   unfolding sched.reinsert sched.reset_thread_time with_thread
@@ -94,8 +94,8 @@ module _ (limits : Limits) (topology : Topology) (tick us : ℕ) where
 
   do_schedule_one : (w : World) (o : Option ℕ) (f : Flags) → (sched.do_schedule_of limits topology tick us w o f).wakeups ≤ w.wakeups + 1
   unfolding sched.do_schedule_of
-  do_schedule_one w none f = omega (arith, pick_wakeups limits topology tick us w)
-  do_schedule_one w (some x) f =
+  do_schedule_one w None f = omega (arith, pick_wakeups limits topology tick us w)
+  do_schedule_one w (Some x) f =
       both f.again (λ e. rw e (reinsert_one w x f.yield f.preempt)) (λ e. rw e (omega (arith, pick_wakeups limits topology tick us w)))
 
   schedule_one : (w : World) (f : Flags) → (sched.schedule limits topology tick us w f).wakeups ≤ w.wakeups + 1
@@ -108,8 +108,8 @@ module _ (limits : Limits) (topology : Topology) (tick us : ℕ) where
 
   maybe_wakeup_one : (w : World) (x : ℕ) (o : Option ℕ) → (sched.maybe_wakeup limits topology tick us w x o).wakeups ≤ w.wakeups + 1
   unfolding sched.maybe_wakeup
-  maybe_wakeup_one w x none = omega arith
-  maybe_wakeup_one w x (some c) = call_one limits topology tick us w c _
+  maybe_wakeup_one w x None = omega arith
+  maybe_wakeup_one w x (Some c) = call_one limits topology tick us w c _
 
   donate_one : (w : World) (x : ℕ) (p : Priority) → (sched.donate_priority limits topology tick us w x p).wakeups ≤ w.wakeups + 1
   unfolding sched.donate_priority with_thread
@@ -130,8 +130,8 @@ module _ (limits : Limits) (topology : Topology) (tick us : ℕ) where
 
 scheduled_two : (s : State) (us x : ℕ) (w : World) (o : Option ℕ) → w.wakeups ≡ 0 → Below 3 (scheduled_on s us x w o).answer.wakeups
 unfolding scheduled_on ran shown Below
-scheduled_two s us x w none z = omega arith
-scheduled_two s us x w (some c) z = omega (arith, put_one s.limits s.topology s.tick us w c x)
+scheduled_two s us x w None z = omega arith
+scheduled_two s us x w (Some c) z = omega (arith, put_one s.limits s.topology s.tick us w c x)
 
 obeyed_two : (s : State) (q : Request) → Below 3 (obeys s q).answer.wakeups
 unfolding obeys changed nothing_shown schedules ran_on ran shown world_of Below
@@ -142,7 +142,7 @@ obeyed_two s seal = tt
 obeyed_two s (set_shortest n) = tt
 obeyed_two s (declare_thread x k v p) = tt
 obeyed_two s (set_tick t) = tt
-obeyed_two s (schedule_thread c x) = scheduled_two s c x _ _ (select_wakeups s.limits s.topology s.tick c (world_of s) x none)
+obeyed_two s (schedule_thread c x) = scheduled_two s c x _ _ (select_wakeups s.limits s.topology s.tick c (world_of s) x None)
 obeyed_two s (schedule c f) = omega (arith, schedule_one s.limits s.topology s.tick c (world_of s) (flags_of f))
 obeyed_two s (hardtick c) = omega (arith, hardtick_wakeups s.limits s.topology s.tick c (world_of s))
 obeyed_two s (stattick c n) = omega (arith, stattick_two s.limits s.topology s.tick c (world_of s) n refl)

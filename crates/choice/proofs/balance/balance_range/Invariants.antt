@@ -1,5 +1,4 @@
 use Prim.Native.Nat.{◌-◌}
-use Rattle.choice.specs.Balance.{extremes_in}
 use Rattle.choice.specs.Reads.{weight_at}
 use Rattle.topology.specs.Node.{contains_at}
 use Rattle.topology.specs.Walk.{those_from}
@@ -9,7 +8,4 @@ use mathlib.Core.Path.{◌≡◌}
 use Rattle.choice.proofs.balance.balance_range.Given as goal
 
 abbrev pub invariant-loop-c : goal.invariant-loop-c
-invariant-loop-c l = extremes l.us (contains l.allowed) (weight_at l.cpus) (those_from (contains_at l.nodes l.n) l.from (l.to - l.from)) (extremes_in l.initial.e) ≡ extremes l.us (contains l.allowed) (weight_at l.cpus) (those_from (contains_at l.nodes l.n) l.c (l.to - l.c)) (extremes_in l.e)
-
-abbrev pub decreases-loop-c : goal.decreases-loop-c
-decreases-loop-c l = l.to - l.c
+invariant-loop-c l = extremes l.us (contains l.allowed) (weight_at l.cpus) (those_from (contains_at l.nodes l.n) l.from (l.to - l.from)) l.initial.e ≡ extremes l.us (contains l.allowed) (weight_at l.cpus) (those_from (contains_at l.nodes l.n) l.c (l.to - l.c)) l.e

@@ -8,6 +8,3 @@ use Rattle.choice.proofs.steal.steal_range.Given as goal
 
 abbrev pub invariant-loop-c : goal.invariant-loop-c
 invariant-loop-c l = first_that (may_steal_from l.us (load_at l.cpus) (movable_at l.cpus)) (those_from (contains_at l.nodes l.n) l.from (l.to - l.from)) ≡ first_that (may_steal_from l.us (load_at l.cpus) (movable_at l.cpus)) (those_from (contains_at l.nodes l.n) l.c (l.to - l.c))
-
-abbrev pub decreases-loop-c : goal.decreases-loop-c
-decreases-loop-c l = l.to - l.c

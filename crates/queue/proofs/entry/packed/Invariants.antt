@@ -1,4 +1,4 @@
-use Rattle.std.proofs.Common.{◌≡◌, ◌-◌, ◌%◌, ◌≤◌}
+use Rattle.std.proofs.Common.{◌≡◌, ◌%◌, ◌≤◌}
 use Rattle.queue.specs.Table.{packed}
 use Rattle.queue.proofs.entry.packed.Given as goal
 

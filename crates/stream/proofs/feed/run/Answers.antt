@@ -11,36 +11,36 @@ holds_by t e = subst (λ (b : Bool). Holds b) e tt
 fails_by : (t : Bool) → false ≡ t → Holds (not t)
 fails_by t e = subst (λ (b : Bool). Holds (not b)) e tt
 
-pub loop-state-init : goal.loop-state-init
-loop-state-init c = inv_start _ _ _ _
+pub loop-reading-init : goal.loop-reading-init
+loop-reading-init c = inv_start _ _ _ _
 
 pub returns-then-must_wait : goal.returns-then-must_wait
 returns-then-must_wait c =
     inv_waits c.args.n c.args.input.now c.args.n c.args.last
     (world_of_def c.args.threads.now c.args.cpus.now c.args.nodes.now c.args.output.now c.args.fed)
-    (world_of_def c.loop-state.threads c.loop-state.cpus c.loop-state.nodes c.loop-state.output c.loop-state.f)
-    c.loop-state.invariant (holds_by _ (c.if-must_wait.ensures ∙ ap (must_wait c.args.last) c.asked-reading.ensures))
+    (world_of_def c.loop-reading.threads c.loop-reading.cpus c.loop-reading.nodes c.loop-reading.output c.loop-reading.f)
+    c.loop-reading.invariant (holds_by _ (c.if-must_wait.ensures ∙ ap (must_wait c.args.last) c.asked-reading.ensures))
 
-pub loop-state-smaller : goal.loop-state-smaller
-loop-state-smaller c =
-    let w : World = world_of_def c.loop-state.threads c.loop-state.cpus c.loop-state.nodes c.loop-state.output c.loop-state.f in
-    subst (λ (v : World). c.args.n - v.fed.at < c.args.n - c.loop-state.f.at)
-    (sym (turned c.args.input.now c.args.n w c.asked-reading.result c.asked-reading.ensures c.command_read-a.result _ _ _ c.command_read-a.ensures _ c.answered-g.ensures.1 _ c.answered-g.ensures.0))
-    (inv_near c.args.input.now c.args.n c.args.last w (holds_by _ c.loop-state-test.ensures)
+pub loop-reading-smaller : goal.loop-reading-smaller
+loop-reading-smaller c =
+    let w : World = world_of_def c.loop-reading.threads c.loop-reading.cpus c.loop-reading.nodes c.loop-reading.output c.loop-reading.f in
+    subst (λ (v : World). c.args.n - v.fed.at < c.args.n - c.loop-reading.f.at)
+    (sym (turned c.args.input.now c.args.n w c.asked-reading.result c.asked-reading.ensures c.command_read-a.result _ _ _ c.command_read-a.ensures _ c.answered-f.ensures.1 _ c.answered-f.ensures.0))
+    (inv_near c.args.input.now c.args.n c.args.last w (holds_by _ c.loop-reading-test.ensures)
     (fails_by _ (c.if-must_wait.ensures ∙ ap (must_wait c.args.last) c.asked-reading.ensures)))
 
-pub loop-state-preserved : goal.loop-state-preserved
-loop-state-preserved c =
+pub loop-reading-preserved : goal.loop-reading-preserved
+loop-reading-preserved c =
     let w₀ : World = world_of_def c.args.threads.now c.args.cpus.now c.args.nodes.now c.args.output.now c.args.fed in
-    let w : World = world_of_def c.loop-state.threads c.loop-state.cpus c.loop-state.nodes c.loop-state.output c.loop-state.f in
+    let w : World = world_of_def c.loop-reading.threads c.loop-reading.cpus c.loop-reading.nodes c.loop-reading.output c.loop-reading.f in
     subst (λ (v : World). Inv c.args.n c.args.input.now c.args.n c.args.last w₀ v)
-    (sym (turned c.args.input.now c.args.n w c.asked-reading.result c.asked-reading.ensures c.command_read-a.result _ _ _ c.command_read-a.ensures _ c.answered-g.ensures.1 _ c.answered-g.ensures.0))
-    (inv_next c.args.n c.args.input.now c.args.n c.args.last w₀ w c.loop-state.invariant (holds_by _ c.loop-state-test.ensures)
+    (sym (turned c.args.input.now c.args.n w c.asked-reading.result c.asked-reading.ensures c.command_read-a.result _ _ _ c.command_read-a.ensures _ c.answered-f.ensures.1 _ c.answered-f.ensures.0))
+    (inv_next c.args.n c.args.input.now c.args.n c.args.last w₀ w c.loop-reading.invariant (holds_by _ c.loop-reading-test.ensures)
     (fails_by _ (c.if-must_wait.ensures ∙ ap (must_wait c.args.last) c.asked-reading.ensures)))
 
 pub returns : goal.returns
 returns c =
     inv_end c.args.n c.args.input.now c.args.n c.args.last
     (world_of_def c.args.threads.now c.args.cpus.now c.args.nodes.now c.args.output.now c.args.fed)
-    (world_of_def c.loop-state.threads c.loop-state.cpus c.loop-state.nodes c.loop-state.output c.loop-state.f)
-    c.loop-state.invariant (fails_by _ c.loop-state-test.ensures)
+    (world_of_def c.loop-reading.threads c.loop-reading.cpus c.loop-reading.nodes c.loop-reading.output c.loop-reading.f)
+    c.loop-reading.invariant (fails_by _ c.loop-reading-test.ensures)

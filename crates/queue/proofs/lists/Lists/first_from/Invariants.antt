@@ -4,6 +4,3 @@ use Rattle.queue.proofs.lists.Lists.first_from.Given as goal
 
 abbrev pub invariant-loop-i : goal.invariant-loop-i
 invariant-loop-i l = (l.i ≤ 8) × (first_from l.self l.from ≡ scan_heads 8 l.self.heads (l.start + l.i) (8 - l.i))
-
-abbrev pub decreases-loop-i : goal.decreases-loop-i
-decreases-loop-i l = 8 - l.i

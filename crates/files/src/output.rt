@@ -1,0 +1,54 @@
+// Bytes that wait in a buffer until they are shown.
+ghost use Rattle.std.specs.Prelude.{◌≡◌, ◌≤◌, ◌+◌, IsOk, OnOk, min};
+
+use std::io;
+
+// How many bytes can wait.
+pub const SIZE: usize = 32768;
+
+// The file, and the first `done` bytes of the buffer, which it has yet to be given.
+#[derive(Drop)]
+pub struct Output<W: Print + Drop> {
+    file: W,
+    pub bytes: [u8; SIZE],
+    pub done: usize,
+    ghost within: { done ≤ 32768 },
+}
+
+impl<W: Print + Drop> Output<W> {
+    pub fn new(file: W) -> Self
+        ensures { result.done ≡ 0 }
+    {
+        Output {
+            file,
+            bytes: [0; SIZE],
+            done: 0,
+        }
+    }
+
+    // The bytes that wait go to the file, and wait no longer, also where they could not be written.
+    pub fn show(&mut self) -> io::Result<()>
+        ensures { self.new.done ≡ 0 }
+    {
+        let done = self.done;
+        self.done = 0;
+        self.file.write_all(&self.bytes[..done])
+    }
+
+    // Where fewer than n bytes are free, those that wait are shown first.
+    pub fn make_room(&mut self, n: usize) -> io::Result<()>
+        ensures { OnOk result (n ≤ 32768 → self.new.done + n ≤ 32768) }
+    {
+        if SIZE - self.done < n {
+            return self.show();
+        }
+        Ok(())
+    }
+
+    // n bytes more wait, but no more than the buffer has.
+    pub fn add(&mut self, n: usize)
+        ensures { self.new.done ≡ min (self.old.done + n) 32768 }
+    {
+        self.done += n.min(SIZE - self.done);
+    }
+}

@@ -1,0 +1,22 @@
+use Rattle.std.proofs.Common.{◌≡◌, ℕ, List, [], ◌∷◌, take, sym, ap, ◌∙◌, drop-cons}
+use Rattle.rules.specs.Lines.{space}
+use Rattle.lines.specs.Text.{text, write}
+use Rattle.request.specs.Fields.{list_of}
+use Rattle.listing.specs.Listing.{numbers}
+use Rattle.listing.proofs.Numbers.{next_put, all_put, take_most}
+use Rattle.listing.proofs.put_fields.Goals as goal
+
+pub loop-number-preserved : goal.loop-number-preserved
+unfolding space
+loop-number-preserved c =
+    let f = c.args.fields in
+    let l : List ℕ = take c.min.result (f.first ∷ f.second ∷ f.third ∷ f.fourth ∷ []) in
+    next_put _ _ _ l c.loop-number.number-index _ c.put-behind.ensures c.put_number-next.ensures (drop-cons l c.loop-number.number-index 0 c.loop-number-test.true) ∙ c.loop-number.invariant
+
+pub returns : goal.returns
+unfolding list_of
+returns c =
+    let f = c.args.fields in
+    let l : List ℕ = take c.min.result (f.first ∷ f.second ∷ f.third ∷ f.fourth ∷ []) in
+    let same : l ≡ take c.args.count (f.first ∷ f.second ∷ f.third ∷ f.fourth ∷ []) = rw c.min.ensures (take_most c.args.count (f.first ∷ f.second ∷ f.third ∷ f.fourth ∷ [])) in
+    sym (all_put _ l _ c.loop-number-test.false) ∙ (c.loop-number.invariant ∙ ap (λ (m : List ℕ). write (text c.args.buffer.now c.args.at) (numbers m)) same)

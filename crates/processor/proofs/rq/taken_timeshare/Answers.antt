@@ -1,8 +1,0 @@
-use Rattle.rules.specs.declared.Part.TheVariants as part
-use Rattle.runqueue.specs.RunQueue.{rq_taken_from}
-use Rattle.processor.proofs.Parts.{left_stored}
-use Rattle.processor.proofs.rq.taken_timeshare.Goals as goal
-
-pub returns : goal.returns
-unfolding rq_taken_from
-returns c = rw (c.store_timeshare.ensures, c.taken_timeshare-left.ensures, c.load_queue-q.ensures) (left_stored part.Timeshare _ _ _ _ _ _ _)

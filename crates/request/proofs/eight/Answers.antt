@@ -1,6 +1,0 @@
-use Rattle.std.proofs.Common.{drop}
-use Rattle.request.proofs.Bytes.{operand_add}
-use Rattle.request.proofs.eight.Goals as goal
-
-pub returns : goal.returns
-returns c = cc (operand_add 4 4 (drop c.args.at c.args.bytes.now))
