@@ -250,7 +250,7 @@ pub fn command_read(
     let t = get(threads, x);
     match judged(cpus, nodes, state, t, reading) {
         Ok(asked) => obey(threads, cpus, nodes, state, asked.request, asked.used),
-        Err(refusal) => refuses(state, refusal, taken(reading)),
+        Err(refusal) => refuses(state, Some(refusal), taken(reading)),
     }
 }
 

@@ -1,5 +1,5 @@
 // What a call answers.
-ghost use Rattle.std.specs.Prelude.{◌≡◌, Some, None};
+ghost use Rattle.std.specs.Prelude.{◌≡◌, None};
 ghost use Rattle.outcome.specs.Answer.{accepted, nothing_shown, refuses, changed, running_in, shown, ran};
 
 use lines::{Answer, Refusal};
@@ -42,11 +42,11 @@ pub fn nothing_shown(refusal: Option<Refusal>) -> Answer
 
 // A refused command leaves the state as it was.
 #[tactic(auto, unfolding(crate::specs::Answer::refuses))]
-pub fn refuses(state: State, refusal: Refusal, used: usize) -> Answered
-    ensures { result ≡ refuses state (Some refusal) used }
+pub fn refuses(state: State, refusal: Option<Refusal>, used: usize) -> Answered
+    ensures { result ≡ refuses state refusal used }
 {
     Answered {
-        answer: nothing_shown(Some(refusal)),
+        answer: nothing_shown(refusal),
         used,
         state,
     }

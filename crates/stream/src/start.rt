@@ -87,7 +87,7 @@ fn initial() -> State
     }
 }
 
-// Ready with a state, unless a slice is too short, and then nothing is changed.
+// The state, unless a slice is too short, and then nothing is changed.
 #[tactic(auto, unfolding(crate::specs::Start::start_def))]
 pub fn start(
     threads: &mut [Thread],
