@@ -27,7 +27,7 @@ use Rattle.thread.specs.Thread.{NONE}
 use Rattle.queue.specs.Num.{sum, sum_exact}
 use Rattle.runqueue.specs.declared.rq.RunQueue.{RunQueue}
 use Rattle.runqueue.specs.declared.rq.Front.{Front}
-use Rattle.runqueue.specs.RunQueue.{front_at, rq_front}
+use Rattle.runqueue.specs.RunQueue.{rq_front}
 use Rattle.processor.specs.Words.{word, put_word}
 use Rattle.processor.specs.Queue.{queue_at}
 use Rattle.processor.specs.Cpu as cpu
@@ -84,10 +84,13 @@ move_made_none k (Some p) n m e = absurd (true≢false e)
 pub move_none : (ts : List Thread) (cs : List (List ℕ)) (k : Context) (b : step.Balancing) (n : ℕ) → is_some b.moves ≡ false → move_one_def k b n (mem ts cs) ≡ record { answer = n; memory = mem ts cs }
 move_none ts cs k b n e = move_made_none k b.moves n (mem ts cs) e
 
-move_some : (ts : List Thread) (cs : List (List ℕ)) (k : Context) (b : step.Balancing) (donor recipient n : ℕ)
-    → move_one_def k (moving b donor recipient) n (mem ts cs) ≡ received k recipient n (take_from donor recipient (mem ts cs))
-unfolding move_made moving
-move_some ts cs k b donor recipient n = refl
+move_made_some : (k : Context) (o : Option Pair) (p : Pair) (n : ℕ) (m : Memory) → o ≡ Some p → move_made k o n m ≡ received k p.recipient n (take_from p.donor p.recipient m)
+unfolding move_made
+move_made_some k o p n m e = rw e refl
+
+pub move_some : (ts : List Thread) (cs : List (List ℕ)) (k : Context) (b : step.Balancing) (p : Pair) (n : ℕ) → b.moves ≡ Some p
+    → move_one_def k b n (mem ts cs) ≡ received k p.recipient n (take_from p.donor p.recipient (mem ts cs))
+move_some ts cs k b p n e = move_made_some k b.moves p n (mem ts cs) e
 
 received_some : (k : Context) (r n : ℕ) (g : Left (Option ℕ) Memory) (x : ℕ) → g.answer ≡ Some x → received k r n g ≡ schedule_thread_on_cpu_def k r x n g.memory
 unfolding received
@@ -313,7 +316,7 @@ module _ (limits : Limits) (topology : Topology) (tick us : ℕ) (known : ℕ �
             goes_on = true;
           } = rules_some v B.allowed B.steps donor recipient x e in
           let t : move_one_def k (moving b donor recipient) n (mem ts marked) ≡ left marked_shows marked_safe donor recipient donor_in recipient_in x e n =
-          move_some ts marked k b donor recipient n ∙ received_some k recipient n (take_from donor recipient (mem ts marked)) x (answered marked_shows marked_safe donor recipient donor_in recipient_in x e) in
+          move_some ts marked k (moving b donor recipient) (record { donor = donor; recipient = recipient }) n refl ∙ received_some k recipient n (take_from donor recipient (mem ts marked)) x (answered marked_shows marked_safe donor recipient donor_in recipient_in x e) in
           record {
             meets = subst (λ (u : Left ℕ Memory). Meets u.memory.threads u.memory.cpus u.answer (moving b donor recipient) moved_B) (sym t)
                 (subst (λ (C : Balancing). Meets (left marked_shows marked_safe donor recipient donor_in recipient_in x e n).memory.threads (left marked_shows marked_safe donor recipient donor_in recipient_in x e n).memory.cpus

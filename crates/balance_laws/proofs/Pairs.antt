@@ -8,7 +8,7 @@ use Rattle.rules.specs.Line.{Below}
 use Rattle.rules.specs.State.{those_below, Limits, Topology}
 use Rattle.rules.specs.Topology.{cpus_of}
 use Rattle.rules.proofs.Laws.Steps.{those_in}
-use Rattle.rules.specs.Choice.{best_at, lower, weigh, extremes, pair_of, choose_cpu_balance}
+use Rattle.rules.specs.Choice.{lower, weigh, extremes, pair_of, choose_cpu_balance}
 use Rattle.balance_laws.specs.Pairs.{BestUnder, PairUnder, Within}
 
 lower_in : (n : ℕ) (b : Option Best) (s c : ℕ) → BestUnder n b → c < n → BestUnder n (lower b s c)

@@ -10,7 +10,6 @@ use Rattle.rules.specs.declared.choice.Pair.{Pair}
 use Rattle.rules.proofs.Laws.Line.{both}
 use Rattle.rules.specs.Queue.{load}
 use Rattle.rules.specs.State.{Limits, Topology}
-use Rattle.rules.specs.Choice.{pair_at}
 use Rattle.rules.specs.Schedule as sched
 use Rattle.rules.specs.Schedule.{World, Balancing, current_load}
 use Rattle.balance_laws.specs.Turns.{going}

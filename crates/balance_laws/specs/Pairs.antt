@@ -3,7 +3,6 @@ use Rattle.std.specs.Prelude.{ℕ, ◌<◌, Option, None, Some}
 use Rattle.rules.specs.declared.choice.Pair.{Pair}
 use Rattle.rules.specs.declared.choice.Extremes.{Extremes}
 use Rattle.rules.specs.declared.choice.Best.{Best}
-use Rattle.rules.specs.Choice.{best_at, pair_at}
 
 unfoldable pub BestUnder : ℕ → Option Best → Type 0
 BestUnder n None = Unit

@@ -1,4 +1,5 @@
 // The CPU that gives a thread and the one that gets it (`choose_cpu_balance`).
+// CPUs, nodes, the CPU that asks and the limit are parameters of their own: as fields of a struct they make each clause longer.
 ghost use Rattle.std.specs.Prelude.{◌≡◌, ◌-◌, ◌&&◌};
 ghost use Rattle.rules.specs.Choice as rule;
 ghost use Rattle.rules.specs.Choice.{extremes, choose_cpu_balance};

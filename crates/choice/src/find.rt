@@ -1,4 +1,5 @@
 // The search of the tree for the CPU with the lowest score (`find_cpu_from_topo`).
+// CPUs, nodes, the CPU that asks and the limit are parameters of their own: as fields of a struct they make each clause longer.
 ghost use Rattle.std.specs.Prelude.{◌≡◌, ◌-◌};
 ghost use Rattle.rules.specs.Choice.{lower, find_cpu};
 ghost use Rattle.topology.specs.Node.{contains_at};
@@ -67,7 +68,7 @@ pub fn consider(
     }
 }
 
-// The CPUs of a node from one number to below another, ascending.
+// The CPUs of a node from one number to below another, ascending. A loop, as in `balance_range`: a fold of both over a closure asks more and is longer.
 #[tactic(auto, using(crate::specs::Found::find_end, crate::specs::Found::find_turn))]
 pub fn search_range(
     cpus: &[CpuWords],

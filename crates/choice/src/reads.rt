@@ -8,7 +8,6 @@ use processor::cpu::current_priority;
 use processor::random::draw;
 use processor::words::{CpuWords, LOAD, MOVABLE, word};
 use rules::Priority;
-use thread::priority::less;
 
 // 256 times the load, modulo 2^64, less the draw modulo 128, not below 0. The product of the last 56 bits is the wrapping one.
 #[tactic(auto, unfolding(rules::specs::Choice::score))]
@@ -20,11 +19,11 @@ pub fn score(load: u64, state: u64) -> u64
 }
 
 // Is the CPU skipped in a search for a thread of this priority, if one is given?
-#[tactic(auto, unfolding(crate::specs::Reads::skips_at))]
+#[tactic(auto, using(thread::proofs::Order::less_derived), unfolding(crate::specs::Reads::skips_at))]
 pub fn skips(cpus: &[CpuWords], pri: Option<Priority>, c: u64) -> bool
     ensures { result ≡ skips_at cpus.now pri c }
 {
-    pri.is_some_and(|p| less(p, current_priority(cpus, c)))
+    pri.is_some_and(|p| p < current_priority(cpus, c))
 }
 
 // How many wait in its queue, and how many of them are not pinned.

@@ -1,4 +1,5 @@
 // The CPU for a thread (`select_cpu`).
+// CPUs, nodes, the CPU that asks and the limit are parameters of their own: as fields of a struct they make each clause longer.
 ghost use Rattle.std.specs.Prelude.{◌≡◌};
 ghost use Rattle.rules.specs.Schedule.{same_cpu};
 ghost use Rattle.choice.specs.Select.{runs_at_once, at_once, cpu_found, accepted, search_twice, select_cpu, after_select};
@@ -9,10 +10,9 @@ use processor::cpu::current_priority;
 use processor::words::{CpuWords, RAND_STATE, put_word, word};
 use rules::Priority;
 use rules::choice::{Best, Searched};
-use thread::priority::less;
 use topology::words::NodeWords;
 
-// Is the CPU the one named?
+// Is the CPU the one named? The rules' word, by which the definitions ask.
 #[tactic(auto, unfolding(rules::specs::Schedule::same_cpu))]
 pub fn same_cpu(c: u64, avoid: Option<u64>) -> bool
     ensures { result ≡ same_cpu c avoid }
@@ -21,11 +21,11 @@ pub fn same_cpu(c: u64, avoid: Option<u64>) -> bool
 }
 
 // 1: the CPU is not to be avoided, and nobody waits there or the thread is above its priority.
-#[tactic(auto, unfolding(crate::specs::Select::runs_at_once))]
+#[tactic(auto, using(thread::proofs::Order::less_derived), unfolding(crate::specs::Select::runs_at_once))]
 pub fn runs_at_once(cpus: &[CpuWords], c: u64, pri: Priority, avoid: Option<u64>) -> bool
     ensures { result ≡ runs_at_once cpus.now pri avoid c }
 {
-    !same_cpu(c, avoid) && (queue_load(cpus, c) == 0 || less(current_priority(cpus, c), pri))
+    !same_cpu(c, avoid) && (queue_load(cpus, c) == 0 || current_priority(cpus, c) < pri)
 }
 
 #[tactic(auto, unfolding(crate::specs::Select::at_once))]

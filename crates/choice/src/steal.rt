@@ -1,4 +1,5 @@
 // The CPU from which to steal (`choose_cpu_steal_via_topo`): the CPUs of the own leaf, ascending, then those of each node above it.
+// CPUs, nodes, the CPU that asks and the limit are parameters of their own: as fields of a struct they make each clause longer.
 ghost use Rattle.std.specs.Prelude.{◌≡◌, ◌&&◌, ◌-◌};
 ghost use Rattle.rules.specs.Choice.{may_steal_from, first_that};
 ghost use Rattle.topology.specs.Node.{contains_at};

@@ -8,7 +8,6 @@ use Rattle.rules.proofs.Laws.Line.{both}
 use Rattle.rules.specs.declared.Priority.{Priority}
 use Rattle.rules.specs.Times.{effective_priority, preferred_cpu}
 use Rattle.rules.specs.State.{Limits, Topology}
-use Rattle.rules.specs.Choice.{best_at}
 use Rattle.rules.specs.Schedule as sched
 use Rattle.rules.specs.Schedule.{World, Got, same_cpu}
 use Rattle.thread.specs.declared.Thread.{Thread}

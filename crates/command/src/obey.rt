@@ -13,6 +13,7 @@ use outcome::call::{
 use outcome::prepare::{add_node, declare_cpu, place_cpu, seal, set_shortest};
 use processor::words::CpuWords;
 use questions::state::State;
+use records::memory::Memory;
 use records::record::{get, set};
 use request::{Reading, Request};
 use sched::preempt::schedule_maybe_preempt;
@@ -23,6 +24,7 @@ use sched_ticks::ticks::{schedule_hardtick, schedule_resched};
 use thread::Thread;
 use topology::words::NodeWords;
 
+// class and value are the operands as they came in (`priority_in`).
 #[tactic(auto, unfolding(crate::specs::Command::declare_thread_command))]
 pub fn declare_thread(
     threads: &mut [Thread],
@@ -43,70 +45,53 @@ pub fn declare_thread(
 // The line shows the CPU chosen.
 #[tactic(auto, unfolding(crate::specs::Command::schedule_thread_command))]
 pub fn schedule_thread(
-    threads: &mut [Thread],
-    cpus: &mut [CpuWords],
-    nodes: &[NodeWords],
+    m: &mut Memory<'_>,
     state: State,
     cpu: u64,
     thread: u64,
     used: usize,
 ) -> Answered
-    ensures { LeavesOver (schedule_thread_command state cpu thread used) result threads cpus nodes }
+    ensures { LeavesOver (schedule_thread_command state cpu thread used) result m }
 {
     let k = context_of(state, cpu);
-    let chosen = sched::schedule::schedule_thread(threads, cpus, nodes, k, thread);
-    ran(cpus, state, chosen.cpu, chosen.wakeups, used)
+    let chosen = sched::schedule::schedule_thread(m, k, thread);
+    ran(m.cpus(), state, chosen.cpu, chosen.wakeups, used)
 }
 
 #[tactic(auto, unfolding(crate::specs::Command::schedule_command))]
-pub fn schedule_on(
-    threads: &mut [Thread],
-    cpus: &mut [CpuWords],
-    nodes: &[NodeWords],
-    state: State,
-    cpu: u64,
-    flags: u64,
-    used: usize,
-) -> Answered
-    ensures { LeavesOver (schedule_command state cpu flags used) result threads cpus nodes }
+pub fn schedule_on(m: &mut Memory<'_>, state: State, cpu: u64, flags: u64, used: usize) -> Answered
+    ensures { LeavesOver (schedule_command state cpu flags used) result m }
 {
     let k = context_of(state, cpu);
-    let wakeups = schedule(threads, cpus, nodes, k, flags_in(flags), 0);
-    ran(cpus, state, cpu, wakeups, used)
+    let wakeups = schedule(m, k, flags_in(flags), 0);
+    ran(m.cpus(), state, cpu, wakeups, used)
 }
 
 #[tactic(auto, unfolding(crate::specs::Command::hardtick_command))]
-pub fn hardtick(
-    threads: &mut [Thread],
-    cpus: &mut [CpuWords],
-    state: State,
-    cpu: u64,
-    used: usize,
-) -> Answered
-    ensures { Leaves (hardtick_command state cpu used) result threads cpus }
+pub fn hardtick(m: &mut Memory<'_>, state: State, cpu: u64, used: usize) -> Answered
+    ensures { Leaves (hardtick_command state cpu used) result m }
 {
     let k = context_of(state, cpu);
-    schedule_hardtick(threads, cpus, k);
-    ran(cpus, state, cpu, 0, used)
+    schedule_hardtick(m, k);
+    ran(m.cpus(), state, cpu, 0, used)
 }
 
 #[tactic(auto, unfolding(crate::specs::Command::stattick_command))]
 pub fn stattick(
-    threads: &mut [Thread],
-    cpus: &mut [CpuWords],
-    nodes: &[NodeWords],
+    m: &mut Memory<'_>,
     state: State,
     cpu: u64,
     nanoseconds: u64,
     used: usize,
 ) -> Answered
-    ensures { LeavesOver (stattick_command state cpu nanoseconds used) result threads cpus nodes }
+    ensures { LeavesOver (stattick_command state cpu nanoseconds used) result m }
 {
     let k = context_of(state, cpu);
-    let wakeups = schedule_stattick(threads, cpus, nodes, k, nanoseconds, 0);
-    ran(cpus, state, cpu, wakeups, used)
+    let wakeups = schedule_stattick(m, k, nanoseconds, 0);
+    ran(m.cpus(), state, cpu, wakeups, used)
 }
 
+// The records are lent to be read alone.
 #[tactic(auto, unfolding(crate::specs::Command::resched_command))]
 pub fn resched(
     threads: &[Thread],
@@ -122,21 +107,15 @@ pub fn resched(
 }
 
 #[tactic(auto, unfolding(crate::specs::Command::maybe_preempt_command))]
-pub fn maybe_preempt(
-    threads: &mut [Thread],
-    cpus: &mut [CpuWords],
-    nodes: &[NodeWords],
-    state: State,
-    cpu: u64,
-    used: usize,
-) -> Answered
-    ensures { LeavesOver (maybe_preempt_command state cpu used) result threads cpus nodes }
+pub fn maybe_preempt(m: &mut Memory<'_>, state: State, cpu: u64, used: usize) -> Answered
+    ensures { LeavesOver (maybe_preempt_command state cpu used) result m }
 {
     let k = context_of(state, cpu);
-    let wakeups = schedule_maybe_preempt(threads, cpus, nodes, k, 0);
-    ran(cpus, state, cpu, wakeups, used)
+    let wakeups = schedule_maybe_preempt(m, k, 0);
+    ran(m.cpus(), state, cpu, wakeups, used)
 }
 
+// class and value are the operands as they came in; the words of the CPUs are lent to be read alone.
 #[tactic(auto, unfolding(crate::specs::Command::donate_command))]
 pub fn donate(
     threads: &mut [Thread],
@@ -177,7 +156,8 @@ pub fn set_critical(
     changed(state, used)
 }
 
-// The case of the command.
+// The case of the command. Here and above up to C the three slices stand apart: commands before the seal change the nodes, which a `Memory` reads. Nodes
+// that it could change would be forgotten by the check where it is lent to be read.
 #[tactic(auto, unfolding(crate::specs::Command::obey_def, request::specs::Request::request_of))]
 pub fn obey(
     threads: &mut [Thread],
@@ -189,6 +169,11 @@ pub fn obey(
 ) -> Answered
     ensures { LeavesAll (obey_def state (request_of request) used) result threads cpus nodes }
 {
+    let m = &mut Memory {
+        threads,
+        cpus,
+        nodes,
+    };
     match request {
         Request::DeclareCpu { cpu } => declare_cpu(cpus, state, cpu, used),
         Request::AddNode { parent, kind } => add_node(nodes, state, parent, kind, used),
@@ -202,18 +187,12 @@ pub fn obey(
             pin,
         } => declare_thread(threads, state, thread, class, value, pin, used),
         Request::SetTick { tick } => changed(ticked(state, tick), used),
-        Request::ScheduleThread { cpu, thread } => {
-            schedule_thread(threads, cpus, nodes, state, cpu, thread, used)
-        }
-        Request::Schedule { cpu, flags } => {
-            schedule_on(threads, cpus, nodes, state, cpu, flags, used)
-        }
-        Request::Hardtick { cpu } => hardtick(threads, cpus, state, cpu, used),
-        Request::Stattick { cpu, nanoseconds } => {
-            stattick(threads, cpus, nodes, state, cpu, nanoseconds, used)
-        }
+        Request::ScheduleThread { cpu, thread } => schedule_thread(m, state, cpu, thread, used),
+        Request::Schedule { cpu, flags } => schedule_on(m, state, cpu, flags, used),
+        Request::Hardtick { cpu } => hardtick(m, state, cpu, used),
+        Request::Stattick { cpu, nanoseconds } => stattick(m, state, cpu, nanoseconds, used),
         Request::Resched { cpu } => resched(threads, cpus, state, cpu, used),
-        Request::MaybePreempt { cpu } => maybe_preempt(threads, cpus, nodes, state, cpu, used),
+        Request::MaybePreempt { cpu } => maybe_preempt(m, state, cpu, used),
         Request::Donate {
             cpu,
             thread,

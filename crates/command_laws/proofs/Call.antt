@@ -1,6 +1,6 @@
 -- ONE CALL, by the rules' reading of its bytes: refused or obeyed.
 use Prim.Native.Nat.{ℕ, suc, ◌≤◌}
-use Rattle.std.specs.Prelude.{◌≡◌, ◌≢◌, false, cond, not, List, eqb, take, drop, get_or, Option, None, Some}
+use Rattle.std.specs.Prelude.{◌≡◌, ◌≢◌, false, cond, not, List, eqb, take, drop, get_or, Option}
 use Rattle.std.proofs.Math.Path.{refl, ap, subst}
 use Rattle.std.proofs.Common.{sym, ◌∙◌, arith}
 use borrow.Author.Tests.{eqb-true, eqb-false}

@@ -1,13 +1,13 @@
 -- THE CPUS THAT ARE FOUND over words: each search finds one below its limit, or none.
 use Rattle.std.specs.Prelude.{ℕ, zero, suc, ◌+◌, ◌-◌, ◌≤◌, ◌<◌, Bool, List, [], ◌∷◌, length, eqb, ltb, Option, None, Some}
-use Rattle.std.proofs.Common.{sym, subst, arith}
+use Rattle.std.proofs.Common.{arith}
 use Rattle.rules.specs.declared.choice.Searched.{Searched}
 use Rattle.rules.specs.declared.choice.Extremes.{Extremes}
 use Rattle.rules.specs.declared.choice.Best.{Best}
 use Rattle.rules.specs.declared.Priority.{Priority}
 use Rattle.rules.proofs.Laws.Line.{both}
 use Rattle.rules.specs.Line.{Below}
-use Rattle.rules.specs.Choice.{best_at, lower, find_cpu, first_that, may_steal_from, weigh, extremes, pair_of, choose_cpu_balance}
+use Rattle.rules.specs.Choice.{lower, find_cpu, first_that, may_steal_from, weigh, extremes, pair_of, choose_cpu_balance}
 use Rattle.rules.specs.Waits.{Under}
 use Rattle.rules.proofs.Laws.Steps.{join_in_all}
 use Rattle.thread.specs.declared.Thread.{Thread}

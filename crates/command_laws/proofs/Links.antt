@@ -14,13 +14,13 @@ use Rattle.queue.specs.declared.lists.Lists.{Lists}
 use Rattle.queue.specs.declared.lists.Found.{Found}
 use Rattle.queue.specs.declared.pq.PriorityQueue.{PriorityQueue}
 use Rattle.queue.specs.declared.timeshare.TimeshareQueue.{TimeshareQueue}
-use Rattle.queue.specs.Lists.{found_at, no_lists_def, push_back, unlinked, scan_heads, first_from}
+use Rattle.queue.specs.Lists.{no_lists_def, push_back, unlinked, scan_heads, first_from}
 use Rattle.queue.specs.PriorityQueue.{no_priority, pq_insert, pq_front, pq_taken}
 use Rattle.queue.specs.Timeshare.{no_timeshare, ts_bucket, slot, ts_insert, ts_front, ts_taken, ts_step, ts_advance}
 use Rattle.runqueue.specs.declared.rq.RunQueue.{RunQueue}
 use Rattle.runqueue.specs.declared.rq.Arrival.{Arrival}
 use Rattle.runqueue.specs.declared.rq.Front.{Front}
-use Rattle.runqueue.specs.RunQueue.{front_at, no_run_queue, with_realtime, with_timeshare, with_idle, advertising, counted, uncounted, rq_insert_realtime, rq_insert_timeshare, rq_insert_idle, rq_insert_into, rq_insert, first_in_def, rq_front_idle, rq_front_timeshare, rq_front_realtime, rq_front, rq_taken_realtime, rq_recalc, rq_taken_timeshare, rq_taken_idle, rq_taken_from, rq_taken, rq_clock, rq_hardtick}
+use Rattle.runqueue.specs.RunQueue.{no_run_queue, with_realtime, with_timeshare, with_idle, advertising, counted, uncounted, rq_insert_realtime, rq_insert_timeshare, rq_insert_idle, rq_insert_into, rq_insert, first_in_def, rq_front_idle, rq_front_timeshare, rq_front_realtime, rq_front, rq_taken_realtime, rq_recalc, rq_taken_timeshare, rq_taken_idle, rq_taken_from, rq_taken, rq_clock, rq_hardtick}
 use Rattle.processor.proofs.Laws.Queue.{Eights}
 use Rattle.command_laws.specs.Links.{FoundLink, FrontLink, Link, ListsInRange, QueueInRange}
 

@@ -13,7 +13,6 @@ use Rattle.rules.specs.declared.Priority.{Priority}
 use Rattle.rules.proofs.Laws.Line.{both}
 use Rattle.rules.specs.Priority.{raw, donation_accepted}
 use Rattle.rules.specs.Times.{effective_priority}
-use Rattle.rules.specs.Choice as rule
 use Rattle.rules.specs.Waits.{Under}
 use Rattle.thread.specs.declared.Thread.{Thread}
 use Rattle.thread.specs.Thread.{NONE, BLOCKED, RUNNING, with_donated, with_stable, with_critical, with_place, with_next, with_last, with_queue, with_deadline, with_timeslice}
@@ -21,7 +20,6 @@ use Rattle.thread.specs.Flags.{has_donated_priority}
 use Rattle.thread.specs.Reads.{cpu_in, reads, donated_in, critical_in}
 use Rattle.thread.specs.Time.{field_of, named_field, moving_to_queue, moving_to_active, pay_ticks, reset_timeslice, set_deadline}
 use Rattle.thread.specs.Priority.{stable_effective_priority, donate_priority, remove_donated_priority}
-use Rattle.runqueue.specs.RunQueue.{front_at}
 use Rattle.runqueue.specs.declared.rq.Front.{Front}
 use Rattle.processor.specs.Words.{word, put_word}
 use Rattle.processor.specs.Word as at

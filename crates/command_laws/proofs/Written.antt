@@ -1,7 +1,7 @@
 -- WHAT ONE CALL WRITES: over memory that stands for a state which calls reach from the start, it keeps to the records below 1,024, the rows of CPUs below 64
 -- and the nodes that are made.
 use Prim.Native.Nat.{ℕ, suc, ◌+◌, ◌%◌, ◌^◌, ◌≤◌, ◌<◌}
-use Rattle.std.specs.Prelude.{◌≡◌, true, false, ◌&&◌, List, get_or, take, drop, eqb, ltb, Option, None, Some}
+use Rattle.std.specs.Prelude.{◌≡◌, true, false, ◌&&◌, List, take, drop, eqb, ltb, Option, None, Some}
 use Rattle.std.proofs.Math.Path.{refl, sym, ap, subst}
 use Rattle.std.proofs.Common.{◌∙◌, arith}
 use Rattle.std.proofs.Math.Bool.{not}
@@ -20,7 +20,7 @@ use Rattle.rules.specs.Questions.{refusal, concerning, declared, open_yet, seale
 use Rattle.rules.specs.Waits.{Under}
 use Rattle.rules.proofs.Laws.Reached.{yes, declared_in, runs_below, pin_in}
 use Rattle.thread.specs.declared.Thread.{Thread}
-use Rattle.thread.specs.Thread.{NONE, blank}
+use Rattle.thread.specs.Thread.{NONE}
 use Rattle.thread.specs.Reads.{cpu_in}
 use Rattle.thread.specs.Time.{named_none}
 use Rattle.thread.specs.Place.{new}
@@ -30,7 +30,6 @@ use Rattle.represents.specs.Topology.{Sized}
 use Rattle.request.specs.Request.{limits_of}
 use Rattle.lines.specs.Lines.{refusal_number}
 use Rattle.questions.specs.declared.state.State.{State}
-use Rattle.questions.specs.Questions.{refusal_in}
 use Rattle.records.specs.Left.{mem}
 use Rattle.outcome.specs.Answer.{accepted, refuses, changed, ran}
 use Rattle.outcome.specs.Call.{refusal_back, thread_in, pin_number, context_of, ticked, sealed_now as sealing, with_shortest, one_node_more}

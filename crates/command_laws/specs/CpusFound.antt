@@ -2,7 +2,6 @@
 use Rattle.std.specs.Prelude.{ℕ, ◌<◌, Option, None, Some}
 use Rattle.rules.specs.declared.choice.Pair.{Pair}
 use Rattle.rules.specs.declared.choice.Extremes.{Extremes}
-use Rattle.rules.specs.Choice.{pair_at}
 use Rattle.rules.specs.Waits.{Under}
 use Rattle.choice.specs.Select.{cpu_found}
 

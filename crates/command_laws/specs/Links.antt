@@ -1,10 +1,8 @@
 -- THE THREAD NUMBERS IN A RUN QUEUE: each is below 1,024 or none, and every operation of the queue keeps that.
 use Rattle.std.specs.Prelude.{ℕ, ◌≤◌, ◌≡◌, length, get_or, Option, None, Some}
 use Rattle.thread.specs.Thread.{NONE}
-use Rattle.queue.specs.Lists.{found_at}
 use Rattle.queue.specs.declared.lists.Lists.{Lists}
 use Rattle.queue.specs.declared.lists.Found.{Found}
-use Rattle.runqueue.specs.RunQueue.{front_at}
 use Rattle.runqueue.specs.declared.rq.RunQueue.{RunQueue}
 use Rattle.runqueue.specs.declared.rq.Front.{Front}
 use Rattle.processor.proofs.Laws.Queue.{Eight}

@@ -1,6 +1,6 @@
 -- WHAT EACH FUNCTION OF THE SCHEDULER WRITES: records of threads and words of CPUs that the memory or the command names, so records below 1,024 and
 -- rows below 64.
-use Rattle.std.specs.Prelude.{ℕ, Option, Some, None, unwrap_or}
+use Rattle.std.specs.Prelude.{ℕ, Option, unwrap_or}
 use Rattle.thread.specs.Thread.{NONE}
 use Rattle.records.specs.Left.{Memory, Left}
 use Rattle.command_laws.specs.Links.{Link}

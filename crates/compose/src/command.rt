@@ -1,5 +1,5 @@
 // One line composed into the output.
-use crate::failure::{Failure, refused};
+use crate::failure::Fault;
 use files::output::Output;
 use lines::Refusal;
 use parse::{Command, Misfit, parse};
@@ -9,7 +9,7 @@ use writer::write_command;
 // No command has so many bytes.
 const ROOM: usize = 32;
 
-// The first `count` fields, and 0 in the others.
+// The first `count` fields, and 0 in the others. `Fields` is C's struct, so it is no array to be cut.
 fn front(fields: Fields, count: usize) -> Fields {
     let mut front = fields;
     if count < 2 {
@@ -38,13 +38,13 @@ fn word_refused(refusal: Refusal, byte: u64, fields: Fields) -> usize {
     }
 }
 
-fn compose_command<W: Print + Drop>(
+fn compose_command<'a, W: Print>(
     command: Command,
-    line: &[u8],
+    line: &'a [u8],
     number: u64,
-    output: &mut Output<W>,
-) -> Result<(), Failure> {
-    output.make_room(ROOM).map_err(|_| Failure::Output)?;
+    output: &mut Output<'_, W>,
+) -> Result<(), Fault<'a>> {
+    output.make_room(ROOM).map_err(|_| Fault::Output)?;
     let byte = u64::from(command.byte);
     let free = &mut output.bytes[output.done..];
     match write_command(byte, command.fields, false, free) {
@@ -52,22 +52,30 @@ fn compose_command<W: Print + Drop>(
             output.add(n);
             Ok(())
         }
-        Err(refusal) => {
-            let word = word_refused(refusal, byte, command.fields);
-            Err(refused(refusal, word, line, number))
-        }
+        Err(refusal) => Err(Fault::Refused {
+            line,
+            number,
+            refusal,
+            word: word_refused(refusal, byte, command.fields),
+        }),
     }
 }
 
-pub fn compose_line<W: Print + Drop>(
-    line: &[u8],
+pub fn compose_line<'a, W: Print>(
+    line: &'a [u8],
     number: u64,
-    output: &mut Output<W>,
-) -> Result<(), Failure> {
-    match parse(line, false) {
-        Ok(None) => Ok(()),
-        Ok(Some(command)) => compose_command(command, line, number, output),
-        Err(Misfit::Unknown) => Err(refused(Refusal::UnknownCommand, 0, line, number)),
-        Err(Misfit::Unfit(word)) => Err(refused(Refusal::OutOfRange, word, line, number)),
-    }
+    output: &mut Output<'_, W>,
+) -> Result<(), Fault<'a>> {
+    let (refusal, word) = match parse(line, false) {
+        Ok(None) => return Ok(()),
+        Ok(Some(command)) => return compose_command(command, line, number, output),
+        Err(Misfit::Unknown) => (Refusal::UnknownCommand, 0),
+        Err(Misfit::Unfit(word)) => (Refusal::OutOfRange, word),
+    };
+    Err(Fault::Refused {
+        line,
+        number,
+        refusal,
+        word,
+    })
 }

@@ -1,5 +1,5 @@
 // Why a run ends before its input does, and what standard error says of it.
-use lines::{Refusal, put_bytes, put_number};
+use lines::{Refusal, Text};
 use names::put_field_name;
 use parse::name::byte_named;
 use parse::words::word_at;
@@ -10,65 +10,82 @@ const WORD: usize = 64;
 
 const SIZE: usize = 256;
 
-// A line for standard error. Bytes past the last one that it can hold are left out.
+// Why a line is not composed. It borrows the line, so that what each line answers stays small.
+#[derive(Clone, Copy)]
+pub enum Fault<'a> {
+    // Standard output could not be written.
+    Output,
+    // The line of this number is refused, for its word of this number.
+    Refused {
+        line: &'a [u8],
+        number: u64,
+        refusal: Refusal,
+        word: usize,
+    },
+}
+
+// A line for standard error, in an array with its length, since nothing is allocated. Bytes past the last one that it can hold are left out.
 #[derive(Clone, Copy)]
 pub struct Message {
     bytes: [u8; SIZE],
     len: usize,
 }
 
+fn put_word(text: &mut Text<'_>, word: &[u8]) {
+    if word.len() <= WORD {
+        text.put_bytes(word);
+    } else {
+        let (front, _) = word.split_at(WORD);
+        text.put_bytes(front);
+        text.put_bytes(b"...");
+    }
+}
+
+// Field number i of the command that the line names, which is word number i + 1: missing, no fit, or one too many.
+fn put_field(text: &mut Text<'_>, line: &[u8], i: usize, word: &[u8]) {
+    let byte = byte_named(word_at(line, 0)).unwrap_or(0);
+    let before = text.at;
+    put_field_name(text, byte, i);
+    if text.at == before {
+        text.put_bytes(b"too many words: ");
+        put_word(text, word);
+    } else if word.is_empty() {
+        text.put_bytes(b" missing");
+    } else {
+        text.put(b' ');
+        put_word(text, word);
+    }
+}
+
+// Word number i of the line, from 0, which is its name: unknown, or a field's.
+fn put_reason(text: &mut Text<'_>, line: &[u8], i: usize) {
+    let word = word_at(line, i);
+    if i == 0 {
+        put_word(text, word);
+    } else {
+        put_field(text, line, i - 1, word);
+    }
+}
+
 impl Message {
-    fn put(&mut self, bytes: &[u8]) {
-        self.len = put_bytes(&mut self.bytes, self.len, bytes);
-    }
-
-    fn put_number(&mut self, n: u64) {
-        self.len = put_number(&mut self.bytes, self.len, n);
-    }
-
-    // A line of this number is refused.
-    fn of_line(number: u64, refusal: Refusal) -> Self {
-        let mut message = Message {
-            bytes: [0; SIZE],
-            len: 0,
+    // The line of this number is refused, for a reason that is put behind it.
+    fn of_line<F: FnOnce(&mut Text<'_>)>(number: u64, refusal: Refusal, reason: F) -> Self
+        requires { F.IsAlwaysCallable reason }
+    {
+        let mut bytes = [0; SIZE];
+        let mut text = Text {
+            buffer: &mut bytes,
+            at: 0,
         };
-        message.put(b"compose: line ");
-        message.put_number(number);
-        message.put(b": refused ");
-        message.put_number(u64::from(refusal));
-        message.put(b": ");
-        message
-    }
-
-    fn put_word(&mut self, word: &[u8]) {
-        if word.len() <= WORD {
-            self.put(word);
-        } else {
-            let (front, _) = word.split_at(WORD);
-            self.put(front);
-            self.put(b"...");
-        }
-    }
-
-    // The name of field number i of the command that the line names; answers whether it has one.
-    fn put_field_name(&mut self, line: &[u8], i: usize) -> bool {
-        let byte = byte_named(word_at(line, 0)).unwrap_or(0);
-        let before = self.len;
-        self.len = put_field_name(&mut self.bytes, before, byte, i);
-        self.len != before
-    }
-
-    // Field number i, which is word number i + 1: missing, no fit, or one too many.
-    fn put_field(&mut self, line: &[u8], i: usize, word: &[u8]) {
-        if !self.put_field_name(line, i) {
-            self.put(b"too many words: ");
-            self.put_word(word);
-        } else if word.is_empty() {
-            self.put(b" missing");
-        } else {
-            self.put(b" ");
-            self.put_word(word);
-        }
+        text.put_bytes(b"compose: line ");
+        text.put_number(number);
+        text.put_bytes(b": refused ");
+        text.put_number(u64::from(refusal));
+        text.put_bytes(b": ");
+        reason(&mut text);
+        text.put(b'\n');
+        let len = text.at;
+        Message { bytes, len }
     }
 }
 
@@ -80,27 +97,35 @@ pub enum Failure {
     Line(Message),
 }
 
-// A line that is refused for its word of this number.
-pub fn refused(refusal: Refusal, word: usize, line: &[u8], number: u64) -> Failure {
-    let mut message = Message::of_line(number, refusal);
-    let text = word_at(line, word);
-    if word == 0 {
-        message.put_word(text);
-    } else {
-        message.put_field(line, word - 1, text);
+impl From<Fault<'_>> for Failure {
+    fn from(fault: Fault<'_>) -> Self {
+        match fault {
+            Fault::Output => Failure::Output,
+            Fault::Refused {
+                line,
+                number,
+                refusal,
+                word,
+            } => Failure::Line(Message::of_line(
+                number,
+                refusal,
+                |text: &mut Text<'_>| put_reason(text, line, word),
+            )),
+        }
     }
-    message.put(b"\n");
-    Failure::Line(message)
 }
 
-// A line that the input cannot hold.
+// The line of this number is longer than the input.
 pub fn too_long(number: u64) -> Failure {
-    let mut message = Message::of_line(number, Refusal::OutOfRange);
-    message.put(b"line too long\n");
-    Failure::Line(message)
+    Failure::Line(Message::of_line(
+        number,
+        Refusal::OutOfRange,
+        |text: &mut Text<'_>| text.put_bytes(b"line too long"),
+    ))
 }
 
 impl Failure {
+    // In bytes, since a word of the input may be no UTF-8.
     pub fn report(&self, stderr: &impl Print) -> io::Result<()> {
         match self {
             Failure::Input => stderr.write_all(b"compose: standard input could not be read\n"),

@@ -6,18 +6,19 @@ mod failure;
 
 use blocks::keep;
 use command::compose_line;
-use failure::{Failure, too_long};
+use failure::{Failure, Fault, too_long};
 use files::fill;
 use files::output::{Output, SIZE};
 use std::io::Read;
 
 // The lines of a block, the first of which has this number; answers how many bytes they have. A line without a line feed is left, unless it is the last of the input.
-fn compose_block<W: Print + Drop>(
-    block: &[u8],
+fn compose_block<'a, W: Print>(
+    block: &'a [u8],
     last: bool,
     number: &mut u64,
-    output: &mut Output<W>,
-) -> Result<usize, Failure> {
+    output: &mut Output<'_, W>,
+) -> Result<usize, Fault<'a>> {
+    // By hand: `split` would not tell a line without an end, and a `for` over `split_inclusive` does not check in a generic function.
     let mut rest = block;
     while let Some(end) = rest.iter().position(|byte| *byte == b'\n') {
         compose_line(&rest[..end], *number, output)?;
@@ -31,8 +32,8 @@ fn compose_block<W: Print + Drop>(
     Ok(block.len() - rest.len())
 }
 
-// The whole text, block by block.
-fn compose<W: Print + Drop>(stdin: &mut impl Read, output: &mut Output<W>) -> Result<(), Failure> {
+// The whole text, block by block; no input has as many blocks as the loop has turns.
+fn compose<W: Print>(stdin: &mut impl Read, output: &mut Output<'_, W>) -> Result<(), Failure> {
     let mut input = [0u8; SIZE];
     let mut kept = 0;
     let mut number = 1;
@@ -41,7 +42,9 @@ fn compose<W: Print + Drop>(stdin: &mut impl Read, output: &mut Output<W>) -> Re
             return Err(too_long(number));
         }
         let got = fill(stdin, &mut input, kept).map_err(|_| Failure::Input)?;
-        let composed = compose_block(&input[..got.bytes], got.last, &mut number, output)?;
+        let composed = compose_block(&input[..got.bytes], got.last, &mut number, output).map_err(
+            Failure::from,
+        )?;
         if got.last {
             return Ok(());
         }
@@ -51,7 +54,7 @@ fn compose<W: Print + Drop>(stdin: &mut impl Read, output: &mut Output<W>) -> Re
 }
 
 // What was composed is shown also where the text has a fault.
-fn run(stdin: &mut impl Read, stdout: impl Print + Drop) -> Result<(), Failure> {
+fn run(stdin: &mut impl Read, stdout: &impl Print) -> Result<(), Failure> {
     let mut output = Output::new(stdout);
     let composed = compose(stdin, &mut output);
     output.show().map_err(|_| Failure::Output)?;
@@ -59,7 +62,7 @@ fn run(stdin: &mut impl Read, stdout: impl Print + Drop) -> Result<(), Failure> 
 }
 
 fn main(rt: HostRuntime) {
-    if let Err(failure) = run(&mut rt.stdin(), rt.stdout()) {
+    if let Err(failure) = run(&mut rt.stdin(), &rt.stdout()) {
         let _ = failure.report(&rt.stderr());
     }
 }

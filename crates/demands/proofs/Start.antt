@@ -1,5 +1,5 @@
 -- THE LIBRARY'S START: when it answers Ready, and what it leaves where it does not. A reader reads all of this file, after Calls.
-use Rattle.std.specs.Prelude.{ℕ, ◌≤◌, refl, List, length, Option, Some, None}
+use Rattle.std.specs.Prelude.{ℕ, ◌≤◌, refl, List, length, Some, None}
 use Rattle.std.proofs.Math.Path.{◌≡◌}
 use Rattle.std.proofs.Common.{arith}
 use borrow.Author.Tests.{le-ltb}

@@ -2,7 +2,7 @@
 -- file. Document 01:
 -- "A list starts from the records and state that the library's start made; each call gets what the last one returned and left, and nobody else writes them in
 -- between."
-use Rattle.std.specs.Prelude.{ℕ, ◌≤◌, ◌<◌, ◌≡◌, List, [], ◌∷◌, length, get_or, Option, Some, None}
+use Rattle.std.specs.Prelude.{ℕ, ◌≤◌, ◌<◌, ◌≡◌, List, [], ◌∷◌, length, get_or, Some}
 use Rattle.rules.specs.Queue.{Queue}
 use Rattle.rules.specs.State as rules
 use Rattle.rules.specs.Commands.{step}

@@ -1,4 +1,4 @@
-// Why a listing ends before its stream does.
+// Why a listing ends before its stream does. Input and output are told as in `replay`: an enum of their own would be one more case to take apart.
 use std::fmt;
 
 #[derive(Clone, Copy)]

@@ -13,11 +13,12 @@ use request::operand_bytes;
 use std::io::Read;
 
 // The commands of a block, which begins at this offset in the stream; answers how many bytes they have. A command that is not whole is left.
-fn list_block<W: Print + Drop>(
+fn list_block<W: Print>(
     block: &[u8],
     offset: u64,
-    output: &mut Output<W>,
+    output: &mut Output<'_, W>,
 ) -> Result<usize, Failure> {
+    // A number and no shrinking slice, since a message names the place in the stream.
     let mut at = 0;
     while at < block.len() {
         let byte = block[at];
@@ -38,8 +39,8 @@ fn list_block<W: Print + Drop>(
     Ok(at)
 }
 
-// The whole stream, shown block by block.
-fn list<W: Print + Drop>(stdin: &mut impl Read, output: &mut Output<W>) -> Result<(), Failure> {
+// The whole stream, shown block by block; no input has as many blocks as the loop has turns.
+fn list<W: Print>(stdin: &mut impl Read, output: &mut Output<'_, W>) -> Result<(), Failure> {
     let mut input = [0u8; SIZE];
     let mut kept = 0;
     let mut offset: u64 = 0;
@@ -61,7 +62,7 @@ fn list<W: Print + Drop>(stdin: &mut impl Read, output: &mut Output<W>) -> Resul
 }
 
 // What is listed is shown also where the stream has a fault.
-fn run(stdin: &mut impl Read, stdout: impl Print + Drop) -> Result<(), Failure> {
+fn run(stdin: &mut impl Read, stdout: &impl Print) -> Result<(), Failure> {
     let mut output = Output::new(stdout);
     let listed = list(stdin, &mut output);
     output.show().map_err(|_| Failure::Output)?;
@@ -69,7 +70,7 @@ fn run(stdin: &mut impl Read, stdout: impl Print + Drop) -> Result<(), Failure> 
 }
 
 fn main(rt: HostRuntime) {
-    if let Err(failure) = run(&mut rt.stdin(), rt.stdout()) {
+    if let Err(failure) = run(&mut rt.stdin(), &rt.stdout()) {
         failure.tell(&rt.stdout(), &rt.stderr());
     }
 }

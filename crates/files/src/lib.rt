@@ -37,6 +37,7 @@ pub fn fill(file: &mut impl Read, input: &mut [u8], kept: usize) -> io::Result<F
 pub fn read_full(file: &mut impl Read, buffer: &mut [u8]) -> usize
     ensures { result ≤ length buffer.new }
 {
+    // No range to go over: each turn goes as far as its read does.
     let mut done: usize = 0;
     while done < buffer.len() {
         match file.read(&mut buffer[done..]) {

@@ -6,17 +6,17 @@ use std::io;
 // How many bytes can wait.
 pub const SIZE: usize = 32768;
 
-// The file, and the first `done` bytes of the buffer, which it has yet to be given.
+// The file, and the first `done` bytes of the buffer, which it has yet to be given. An array and a length, since nothing is allocated.
 #[derive(Drop)]
-pub struct Output<W: Print + Drop> {
-    file: W,
+pub struct Output<'a, W: Print> {
+    file: &'a W,
     pub bytes: [u8; SIZE],
     pub done: usize,
     ghost within: { done ≤ 32768 },
 }
 
-impl<W: Print + Drop> Output<W> {
-    pub fn new(file: W) -> Self
+impl<'a, W: Print> Output<'a, W> {
+    pub fn new(file: &'a W) -> Self
         ensures { result.done ≡ 0 }
     {
         Output {

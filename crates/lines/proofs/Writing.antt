@@ -3,7 +3,7 @@ use Rattle.std.specs.Prelude.{Ok, Err}
 use Prim.Native.Nat.{ℕ, suc, ◌+◌, ◌-◌, ◌<◌, ◌≤◌, min}
 use mathlib.Core.Path.{◌≡◌, refl, ap, sym, ◌∙◌}
 use mathlib.Core.Bool.{true, false}
-use mathlib.Core.List.{List, [], ◌∷◌, ◌++◌}
+use mathlib.Core.List.{List, [], ◌∷◌, ◌++◌, append_assoc}
 use lib.Dec.{ltb, leb}
 use lib.ListN.{length, set, length-set, drop, drop_of_length-le}
 use lib.Seq.{sets, set_out}
@@ -13,7 +13,9 @@ use native.Mathlib.Numerals.{add-one}
 use borrow.Author.Tests.{lt-ltb, le-ltb, le-leb, lt-leb, leb-true, leb-false, ltb-true, ltb-false}
 use Rattle.rules.proofs.Laws.Line.{both}
 use Rattle.lines.specs.declared.Refusal.TheVariants as refusal
-use Rattle.lines.specs.Text.{Text, text, write_one, write}
+use Rattle.lines.specs.declared.Text as lent
+use Rattle.lines.specs.Text.{Text, text, write_one, write, text_of, Wrote, numbers_part}
+use Rattle.rules.specs.Lines.{line_feed, end_line, end_word, space}
 use Rattle.lines.specs.Lines.{room, rendered, buffer_with}
 
 pub write_append : (t : Text) (l m : List ℕ) → write t (l ++ m) ≡ write (write t l) m
@@ -29,6 +31,14 @@ write_byte t b l = refl
 -- one text, then another
 pub then : (t u v : Text) (l m : List ℕ) → u ≡ write t l → v ≡ write u m → v ≡ write t (l ++ m)
 then t u v l m p q = rw write_append (rw p at q)
+
+pub wrote_then : (t u v : lent.Text) (l m : List ℕ) → Wrote t l u → Wrote u m v → Wrote t (l ++ m) v
+wrote_then t u v l m p q = (then (text_of t) (text_of u) (text_of v) l m p.0 q.0, q.1 ∙ p.1)
+
+-- the last line, of which "end " is one string
+pub end_parts : (commands refused : ℕ) → 101 ∷ 110 ∷ 100 ∷ 32 ∷ (numbers_part commands refused ++ (10 ∷ [])) ≡ end_line commands refused
+unfolding numbers_part end_line end_word space line_feed
+end_parts commands refused = simp append_assoc refl
 
 -- ---- one byte
 

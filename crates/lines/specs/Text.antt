@@ -1,7 +1,10 @@
 -- Writing byte after byte into a buffer: where the next byte goes, and the parts of a line.
 use Rattle.std.specs.Prelude.{◌≡◌, ℕ, ◌+◌, ◌/◌, ◌%◌, cond, List, [], ◌∷◌, ◌++◌, ltb, length, set, Option}
+use Rattle.std.specs.Borrow.{MutBor}
+use denote.Triple.Both.{Both}
 use Rattle.rules.specs.declared.Running.{Running}
 use Rattle.rules.specs.Lines.{decimal, space, line_feed, number_or_dash, running_or_dash}
+use Rattle.lines.specs.declared.Text as lent
 
 -- a buffer, and where the next byte goes
 pub record Text : Type 0 where
@@ -19,9 +22,21 @@ unfoldable pub write : Text → List ℕ → Text
 write t [] = t
 write t (b ∷ l) = write (write_one t b) l
 
--- What is written to t is this text: whatever place and bytes are left, as `left` says, are those behind the text.
-abbrev pub Writes : (ℕ → List ℕ → Type 0) → Text → List ℕ → Type 0
-Writes left t l = (next : ℕ) (b : List ℕ) → left next b → text b next ≡ write t l
+-- what the code's text stands for
+abbrev pub text_of : lent.Text → Text
+text_of t = text t.buffer.now t.at
+
+-- these bytes went to t, which is u then, with the same buffer
+abbrev pub Wrote : lent.Text → List ℕ → lent.Text → Type 0
+Wrote t l u = (text_of u ≡ write (text_of t) l) × (u.buffer.ghost_name ≡ t.buffer.ghost_name)
+
+-- a function that is lent a text writes these bytes to it
+abbrev pub Writes : Both (MutBor lent.Text) (MutBor lent.Text) → List ℕ → Type 0
+Writes t l = Wrote t.entry.now l t.exit.now
+
+-- the same of a closure, of which `leaves` says what it leaves
+abbrev pub Puts : (lent.Text → Unit {0} → lent.Text → Type 0) → List ℕ → Type 0
+Puts leaves l = (t u : lent.Text) → leaves t tt u → Wrote t l u
 
 -- the last two digits of a number, and the last four, zeros too
 unfoldable pub two_digits : ℕ → List ℕ

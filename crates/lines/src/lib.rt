@@ -5,11 +5,11 @@ ghost use Rattle.std.specs.Prelude.{◌≡◌, ℕ, List, [], ◌∷◌, ◌+◌
 ghost use Rattle.std.specs.Fn.{FnOnceReturnsAtMut};
 ghost use Rattle.rules.specs.Lines.{digits, decimal, number_or_dash, running_or_dash, line, header, end_line};
 ghost use Rattle.lines.specs.Lines.{question_number, refusal_number, answer_of, room, rendered, buffer_with};
-ghost use Rattle.lines.specs.Text.{Writes, text, write, two_digits, four_digits, counts_part, cpu_part, numbers_part};
+ghost use Rattle.lines.specs.Text.{Writes, Puts, text, write, two_digits, four_digits, counts_part, cpu_part, numbers_part};
 
 use rules::Running;
 
-// The question that a command was refused by, with its number.
+// Why a call refuses, with its number: a question that was answered no, or a lent buffer that is too small.
 #[derive(Clone, Copy)]
 pub enum Refusal {
     UnknownCommand = 1,
@@ -47,7 +47,7 @@ impl From<Refusal> for u64 {
     }
 }
 
-// 0 for a command that is obeyed.
+// 0 for a command that is obeyed. A function, since no `From` may stand between an `Option` and a `u64`.
 #[tactic(auto, unfolding(crate::specs::Lines::refusal_number))]
 pub fn refusal_number(refusal: Option<Refusal>) -> u64
     ensures { result ≡ refusal_number refusal }
@@ -55,9 +55,23 @@ pub fn refusal_number(refusal: Option<Refusal>) -> u64
     refusal.map_or(0, u64::from)
 }
 
-// One byte; nothing past the end. Answers where the next one goes.
+// A lent buffer that is written to, and where its next byte goes.
+#[derive(Drop)]
+pub struct Text<'a> {
+    pub buffer: &'a mut [u8],
+    pub at: usize,
+}
+
+// The last digit as a byte; `char::from_digit` would answer an `Option` of a `char`.
+fn digit(n: u64) -> u8
+    ensures { result ≡ 48 + n % 10 }
+{
+    b'0' + (n % 10) as u8
+}
+
+// One byte of a text; answers where the next one goes. By index, since the proof loses what goes through `get_mut`.
 #[tactic(auto, using(crate::proofs::Writing::write_past, crate::proofs::Writing::write_there))]
-pub fn put(buffer: &mut [u8], at: usize, byte: u8) -> usize
+fn put_byte(buffer: &mut [u8], at: usize, byte: u8) -> usize
     ensures { text buffer.new result ≡ write (text buffer.old at) (byte ∷ []) }
 {
     if at < buffer.len() {
@@ -68,31 +82,13 @@ pub fn put(buffer: &mut [u8], at: usize, byte: u8) -> usize
     }
 }
 
-// The bytes of a fixed string.
-#[tactic(auto, using(crate::proofs::Writing::write_done, crate::proofs::Writing::write_next))]
-pub fn put_bytes(buffer: &mut [u8], at: usize, bytes: &[u8]) -> usize
-    ensures { text buffer.new result ≡ write (text buffer.old at) bytes.now }
-{
-    let mut next = at;
-    for byte in bytes {
-        next = put(buffer, next, *byte);
-    }
-    next
-}
-
-fn digit(n: u64) -> u8
-    ensures { result ≡ 48 + n % 10 }
-{
-    b'0' + (n % 10) as u8
-}
-
-// The last two digits of a number.
+// The last two digits of a number. Digits go to a buffer and a place, which stay in registers: through a `Text` they cost `replay` and `explain` 4 to 6 %. The library's `itoa` would fill a buffer of its own, to be copied.
 #[tactic(auto, using(crate::proofs::Writing::write_byte), unfolding(crate::specs::Text::two_digits))]
 fn put_two(buffer: &mut [u8], at: usize, n: u64) -> usize
     ensures { text buffer.new result ≡ write (text buffer.old at) (two_digits n) }
 {
-    let next = put(buffer, at, digit(n / 10));
-    put(buffer, next, digit(n))
+    let next = put_byte(buffer, at, digit(n / 10));
+    put_byte(buffer, next, digit(n))
 }
 
 // The last four digits of a number.
@@ -110,10 +106,10 @@ fn put_short(buffer: &mut [u8], at: usize, n: u64) -> usize
     ensures { text buffer.new result ≡ write (text buffer.old at) (digits 4 n) }
 {
     match n {
-        0..=9 => put(buffer, at, digit(n)),
+        0..=9 => put_byte(buffer, at, digit(n)),
         10..=99 => put_two(buffer, at, n),
         100..=999 => {
-            let tens = put(buffer, at, digit(n / 100));
+            let tens = put_byte(buffer, at, digit(n / 100));
             put_two(buffer, tens, n)
         }
         _ => put_four(buffer, at, n),
@@ -132,90 +128,109 @@ fn put_long(buffer: &mut [u8], at: usize, n: u64) -> usize
     put_four(buffer, next, n % 10000)
 }
 
-// A number in decimal digits. One digit, the common case, is written without a further call.
-#[tactic(auto, using(crate::proofs::Digits::decimal_small))]
-pub fn put_number(buffer: &mut [u8], at: usize, n: u64) -> usize
-    ensures { text buffer.new result ≡ write (text buffer.old at) (decimal n) }
-{
-    if n < 10 {
-        return put(buffer, at, digit(n));
+impl Text<'_> {
+    // One byte; nothing past the end.
+    pub fn put(&mut self, byte: u8)
+        ensures { Writes self (byte ∷ []) }
+    {
+        self.at = put_byte(self.buffer, self.at, byte);
     }
-    put_long(buffer, at, n)
-}
 
-#[tactic(auto, unfolding(rules::specs::Lines::number_or_dash, rules::specs::Lines::dash))]
-fn put_shown(buffer: &mut [u8], at: usize, shown: Option<u64>) -> usize
-    ensures { text buffer.new result ≡ write (text buffer.old at) (number_or_dash shown) }
-{
-    match shown {
-        Some(n) => put_number(buffer, at, n),
-        None => put(buffer, at, b'-'),
+    // These bytes.
+    #[tactic(auto, using(crate::proofs::Writing::write_done, crate::proofs::Writing::write_next))]
+    pub fn put_bytes(&mut self, bytes: &[u8])
+        ensures { Writes self bytes.now }
+    {
+        for byte in bytes {
+            self.put(*byte);
+        }
     }
-}
 
-#[tactic(auto, unfolding(rules::specs::Lines::running_or_dash, rules::specs::Lines::idle_word, rules::specs::Lines::dash))]
-fn put_running(buffer: &mut [u8], at: usize, running: Option<Running>) -> usize
-    ensures { text buffer.new result ≡ write (text buffer.old at) (running_or_dash running) }
-{
-    match running {
-        Some(Running::Thread(n)) => put_number(buffer, at, n),
-        Some(Running::Idle) => put_bytes(buffer, at, b"idle"),
-        None => put(buffer, at, b'-'),
+    // A number in decimal digits. One digit, the common case, is written without a further call.
+    #[tactic(auto, using(crate::proofs::Digits::decimal_small))]
+    pub fn put_number(&mut self, n: u64)
+        ensures { Writes self (decimal n) }
+    {
+        if n < 10 {
+            self.put(digit(n));
+        } else {
+            self.at = put_long(self.buffer, self.at, n);
+        }
     }
-}
 
-// Queue load and wake-ups, up to the line's end.
-#[tactic(auto, using(crate::proofs::Writing::write_append, crate::proofs::Writing::write_byte), unfolding(crate::specs::Text::counts_part, rules::specs::Lines::space, rules::specs::Lines::line_feed))]
-fn put_counts(buffer: &mut [u8], at: usize, load: Option<u64>, wakeups: Option<u64>) -> usize
-    ensures { text buffer.new result ≡ write (text buffer.old at) (counts_part load wakeups) }
-{
-    let a = put(buffer, at, b' ');
-    let b = put_shown(buffer, a, load);
-    let c = put(buffer, b, b' ');
-    let d = put_shown(buffer, c, wakeups);
-    put(buffer, d, b'\n')
-}
+    #[tactic(auto, unfolding(rules::specs::Lines::number_or_dash, rules::specs::Lines::dash))]
+    fn put_shown(&mut self, shown: Option<u64>)
+        ensures { Writes self (number_or_dash shown) }
+    {
+        match shown {
+            Some(n) => self.put_number(n),
+            None => self.put(b'-'),
+        }
+    }
 
-// The CPU and what it runs.
-#[tactic(auto, using(crate::proofs::Writing::write_append, crate::proofs::Writing::write_byte), unfolding(crate::specs::Text::cpu_part, rules::specs::Lines::space))]
-fn put_cpu(buffer: &mut [u8], at: usize, cpu: Option<u64>, running: Option<Running>) -> usize
-    ensures { text buffer.new result ≡ write (text buffer.old at) (cpu_part cpu running) }
-{
-    let a = put(buffer, at, b' ');
-    let b = put_shown(buffer, a, cpu);
-    let c = put(buffer, b, b' ');
-    put_running(buffer, c, running)
-}
+    #[tactic(auto, unfolding(rules::specs::Lines::running_or_dash, rules::specs::Lines::idle_word, rules::specs::Lines::dash))]
+    fn put_running(&mut self, running: Option<Running>)
+        ensures { Writes self (running_or_dash running) }
+    {
+        match running {
+            Some(Running::Thread(n)) => self.put_number(n),
+            Some(Running::Idle) => self.put_bytes(b"idle"),
+            None => self.put(b'-'),
+        }
+    }
 
-// The command's number and its refusal.
-#[tactic(auto, using(crate::proofs::Writing::write_append, crate::proofs::Writing::write_byte), unfolding(crate::specs::Text::numbers_part, rules::specs::Lines::space))]
-fn put_numbers(buffer: &mut [u8], at: usize, number: u64, refusal: u64) -> usize
-    ensures { text buffer.new result ≡ write (text buffer.old at) (numbers_part number refusal) }
-{
-    let a = put_number(buffer, at, number);
-    let b = put(buffer, a, b' ');
-    put_number(buffer, b, refusal)
-}
+    // Queue load and wake-ups, up to the line's end.
+    #[tactic(auto, using(crate::proofs::Writing::write_append, crate::proofs::Writing::write_byte), unfolding(crate::specs::Text::counts_part, rules::specs::Lines::space, rules::specs::Lines::line_feed))]
+    fn put_counts(&mut self, load: Option<u64>, wakeups: Option<u64>)
+        ensures { Writes self (counts_part load wakeups) }
+    {
+        self.put(b' ');
+        self.put_shown(load);
+        self.put(b' ');
+        self.put_shown(wakeups);
+        self.put(b'\n');
+    }
 
-// The line of one command.
-#[tactic(auto, using(crate::proofs::Writing::write_append), unfolding(crate::specs::Lines::answer_of, rules::specs::Lines::line, crate::specs::Text::numbers_part, crate::specs::Text::cpu_part, crate::specs::Text::counts_part))]
-fn put_line(buffer: &mut [u8], at: usize, number: u64, answer: Answer) -> usize
-    ensures { text buffer.new result ≡ write (text buffer.old at) (line number (answer_of answer)) }
-{
-    let a = put_numbers(buffer, at, number, refusal_number(answer.refusal));
-    let b = put_cpu(buffer, a, answer.cpu, answer.running);
-    put_counts(buffer, b, answer.load, answer.wakeups)
-}
+    // The CPU and what it runs.
+    #[tactic(auto, using(crate::proofs::Writing::write_append, crate::proofs::Writing::write_byte), unfolding(crate::specs::Text::cpu_part, rules::specs::Lines::space))]
+    fn put_cpu(&mut self, cpu: Option<u64>, running: Option<Running>)
+        ensures { Writes self (cpu_part cpu running) }
+    {
+        self.put(b' ');
+        self.put_shown(cpu);
+        self.put(b' ');
+        self.put_running(running);
+    }
 
-// The line that ends a run.
-#[tactic(auto, using(crate::proofs::Writing::write_append, crate::proofs::Writing::write_byte), unfolding(rules::specs::Lines::end_line, crate::specs::Text::numbers_part, rules::specs::Lines::end_word, rules::specs::Lines::space, rules::specs::Lines::line_feed))]
-fn put_end(buffer: &mut [u8], at: usize, commands: u64, refused: u64) -> usize
-    ensures { text buffer.new result ≡ write (text buffer.old at) (end_line commands refused) }
-{
-    let a = put_bytes(buffer, at, b"end");
-    let b = put(buffer, a, b' ');
-    let c = put_numbers(buffer, b, commands, refused);
-    put(buffer, c, b'\n')
+    // Two numbers, with a space between.
+    #[tactic(auto, using(crate::proofs::Writing::write_append, crate::proofs::Writing::write_byte), unfolding(crate::specs::Text::numbers_part, rules::specs::Lines::space))]
+    fn put_numbers(&mut self, first: u64, second: u64)
+        ensures { Writes self (numbers_part first second) }
+    {
+        self.put_number(first);
+        self.put(b' ');
+        self.put_number(second);
+    }
+
+    // The line of one command.
+    #[tactic(auto, using(crate::proofs::Writing::write_append), unfolding(crate::specs::Lines::answer_of, rules::specs::Lines::line, crate::specs::Text::numbers_part, crate::specs::Text::cpu_part, crate::specs::Text::counts_part))]
+    fn put_line(&mut self, number: u64, answer: Answer)
+        ensures { Writes self (line number (answer_of answer)) }
+    {
+        self.put_numbers(number, refusal_number(answer.refusal));
+        self.put_cpu(answer.cpu, answer.running);
+        self.put_counts(answer.load, answer.wakeups);
+    }
+
+    // The line that ends a run.
+    #[tactic(auto, using(crate::proofs::Writing::write_append, crate::proofs::Writing::write_byte), unfolding(rules::specs::Lines::end_line, crate::specs::Text::numbers_part, rules::specs::Lines::end_word, rules::specs::Lines::space, rules::specs::Lines::line_feed))]
+    fn put_end(&mut self, commands: u64, refused: u64)
+        ensures { Writes self (end_line commands refused) }
+    {
+        self.put_bytes(b"end ");
+        self.put_numbers(commands, refused);
+        self.put(b'\n');
+    }
 }
 
 // "has the lent buffer at least 48 bytes?", counted from `at` on.
@@ -227,22 +242,23 @@ pub fn has_room(buffer: &[u8], at: usize) -> bool
 }
 
 // The line that `put` writes from `at` on, if the buffer has room for one.
-fn render_with<F: FnOnce(&mut [u8]) -> usize>(
+fn render_with<F: FnOnce(&mut Text<'_>)>(
     buffer: &mut [u8],
     at: usize,
     put: F,
 ) -> Result<usize, Refusal>
     requires { F.IsAlwaysCallable put }
-    ensures { (l : List ℕ) → Writes (FnOnceReturnsAtMut F.FnOnce put buffer.old) (text buffer.old at) l → (result ≡ rendered buffer.old at l) × (buffer.new ≡ buffer_with buffer.old at l) }
+    ensures { (l : List ℕ) → Puts (FnOnceReturnsAtMut F.FnOnce put) l → (result ≡ rendered buffer.old at l) × (buffer.new ≡ buffer_with buffer.old at l) }
 {
     if !has_room(buffer, at) {
         return Err(Refusal::SmallBuffer);
     }
-    let next = put(buffer);
-    Ok(next.saturating_sub(at))
+    let mut text = Text { buffer, at };
+    put(&mut text);
+    Ok(text.at.saturating_sub(at))
 }
 
-// The line of one command, from `at` on.
+// The line of one command, from `at` on: C keeps the place as a number, beside its buffer.
 pub fn render_at(
     buffer: &mut [u8],
     at: usize,
@@ -251,7 +267,11 @@ pub fn render_at(
 ) -> Result<usize, Refusal>
     ensures { (result ≡ rendered buffer.old at (line number (answer_of answer))) × (buffer.new ≡ buffer_with buffer.old at (line number (answer_of answer))) }
 {
-    render_with(buffer, at, |b: &mut [u8]| put_line(b, at, number, answer))
+    render_with(
+        buffer,
+        at,
+        |text: &mut Text<'_>| text.put_line(number, answer),
+    )
 }
 
 // The first line, from `at` on.
@@ -259,7 +279,11 @@ pub fn render_at(
 pub fn render_header(buffer: &mut [u8], at: usize) -> Result<usize, Refusal>
     ensures { (result ≡ rendered buffer.old at header) × (buffer.new ≡ buffer_with buffer.old at header) }
 {
-    render_with(buffer, at, |b: &mut [u8]| put_bytes(b, at, b"sched 1\n"))
+    render_with(
+        buffer,
+        at,
+        |text: &mut Text<'_>| text.put_bytes(b"sched 1\n"),
+    )
 }
 
 // The last line, from `at` on.
@@ -271,7 +295,11 @@ pub fn render_end(
 ) -> Result<usize, Refusal>
     ensures { (result ≡ rendered buffer.old at (end_line commands refused)) × (buffer.new ≡ buffer_with buffer.old at (end_line commands refused)) }
 {
-    render_with(buffer, at, |b: &mut [u8]| put_end(b, at, commands, refused))
+    render_with(
+        buffer,
+        at,
+        |text: &mut Text<'_>| text.put_end(commands, refused),
+    )
 }
 
 // The line of one command.

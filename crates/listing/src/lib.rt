@@ -3,10 +3,10 @@
 
 ghost use Rattle.std.specs.Prelude.{◌≡◌, cond, length, take};
 ghost use Rattle.request.specs.Fields.{list_of, row};
-ghost use Rattle.lines.specs.Text.{text, write};
+ghost use Rattle.lines.specs.Text.{Writes, text, write};
 ghost use Rattle.listing.specs.Listing.{numbers, no_pin, listed};
 
-use lines::{put, put_number};
+use lines::Text;
 use names::put_name;
 use request::all_ones;
 use request::fields::{Fields, field_count};
@@ -35,25 +35,25 @@ fn shown_count(byte: u8, fields: Fields, wide: bool) -> usize
 }
 
 // The first `count` fields, each behind a space.
-fn put_fields(buffer: &mut [u8], at: usize, fields: Fields, count: usize) -> usize
-    ensures { text buffer.new result ≡ write (text buffer.old at) (numbers (take count (list_of fields))) }
+fn put_fields(text: &mut Text<'_>, fields: Fields, count: usize)
+    ensures { Writes text (numbers (take count (list_of fields))) }
 {
     let all = [fields.first, fields.second, fields.third, fields.fourth];
-    let mut next = at;
     for number in &all[..count.min(all.len())] {
-        let behind = put(buffer, next, b' ');
-        next = put_number(buffer, behind, *number);
+        text.put(b' ');
+        text.put_number(*number);
     }
-    next
 }
 
-// The line of one command.
+// The line of one command, from any place of a buffer on, as the law of a whole line has it (proofs/Whole).
 #[tactic(auto, using(lines::proofs::Writing::write_append), unfolding(crate::specs::Listing::listed, crate::specs::Listing::shown_fields, rules::specs::Lines::line_feed))]
 pub fn list_command(buffer: &mut [u8], at: usize, byte: u8, fields: Fields, wide: bool) -> usize
     ensures { text buffer.new result ≡ write (text buffer.old at) (listed wide byte (list_of fields)) }
 {
     let count = shown_count(byte, fields, wide);
-    let a = put_name(buffer, at, byte);
-    let b = put_fields(buffer, a, fields, count);
-    put(buffer, b, b'\n')
+    let mut text = Text { buffer, at };
+    put_name(&mut text, byte);
+    put_fields(&mut text, fields, count);
+    text.put(b'\n');
+    text.at
 }

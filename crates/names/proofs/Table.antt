@@ -64,9 +64,9 @@ four_at f (suc (suc zero)) d h = refl
 four_at f (suc (suc (suc zero))) d h = refl
 four_at f (suc (suc (suc (suc i)))) d h = absurd (omega arith)
 
-pub field_at : {A : Type 0} (now : A → List ℕ) (fs : List A) (byte i : ℕ) (d : A)
-    → map now fs ≡ field_name byte 0 ∷ field_name byte 1 ∷ field_name byte 2 ∷ field_name byte 3 ∷ [] → i < 4
-    → now (get_or fs i d) ≡ field_name byte i
-field_at now fs byte i d e h =
+pub field_at : {A : Type 0} (now : A → List ℕ) (fs : List A) (byte i : ℕ) (x : A)
+    → map now fs ≡ field_name byte 0 ∷ field_name byte 1 ∷ field_name byte 2 ∷ field_name byte 3 ∷ []
+    → x ≡ get_or fs i x → i < length fs → now x ≡ field_name byte i
+field_at now fs byte i x e found h =
     let long : length fs ≡ 4 = sym (length-map fs now) ∙ ap length e in
-    sym (get_or-map now fs i d (now d) (omega arith)) ∙ rw e (four_at (field_name byte) i (now d) h)
+    ap now found ∙ (sym (get_or-map now fs i x (now x) h) ∙ rw e (four_at (field_name byte) i (now x) (omega arith)))

@@ -1,16 +1,17 @@
-// The names of the commands and of their fields, written into a lent buffer.
+// The names of the commands and of their fields, put into a text.
 #![tactic(auto)]
 
 ghost use Rattle.std.specs.Prelude.{◌≡◌, ◌∷◌, [], map};
-ghost use Rattle.lines.specs.Text.{text, write};
+ghost use Rattle.lines.specs.Text.{Writes};
 ghost use Rattle.names.specs.Names.{name_of, field_name};
 
-use lines::put_bytes;
+use lines::Text;
 
 // The name of a command and those of its fields, each "" where there is none.
 fn names(byte: u8) -> (&'static str, [&'static str; 4])
     ensures { (result.0.now ≡ name_of byte) × (map (λ s. s.now) result.1 ≡ field_name byte 0 ∷ field_name byte 1 ∷ field_name byte 2 ∷ field_name byte 3 ∷ []) }
 {
+    // A jump on the byte, for each command that is listed; `parse` searches its own table by name.
     match byte {
         0x01 => ("cpu", ["cpu", "", "", ""]),
         0x02 => ("node", ["parent", "type", "", ""]),
@@ -33,22 +34,20 @@ fn names(byte: u8) -> (&'static str, [&'static str; 4])
 }
 
 // The name of a command; nothing for a byte that is not in the table.
-pub fn put_name(buffer: &mut [u8], at: usize, byte: u8) -> usize
-    ensures { text buffer.new result ≡ write (text buffer.old at) (name_of byte) }
+pub fn put_name(text: &mut Text<'_>, byte: u8)
+    ensures { Writes text (name_of byte) }
 {
     let (name, _) = names(byte);
-    put_bytes(buffer, at, name.as_bytes())
+    text.put_bytes(name.as_bytes());
 }
 
 // The name of a command's field number i, from 0; nothing where it has no such field.
 #[tactic(auto, using(crate::proofs::Table::past_four), unfolding(lines::specs::Text::write))]
-pub fn put_field_name(buffer: &mut [u8], at: usize, byte: u8, i: usize) -> usize
-    ensures { text buffer.new result ≡ write (text buffer.old at) (field_name byte i) }
+pub fn put_field_name(text: &mut Text<'_>, byte: u8, i: usize)
+    ensures { Writes text (field_name byte i) }
 {
     let (_, fields) = names(byte);
-    if i < fields.len() {
-        put_bytes(buffer, at, fields[i].as_bytes())
-    } else {
-        at
+    if let Some(name) = fields.get(i) {
+        text.put_bytes(name.as_bytes());
     }
 }

@@ -8,7 +8,8 @@ use questions::state::State;
 use rules::Running;
 use thread::NONE;
 
-// The answer that a line shows, the bytes that the command took, and the state for the next call.
+// The answer that a line shows, the bytes that the command took, and the state for the next call. The functions of a command are given state and bytes apart:
+// the one goes on changed, the other as it is, and each clause says the whole.
 #[derive(Clone, Copy)]
 pub struct Answered {
     pub answer: Answer,
@@ -64,7 +65,7 @@ pub fn changed(state: State, used: usize) -> Answered
     }
 }
 
-// What a CPU runs, of the number of the thread in its words.
+// What a CPU runs, of the word that says it, NONE for the idle thread. No `From`: both types are of other crates.
 #[tactic(auto, unfolding(crate::specs::Answer::running_in))]
 pub fn running_in(x: u64) -> Running
     ensures { result ≡ running_in x }

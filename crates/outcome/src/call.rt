@@ -15,10 +15,9 @@ use sched_words::context::{Context, SchedFlags};
 use thread::priority::class_at;
 use thread::{NONE, Thread};
 use topology::cpuset::MAX_CPU_ID;
-use topology::node::lesser;
 use topology::words::NodeWords;
 
-// What the bytes from `at` to below n ask.
+// What the bytes from `at` to below n ask. The length is beside them as C gives it (`scheduler_feed`), also past their end.
 #[tactic(auto, using(crate::specs::Call::reading_again, std::proofs::lemmas::List::take_min))]
 pub fn asked(bytes: &[u8], n: usize, at: usize, wide: bool) -> Reading
     ensures { result ≡ asked_def bytes.now n at wide }
@@ -26,7 +25,8 @@ pub fn asked(bytes: &[u8], n: usize, at: usize, wide: bool) -> Reading
     read(&bytes[..n.min(bytes.len())], at, wide)
 }
 
-// What was read, unless a question is answered no; t is the record of the thread that it names.
+// What was read, unless a question is answered no; t is the record of the thread that it names. It is `refusal_of` with the number made a refusal again, as the
+// rules of a command have it.
 #[tactic(auto, using(crate::specs::Call::judged_again))]
 pub fn judged(
     cpus: &[CpuWords],
@@ -41,7 +41,7 @@ pub fn judged(
     refusal_of(cpus, nodes, state, t, reading)
 }
 
-// The thread that is named; NONE where there is none.
+// The thread that is named. NONE where there is none: no record has that number, so the record read for it is blank.
 #[tactic(auto, unfolding(crate::specs::Call::thread_in, crate::specs::Call::thread_named, request::specs::Request::reading_of, request::specs::Request::request_of))]
 pub fn thread_named(reading: Reading) -> u64
     ensures { result ≡ thread_in (reading_of reading) }
@@ -59,6 +59,7 @@ pub fn thread_named(reading: Reading) -> u64
     }
 }
 
+// A pin as a new record is given it (`Thread::new`), NONE for none, as the rules' words of a record have it.
 #[tactic(auto, unfolding(crate::specs::Call::pin_number))]
 pub fn pin_number(pin: Option<u64>) -> u64
     ensures { result ≡ pin_number pin }
@@ -66,6 +67,7 @@ pub fn pin_number(pin: Option<u64>) -> u64
     pin.unwrap_or(NONE)
 }
 
+// Of operands as they came in: that they mean a class and a value is question 6.
 #[tactic(auto, unfolding(crate::specs::Call::priority_in))]
 pub fn priority_in(class: u64, value: u64) -> Priority
     ensures { result ≡ priority_in class value }
@@ -78,7 +80,7 @@ pub fn priority_in(class: u64, value: u64) -> Priority
 
 // The CPU that runs the command, the tick, the shortest timeslice, and the limit of CPU numbers, which no set of CPUs exceeds: so a search ends soon
 // whatever the state says.
-#[tactic(auto, unfolding(crate::specs::Call::context_of, topology::specs::CpuSet::max_cpu_id))]
+#[tactic(auto, unfolding(crate::specs::Call::context_of, topology::specs::CpuSet::max_cpu_id, topology::specs::Node::lesser))]
 pub fn context_of(state: State, cpu: u64) -> Context
     ensures { result ≡ context_of state cpu }
 {
@@ -86,10 +88,11 @@ pub fn context_of(state: State, cpu: u64) -> Context
         us: cpu,
         tick: state.tick,
         shortest: state.shortest,
-        limit: lesser(state.cpus, MAX_CPU_ID),
+        limit: state.cpus.min(MAX_CPU_ID),
     }
 }
 
+// The bits of an operand. No `From`: both types are of other crates, and that of the flags knows no operands.
 #[tactic(auto, unfolding(crate::specs::Call::flags_in))]
 pub fn flags_in(flags: u64) -> SchedFlags
     ensures { result ≡ flags_in flags }

@@ -1,4 +1,4 @@
-// A command by value: what it asks as numbers, the questions put to it, the state that it leaves, and its answer; and the commands before the seal.
+// A command by value: the thread that it names, the questions put to it, the state that it leaves, and its answer; and the commands before the seal.
 #![tactic(auto)]
 
 pub mod answer;

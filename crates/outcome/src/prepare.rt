@@ -20,6 +20,7 @@ pub fn declare_cpu(cpus: &mut [CpuWords], state: State, cpu: u64, used: usize) -
     changed(state, used)
 }
 
+// kind is the operand as it came in: that it means a type of node is question 6.
 pub fn add_node(
     nodes: &mut [NodeWords],
     state: State,

@@ -77,6 +77,7 @@ fn no_fields() -> Fields
     }
 }
 
+// By number: the fields are C's struct, which is no array.
 #[tactic(auto, unfolding(request::specs::Fields::list_of))]
 fn set_field(fields: &mut Fields, i: usize, value: u64)
     ensures { list_of fields.new ≡ set (list_of fields.old) i value }

@@ -2,7 +2,7 @@
 ghost use Rattle.std.specs.Prelude.{◌≡◌};
 ghost use Rattle.parse.specs.Numbers.{digit, base, next, digits, number_of};
 
-// 16 for a byte that is no digit.
+// 16 for a byte that is no digit; `char::to_digit` would answer an `Option` of a `u32` of a `char`.
 #[tactic(auto, unfolding(crate::specs::Numbers::digit))]
 fn digit(byte: u8) -> u64
     ensures { result ≡ digit byte }
@@ -48,6 +48,7 @@ fn digits(word: &[u8], hexadecimal: bool) -> Option<u64>
     Some(n)
 }
 
+// The library's `from_str_radix` reads a text, not bytes, and takes a sign before the digits.
 #[tactic(auto, unfolding(crate::specs::Numbers::number_of, crate::specs::Numbers::is_hexadecimal))]
 pub fn number_of(word: &[u8]) -> Option<u64>
     ensures { result ≡ number_of word.now }

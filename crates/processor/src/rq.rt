@@ -13,20 +13,19 @@ use queue::pq::PriorityQueue;
 use queue::timeshare::TimeshareQueue;
 use rules::Part;
 use runqueue::rq::{Arrival, Front, RunQueue};
+use std::array;
 use thread::NONE;
 
+// Eight words of a row. Their place is a number at each call, where its bound is seen; a type of its own would carry the same bound.
 #[tactic(auto, unfolding(crate::specs::Window::load_n))]
 fn load(row: &CpuWords, at: usize) -> [u64; 8]
     requires { at + 8 ≤ 96 }
     ensures { result ≡ load_n row.now at 8 8 }
 {
-    let mut out = [0u64; 8];
-    for i in 0usize..8 {
-        out[i] = row[at + i];
-    }
-    out
+    array::from_fn(|i| row[at + i])
 }
 
+// Word by word: `copy_from_slice` copies through a pointer, and a put and a take cost a tenth more instructions.
 #[tactic(auto, unfolding(crate::specs::Window::place_n))]
 fn store(row: &mut CpuWords, at: usize, v: [u64; 8])
     requires { at + 8 ≤ 96 }
@@ -159,18 +158,15 @@ fn part_into(row: &mut CpuWords, part: Part, q: RunQueue)
 pub fn load_queue(cpus: &[CpuWords], c: u64) -> RunQueue
     ensures { result ≡ queue_at cpus.now c }
 {
-    let i = c as usize;
-    if i < cpus.len() {
-        queue_in(&cpus[i])
-    } else {
-        queue_in(&[0; 96])
-    }
+    let row = cpus.get(c as usize);
+    row.map_or_else(|| queue_in(&[0; 96]), queue_in)
 }
 
 #[tactic(auto, using(crate::proofs::Laws::Queue::stored_out), unfolding(crate::specs::Queue::queue_stored))]
 pub fn store_queue(cpus: &mut [CpuWords], c: u64, q: RunQueue)
     ensures { cpus.new ≡ queue_stored cpus.old c q }
 {
+    // The length is asked, here and below, since `get_mut` does not say what the slice becomes.
     let i = c as usize;
     if i < cpus.len() {
         queue_into(&mut cpus[i], q);
@@ -235,7 +231,8 @@ fn next(cpus: &[CpuWords], c: u64) -> Option<Front>
         .or_else(|| load_queue(cpus, c).front_of(Part::Idle))
 }
 
-// Who leaves if a thread is asked of the queue of CPU c. A stealing take finds nobody where all are pinned.
+// Who leaves if a thread is asked of the queue of CPU c, as `RunQueue::front` says of a queue that is loaded whole. A stealing take finds nobody where all are
+// pinned.
 #[tactic(auto, unfolding(runqueue::specs::RunQueue::rq_front))]
 pub fn front(cpus: &[CpuWords], c: u64, stealing: bool) -> Option<Front>
     ensures { result ≡ rq_front (queue_at cpus.now c) stealing }
@@ -274,7 +271,7 @@ fn taken_none(cpus: &mut [CpuWords], c: u64)
     store_numbers(cpus, c, q);
 }
 
-// The thread that `front` answered, the first of its list, has left: its link was `next`, its value when it was put in `value`.
+// Each arm names its part, as in `insert_into`. The thread that `front` answered, the first of its list, has left: its link was `next`, its value when it was put in `value`.
 #[tactic(auto, using(crate::proofs::Parts::took_stored), unfolding(runqueue::specs::RunQueue::rq_taken))]
 pub fn taken_front(
     cpus: &mut [CpuWords],

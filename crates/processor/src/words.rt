@@ -1,4 +1,6 @@
-// The words of all CPUs, 96 to a CPU. Past the last CPU a word is 0, and a store does nothing.
+// The words of all CPUs, 96 to a CPU. Past the last CPU a word is 0, and a store does nothing. C lends them, so NONE stands in a word for none. The words
+// of nodes have functions of their own (topology), of the same four lines under definitions that the laws of each cite: common ones, of any number of words,
+// would ask that it be not 0.
 ghost use Rattle.std.specs.Prelude.{◌≡◌};
 ghost use Rattle.processor.specs.Words.{word, put_word};
 
@@ -54,6 +56,7 @@ pub fn word(cpus: &[CpuWords], c: u64, w: usize) -> u64
 pub fn put_word(cpus: &mut [CpuWords], c: u64, w: usize, v: u64)
     ensures { cpus.new ≡ put_word cpus.old c w v }
 {
+    // The length is asked, since `get_mut` does not say what the slice becomes.
     let i = c as usize;
     if i < cpus.len() {
         cpus[i][w % 96] = v;

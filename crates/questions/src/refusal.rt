@@ -24,7 +24,7 @@ fn must(yes: bool, refusal: Refusal) -> Result<(), Refusal>
 }
 
 #[tactic(auto, using(crate::proofs::Asking::all_yes, crate::proofs::Asking::no, crate::proofs::Asking::yes), unfolding(crate::specs::Questions::answer_number, lines::specs::Lines::question_number, rules::specs::Questions::question, crate::specs::Questions::room))]
-fn last(state: State) -> Result<(), Refusal>
+fn room_left(state: State) -> Result<(), Refusal>
     ensures { answer_number result ≡ first_no (room state ∷ []) }
 {
     must(state.room(), Refusal::TooMany)
@@ -36,7 +36,7 @@ fn declare_cpu(cpus: &[CpuWords], state: State, c: u64) -> Result<(), Refusal>
 {
     must(!state.sealed, Refusal::WrongSideOfSeal)?;
     must(new(cpus, state, c), Refusal::Cpu)?;
-    last(state)
+    room_left(state)
 }
 
 // Of a new child node, whose type is in range or not.
@@ -49,7 +49,7 @@ fn add_node(nodes: &[NodeWords], state: State, p: u64, ranges: bool) -> Result<(
     must(state.node_exists(p), Refusal::OutOfRange)?;
     must(!has_cpus(nodes, p), Refusal::OutOfRange)?;
     must(state.node_fits(), Refusal::OutOfRange)?;
-    last(state)
+    room_left(state)
 }
 
 #[tactic(auto, using(crate::proofs::Asking::no, crate::proofs::Asking::yes), unfolding(crate::specs::Questions::answer_number, lines::specs::Lines::question_number, rules::specs::Questions::question, crate::specs::Questions::open_yet, crate::specs::Questions::cpu_unplaced, crate::specs::Questions::node_exists, crate::specs::Questions::node_childless))]
@@ -66,7 +66,7 @@ fn place_cpu(
     must(unplaced(cpus, state, c), Refusal::Cpu)?;
     must(state.node_exists(n), Refusal::OutOfRange)?;
     must(!has_children(nodes, n), Refusal::OutOfRange)?;
-    last(state)
+    room_left(state)
 }
 
 #[tactic(auto, using(crate::proofs::Asking::no, crate::proofs::Asking::yes), unfolding(crate::specs::Questions::answer_number, lines::specs::Lines::question_number, rules::specs::Questions::question, crate::specs::Questions::open_yet, crate::specs::Questions::all_placed))]
@@ -75,7 +75,7 @@ fn seal(cpus: &[CpuWords], state: State) -> Result<(), Refusal>
 {
     must(!state.sealed, Refusal::WrongSideOfSeal)?;
     must(all_placed(cpus, state), Refusal::NotPlaced)?;
-    last(state)
+    room_left(state)
 }
 
 // Of a setting, which is in range or not.
@@ -85,7 +85,7 @@ fn setting(state: State, ranges: bool) -> Result<(), Refusal>
 {
     must(!state.sealed, Refusal::WrongSideOfSeal)?;
     must(ranges, Refusal::OutOfRange)?;
-    last(state)
+    room_left(state)
 }
 
 // Is thread x new, whose record is t?
@@ -111,7 +111,7 @@ fn declare_thread(
     must(pin_declared(cpus, state, pin), Refusal::Cpu)?;
     must(thread_new(x, t), Refusal::Thread)?;
     must(ranges, Refusal::OutOfRange)?;
-    last(state)
+    room_left(state)
 }
 
 #[tactic(auto, using(crate::proofs::Asking::no, crate::proofs::Asking::yes), unfolding(crate::specs::Questions::answer_number, lines::specs::Lines::question_number, rules::specs::Questions::question, crate::specs::Questions::sealed_now, crate::specs::Questions::tick_fits))]
@@ -120,7 +120,7 @@ fn set_tick(state: State, tick: u64) -> Result<(), Refusal>
 {
     must(state.sealed, Refusal::WrongSideOfSeal)?;
     must(state.tick_fits(tick), Refusal::Tick)?;
-    last(state)
+    room_left(state)
 }
 
 #[tactic(auto, using(crate::proofs::Asking::no, crate::proofs::Asking::yes), unfolding(crate::specs::Questions::answer_number, lines::specs::Lines::question_number, rules::specs::Questions::question, crate::specs::Questions::sealed_now, crate::specs::Questions::cpu_declared, crate::specs::Questions::thread_declared, crate::specs::Questions::thread_blocked))]
@@ -131,7 +131,7 @@ fn schedule_thread(cpus: &[CpuWords], state: State, t: Thread, c: u64) -> Result
     must(declared(cpus, state, c), Refusal::Cpu)?;
     must(t.is_declared(), Refusal::Thread)?;
     must(t.is_blocked(), Refusal::NotBlocked)?;
-    last(state)
+    room_left(state)
 }
 
 // Of a command that CPU c runs, whose other operands are in range or not.
@@ -142,7 +142,7 @@ fn on_cpu(cpus: &[CpuWords], state: State, c: u64, ranges: bool) -> Result<(), R
     must(state.sealed, Refusal::WrongSideOfSeal)?;
     must(declared(cpus, state, c), Refusal::Cpu)?;
     must(ranges, Refusal::OutOfRange)?;
-    last(state)
+    room_left(state)
 }
 
 #[tactic(auto, using(crate::proofs::Asking::no, crate::proofs::Asking::yes), unfolding(crate::specs::Questions::answer_number, lines::specs::Lines::question_number, rules::specs::Questions::question, crate::specs::Questions::sealed_now, crate::specs::Questions::cpu_declared, crate::specs::Questions::thread_declared))]
@@ -153,7 +153,7 @@ fn donate(cpus: &[CpuWords], state: State, t: Thread, c: u64, ranges: bool) -> R
     must(declared(cpus, state, c), Refusal::Cpu)?;
     must(t.is_declared(), Refusal::Thread)?;
     must(ranges, Refusal::OutOfRange)?;
-    last(state)
+    room_left(state)
 }
 
 // Of a command on a thread after the seal.
@@ -164,7 +164,7 @@ fn of_thread(state: State, t: Thread, ranges: bool) -> Result<(), Refusal>
     must(state.sealed, Refusal::WrongSideOfSeal)?;
     must(t.is_declared(), Refusal::Thread)?;
     must(ranges, Refusal::OutOfRange)?;
-    last(state)
+    room_left(state)
 }
 
 // Of a request; t is the record of the thread that it names.

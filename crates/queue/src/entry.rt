@@ -29,7 +29,7 @@ fn packed(table: &[u64; 256], r: u64) -> u64
     word
 }
 
-// Row r modulo 16 of the table. Each arm names its row: a constant to the compiler.
+// Row r modulo 16 of the table. Each arm names its row, a constant to the compiler: an index would make the array anew for each put.
 fn row(r: u64) -> u64
     ensures { result ≡ row_word table r }
 {

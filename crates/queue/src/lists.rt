@@ -1,4 +1,5 @@
-// Eight lists of threads, each as its first and last thread (the Rust's `queues`).
+// Eight lists of threads, each as its first and last thread (the Rust's `queues`). Two arrays, since the lent words lie so. A thread here is a link of a
+// record, with NONE for nobody: an `Option` would be made from it and be taken apart again in one line.
 ghost use Rattle.std.specs.Prelude.{◌≡◌};
 ghost use Rattle.queue.specs.Lists.{no_lists_def, push_back, unlinked, first_from, highest_held};
 

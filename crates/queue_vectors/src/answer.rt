@@ -1,13 +1,14 @@
 // An answer in its bytes: the number answered, and the state of the operation's queue just after it.
 use crate::operation::{Kind, Operation};
 use queue::lists::Lists;
+use rules::Part;
 use runqueue::rq::RunQueue;
 use thread::NONE;
 
-// A bucket of a part: 0 realtime, 1 timeshare, 2 idle.
+// A bucket of a part.
 #[derive(Clone, Copy)]
 struct Place {
-    part: u8,
+    part: Part,
     bucket: u8,
 }
 
@@ -21,21 +22,23 @@ fn bucket_of(lists: Lists, thread: u64) -> Option<u8> {
 
 // Where a thread is the last of its bucket.
 fn place_of(q: RunQueue, thread: u64) -> Option<Place> {
-    if let Some(bucket) = bucket_of(q.realtime.queues, thread) {
-        return Some(Place { part: 0, bucket });
-    }
-    if let Some(bucket) = bucket_of(q.timeshare.queues, thread) {
-        return Some(Place { part: 1, bucket });
-    }
-    let bucket = bucket_of(q.idle.queues, thread)?;
-    Some(Place { part: 2, bucket })
+    let parts = [
+        (Part::Realtime, q.realtime.queues),
+        (Part::Timeshare, q.timeshare.queues),
+        (Part::Idle, q.idle.queues),
+    ];
+    parts.into_iter().find_map(|(part, lists)| {
+        let bucket = bucket_of(lists, thread)?;
+        Some(Place { part, bucket })
+    })
 }
 
 fn low_byte(n: u64) -> u8 {
     n.to_le_bytes()[0]
 }
 
-// What is wider than its place is cut. An insert answers whether the thread came in above the idle part; the place of any other is 255.
+// What is wider than its place is cut. An insert answers whether the thread came in above the idle part; the place of any other is 255. A part is 0 realtime, 1
+// timeshare, 2 idle.
 pub fn answer(q: RunQueue, op: Operation, number: u64) -> [u8; 48] {
     let inserted = op.kind == Kind::Insert;
     let place = if inserted {
@@ -43,16 +46,13 @@ pub fn answer(q: RunQueue, op: Operation, number: u64) -> [u8; 48] {
     } else {
         None
     };
-    let above_idle = place.is_some_and(|place| place.part < 2);
+    let above_idle = place.is_some_and(|place| !matches!(place.part, Part::Idle));
     let number = if inserted {
         u64::from(above_idle)
     } else {
         number
     };
-    let Place { part, bucket } = place.unwrap_or(Place {
-        part: 255,
-        bucket: 255,
-    });
+    let [part, bucket] = place.map_or([255, 255], |place| [place.part as u8, place.bucket]);
     let mut out = [0u8; 48];
     out[..8].copy_from_slice(&number.to_le_bytes());
     out[8..12].copy_from_slice(&q.load.to_le_bytes()[..4]);

@@ -9,48 +9,41 @@ use answer::answer;
 use files::read_full;
 use operation::{Kind, Operation, prepared};
 use processor::rq::{load_queue, store_queue};
-use processor::words::CpuWords;
-use records::record::{get, set};
+use records::memory::Memory;
+use records::record::set;
 use records::rq::{clock, hardtick, insert, take};
 use runqueue::rq::RunQueue;
 use std::io::Read;
-use thread::priority::class_at;
-use thread::{NONE, Thread, blank};
+use thread::{NONE, blank};
 
 // What an operation answers.
-fn act(threads: &mut [Thread], cpus: &mut [CpuWords], op: Operation, tick: &mut u64) -> u64 {
-    let class = class_at(op.class);
+fn act(m: &mut Memory<'_>, op: Operation, tick: &mut u64) -> u64 {
     match op.kind {
         Kind::Insert => {
-            let t = get(threads, op.thread);
-            set(threads, op.thread, prepared(t, op));
-            insert(threads, cpus, op.queue, op.thread, *tick, op.current);
+            let t = m.thread(op.thread);
+            set(m.threads, op.thread, prepared(t, op));
+            insert(m, op.queue, op.thread, *tick, op.current);
             0
         }
-        Kind::Take => take(threads, cpus, op.queue, false).unwrap_or(NONE),
-        Kind::Steal => take(threads, cpus, op.queue, true).unwrap_or(NONE),
+        Kind::Take => take(m, op.queue, false).unwrap_or(NONE),
+        Kind::Steal => take(m, op.queue, true).unwrap_or(NONE),
         Kind::Clock => {
-            clock(cpus, op.queue);
+            clock(m.cpus, op.queue);
             0
         }
         Kind::Tick => {
             *tick = op.number;
             0
         }
-        Kind::Hardtick => hardtick(cpus, op.queue, *tick),
-        Kind::Timeslice => load_queue(cpus, op.queue).timeslice(op.number, class),
-        Kind::Deadline => load_queue(cpus, op.queue).deadline(op.number, class),
+        Kind::Hardtick => hardtick(m.cpus, op.queue, *tick),
+        Kind::Timeslice => load_queue(m.cpus(), op.queue).timeslice(op.number, op.class),
+        Kind::Deadline => load_queue(m.cpus(), op.queue).deadline(op.number, op.class),
         Kind::Other => 0,
     }
 }
 
 // As many operations as there are, a million at most.
-fn drive(
-    stdin: &mut impl Read,
-    stdout: &impl Print,
-    threads: &mut [Thread],
-    cpus: &mut [CpuWords],
-) {
+fn drive(stdin: &mut impl Read, stdout: &impl Print, m: &mut Memory<'_>) {
     let mut line = [0u8; 16];
     let mut tick = 0;
     for _ in 0..1000000 {
@@ -58,8 +51,8 @@ fn drive(
             return;
         }
         let op = Operation::from(line);
-        let number = act(threads, cpus, op, &mut tick);
-        let bytes = answer(load_queue(cpus, op.queue), op, number);
+        let number = act(m, op, &mut tick);
+        let bytes = answer(load_queue(m.cpus(), op.queue), op, number);
         let _ = stdout.write_all(&bytes);
     }
 }
@@ -70,5 +63,10 @@ fn main(rt: HostRuntime) {
     for queue in 0..4 {
         store_queue(&mut cpus, queue, RunQueue::new());
     }
-    drive(&mut rt.stdin(), &rt.stdout(), &mut threads, &mut cpus);
+    let mut m = Memory {
+        threads: &mut threads,
+        cpus: &mut cpus,
+        nodes: &[],
+    };
+    drive(&mut rt.stdin(), &rt.stdout(), &mut m);
 }

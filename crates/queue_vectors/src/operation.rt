@@ -1,5 +1,5 @@
 // An operation in its bytes. Numbers are little-endian.
-use rules::Priority;
+use rules::{Priority, PriorityClass};
 use thread::priority::{class_at, raw};
 use thread::{NO_DONATION, Thread};
 
@@ -38,7 +38,7 @@ pub struct Operation {
     pub kind: Kind,
     pub queue: u64,
     pub thread: u64,
-    pub class: u64,
+    pub class: PriorityClass,
     pub value: u64,
     pub pinned: bool,
     pub current: bool,
@@ -69,7 +69,7 @@ impl From<[u8; 16]> for Operation {
             kind: Kind::from(kind),
             queue: u64::from(queue),
             thread: u64::from(u16::from_le_bytes([t0, t1])),
-            class: u64::from(class),
+            class: class_at(u64::from(class)),
             value: u64::from(value),
             pinned: pinned == 1,
             current: current == 1,
@@ -81,7 +81,7 @@ impl From<[u8; 16]> for Operation {
 // The thread has the priority, the pin and the deadline that an insert names.
 pub fn prepared(t: Thread, op: Operation) -> Thread {
     let priority = Priority {
-        class: class_at(op.class),
+        class: op.class,
         value: op.value,
     };
     Thread {

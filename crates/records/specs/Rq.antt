@@ -37,7 +37,7 @@ steady_in part.Idle t = t
 unfoldable pub put_in_def : Thread → Part → Thread
 put_in_def t p = steady_in p (with_next (with_place t WAITING) NONE)
 
--- thread b's link now points to x; b is NONE where x is the first of its list
+-- thread b's link points to x; b is NONE where x is the first of its list
 unfoldable pub link_behind : List Thread → ℕ → ℕ → List Thread
 link_behind ts b x = cond (eqb b NONE) ts (set ts b (with_next (record_at ts b) x))
 

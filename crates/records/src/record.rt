@@ -13,6 +13,7 @@ pub fn get(threads: &[Thread], i: u64) -> Thread
     }
 }
 
+// By index: the contract of a slice's `get_mut` does not say what a write through it leaves of the slice.
 pub fn set(threads: &mut [Thread], i: u64, t: Thread)
     ensures { threads.new ≡ set threads.old i t }
 {

@@ -7,6 +7,7 @@ ghost use Rattle.processor.specs.Queue.{queue_at, queue_stored};
 ghost use Rattle.records.specs.Left.{Leaves, LeavesOne, Becomes, BecomesOne};
 ghost use Rattle.records.specs.Rq.{arrival_of, put_in_def, link_behind, insert_def, left_by_def, take_def, clock_def, hardtick_def};
 
+use crate::memory::Memory;
 use crate::record::{get, set};
 use processor::rq::{front, insert_into, load_queue, store_numbers, taken_front};
 use processor::words::CpuWords;
@@ -48,7 +49,7 @@ fn put_in(t: Thread, part: Part) -> Thread
     }
 }
 
-// Thread b's link now points to x; b is NONE where x is the first of its list.
+// Thread b's link points to x; b is NONE where x is the first of its list.
 #[tactic(auto, unfolding(crate::specs::Rq::link_behind))]
 fn link_behind(threads: &mut [Thread], b: u64, x: u64)
     ensures { threads.new ≡ link_behind threads.old b x }
@@ -61,22 +62,15 @@ fn link_behind(threads: &mut [Thread], b: u64, x: u64)
 
 // Thread x goes into the queue of CPU c. current: it comes in as the current thread.
 #[tactic(auto, using(crate::proofs::Exits::put_part), unfolding(crate::specs::Rq::insert_def, runqueue::specs::RunQueue::rq_insert))]
-pub fn insert(
-    threads: &mut [Thread],
-    cpus: &mut [CpuWords],
-    c: u64,
-    x: u64,
-    tick: u64,
-    current: bool,
-)
-    ensures { Becomes (insert_def c x tick current) threads cpus }
+pub fn insert(m: &mut Memory<'_>, c: u64, x: u64, tick: u64, current: bool)
+    ensures { Becomes (insert_def c x tick current) m }
 {
-    let t = get(threads, x);
+    let t = m.thread(x);
     let a = arrival(t, x, tick, current);
     let part = a.part();
-    let behind = insert_into(cpus, c, a, part);
-    set(threads, x, put_in(t, part));
-    link_behind(threads, behind, x);
+    let behind = insert_into(m.cpus, c, a, part);
+    set(m.threads, x, put_in(t, part));
+    link_behind(m.threads, behind, x);
 }
 
 // The thread that the queue of CPU c found, whose record is t, leaves the head of its list: nobody stands before it.
@@ -90,14 +84,14 @@ fn leave(cpus: &mut [CpuWords], c: u64, front: Front, t: Thread)
 
 // A thread is asked of the queue of CPU c: by the CPU itself, or by another that steals.
 #[tactic(auto, unfolding(crate::specs::Rq::take_def, crate::specs::Rq::took_from_def))]
-pub fn take(threads: &mut [Thread], cpus: &mut [CpuWords], c: u64, stealing: bool) -> Option<u64>
-    ensures { Leaves (take_def c stealing) result threads cpus }
+pub fn take(m: &mut Memory<'_>, c: u64, stealing: bool) -> Option<u64>
+    ensures { Leaves (take_def c stealing) result m }
 {
-    let found = front(cpus, c, stealing)?;
+    let found = front(m.cpus(), c, stealing)?;
     let x = found.thread;
-    let t = get(threads, x);
-    leave(cpus, c, found, t);
-    set(threads, x, t.with_place(Place::Running));
+    let t = m.thread(x);
+    leave(m.cpus, c, found, t);
+    set(m.threads, x, t.with_place(Place::Running));
     Some(x)
 }
 

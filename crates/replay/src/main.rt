@@ -52,7 +52,7 @@ fn fill(
     })
 }
 
-// Each turn but the last takes a command, and a run has fewer than 2^32.
+// Each turn but the last takes a command, and a run has fewer than 2^32. The slices stand as `feed` takes them.
 fn serve(
     stdin: &mut impl Read,
     stdout: &impl Print,

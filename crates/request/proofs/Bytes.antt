@@ -7,7 +7,7 @@ use lib.ListN.{length, take, drop, length-append}
 use Rattle.std.proofs.lemmas.List.{get_or-append-add}
 use lib.Seq.{get_or-drop}
 use native.Mathlib.Omega.{arith}
-use native.Mathlib.Nat.{pow-le-pow_right, zero-min, min-zero, suc-min-suc, suc-add, mul_assoc, pow-succ', zero-add, one-mul, mul-zero}
+use native.Mathlib.Nat.{pow-le-pow_right, zero-min, min-zero, suc-min-suc}
 use Rattle.rules.specs.Requests.{operand, past, at_least}
 use Rattle.rules.specs.Writer.{Bytes}
 use Rattle.rules.proofs.Laws.Writer.{operand_lt, past_drop}
@@ -24,27 +24,8 @@ too_few zero l h = absurd (omega arith)
 too_few (suc n) [] h = refl
 too_few (suc n) (b ∷ l) h = too_few n l (omega arith)
 
-operand_nil : (n : ℕ) → operand n [] ≡ 0
-unfolding operand
-operand_nil zero = refl
-operand_nil (suc n) = refl
-
-pub operand_one : (b : ℕ) (l : List ℕ) → operand 1 (b ∷ l) ≡ b
-unfolding operand
-operand_one b l = omega arith
-
--- the first m bytes, then n more
-pub operand_add : (m n : ℕ) (l : List ℕ) → operand (m + n) l ≡ operand m l + 256 ^ m * operand n (past m l)
-unfolding operand past
-operand_add zero n l = rw (zero-add, one-mul) (omega arith)
-operand_add (suc m) n [] = rw (operand_nil (suc m + n), operand_nil n, mul-zero)
-operand_add (suc m) n (b ∷ l) = rw (suc-add, operand_add m n l, pow-succ', mul_assoc) (omega arith)
-
 pub bytes_drop : (n : ℕ) (l : List ℕ) → Bytes l → Bytes (drop n l)
 bytes_drop n l h i = rw get_or-drop (h (n + i))
-
-pub operand_drop_lt : (n k : ℕ) (l : List ℕ) → Bytes l → operand n (drop k l) < 256 ^ n
-operand_drop_lt n k l h = operand_lt n (drop k l) (bytes_drop k l h)
 
 -- ---- the first bytes of a list, and those behind them
 

@@ -9,7 +9,7 @@ use crate::{
     MOST_FLAGS, MOST_MARK, MOST_TYPE, Operands, priority_in_range, shortest_in_range, width,
 };
 
-// A command that has fewer operands has 0 in the others.
+// A command that has fewer operands has 0 in the others. Four fields, as C passes them.
 #[repr(C)]
 #[derive(Clone, Copy)]
 pub struct Fields {
@@ -19,7 +19,8 @@ pub struct Fields {
     pub fourth: u64,
 }
 
-// How many bytes each operand of a command has; 0 where there is none, and for a byte that is not in the table.
+// How many bytes each operand of a command has; 0 where there is none, and for a byte that is not in the table. A command is a byte here, and beside its fields:
+// as C gives them any byte may come in (`scheduler_write`), where an enum or a pair would ask more.
 #[tactic(auto, using(crate::proofs::Table::no_row), unfolding(crate::specs::Fields::row, rules::specs::Writer::row, rules::specs::Requests::widths, rules::specs::Requests::widths_or, crate::specs::Request::limits_of, crate::specs::Fields::four, rules::specs::Requests::nth, crate::proofs::Table::Apart))]
 pub fn widths_of(byte: u8, wide: bool) -> [usize; 4]
     ensures { result ≡ four (row wide byte) }
@@ -55,7 +56,8 @@ pub fn field_count(byte: u8) -> usize
     widths.iter().filter(|n| **n > 0).count()
 }
 
-// Question 6 as far as it needs no state; a byte that is not in the table is asked as hex 1A.
+// Question 6 as far as it needs no state, of fields that no request holds yet; a byte that is not in the table is asked as hex 1A. A row for each byte, at which
+// the proof computes.
 #[tactic(auto, using(crate::proofs::ByWidths::last_ranges), unfolding(rules::specs::Writer::ranges, rules::specs::Requests::request, crate::specs::Fields::list_of, rules::specs::Requests::nth, rules::specs::Questions::question, rules::specs::Questions::at_most, crate::proofs::Table::Apart))]
 pub fn ranges(byte: u8, fields: Fields, wide: bool) -> bool
     ensures { result ≡ ranges (limits_of wide) byte (list_of fields) }
@@ -80,7 +82,8 @@ pub fn ranges(byte: u8, fields: Fields, wide: bool) -> bool
     }
 }
 
-// The operands that begin at `at`; bytes that are not there count as 0.
+// The operands that begin at `at`, which may lie past the end, as for `read`; bytes that are not there count as 0.
+#[tactic(auto, using(crate::proofs::ByWidths::width_most, crate::proofs::ByWidths::four_read, crate::proofs::Bytes::drop_min, std::proofs::lemmas::List::take_rest), unfolding(crate::specs::Fields::list_of, crate::specs::Fields::four))]
 pub fn operands(bytes: &[u8], at: usize, byte: u8, wide: bool) -> Fields
     ensures { list_of result ≡ four (operands (row wide byte) (drop at bytes.now)) }
 {

@@ -20,7 +20,7 @@ pub const LEAST_SHORTEST: u64 = 2;
 
 pub const MOST_SHORTEST: u64 = 32;
 
-// What a command asks, its operands as numbers.
+// What a command asks, its operands as the numbers that came in: only question 6 says whether one means a class or a node type.
 #[derive(Clone, Copy)]
 pub enum Request {
     DeclareCpu {
@@ -123,7 +123,8 @@ fn pinned(v: u64, wide: bool) -> Option<u64>
     (v != all_ones(wide)).then_some(v)
 }
 
-// How many bytes the operands of a command have; none for a byte that is not in the table.
+// How many bytes the operands of a command have; none for a byte that is not in the table. A row for each byte: each command passes here, and the proof
+// computes at each byte.
 #[tactic(auto, using(crate::proofs::Table::no_operands, crate::proofs::Table::width_small), unfolding(crate::specs::Request::operands_of, crate::specs::Request::operands_in, rules::specs::Requests::widths, crate::specs::Request::limits_of, rules::specs::Requests::sum, crate::proofs::Table::Apart))]
 pub fn operand_bytes(byte: u8, wide: bool) -> Option<usize>
     ensures { result ≡ operands_of wide byte }
@@ -199,6 +200,7 @@ impl Operands<'_> {
 
 #[tactic(auto, unfolding(crate::specs::Request::asked, rules::specs::Requests::request, rules::specs::Requests::widths, rules::specs::Requests::widths_or, crate::specs::Request::limits_of, rules::specs::Requests::operands, rules::specs::Requests::nth, crate::specs::Request::request_of))]
 impl Operands<'_> {
+    // One for each byte: its operands in their order, by their names.
     fn declare_cpu(mut self) -> Request
         ensures { request_of result ≡ asked self.entry.wide 0x01 self.entry.bytes.now }
     {
@@ -356,7 +358,7 @@ fn ask(byte: u8, operands: Operands<'_>) -> Request
     }
 }
 
-// What the bytes from `at` on ask. An operand that names a CPU or a node has two bytes if `wide`, else one.
+// What the bytes from `at` on ask; `at` is C's, and may lie past the end. An operand that names a CPU or a node has two bytes if `wide`, else one.
 #[tactic(auto, using(crate::proofs::Table::read_cut, crate::proofs::Table::read_whole, crate::proofs::Table::read_unknown), unfolding(crate::specs::Request::reading_of, rules::specs::Requests::read))]
 pub fn read(bytes: &[u8], at: usize, wide: bool) -> Reading
     ensures { reading_of result ≡ read (limits_of wide) (drop at bytes.now) }

@@ -1,14 +1,15 @@
 -- 2026-02: "What it writes, the reader must take back as that command, and each accepted command is rewritten to its own bytes." All for any limits, so for every
 -- width of CPU and node operands. `fields` are the numbers given to the writer, `room` is how many bytes its buffer has.
-use Rattle.std.specs.Prelude.{ℕ, suc, ◌≤◌, ◌<◌, ◌≡◌, ◌↔◌, ◌≢◌, true, false, ◌&&◌, length, take, replicate}
+use Rattle.std.specs.Prelude.{ℕ, suc, ◌≤◌, ◌<◌, ◌≡◌, ◌↔◌, ◌≢◌, true, false, ◌&&◌, length, take}
 use Rattle.std.proofs.Math.Path.{refl}
 use Rattle.std.proofs.Common.{sym, ap, ◌∙◌, leb-true, leb-false, le-leb}
-use mathlib.Core.List.{List, [], ◌∷◌, ◌++◌}
+use mathlib.Core.List.{List, [], ◌∷◌}
 use Rattle.std.proofs.lemmas.Bool.{lt-leb}
 use Rattle.rules.specs.State.{Limits, State, base_limits}
 use Rattle.rules.specs.Requests.{Request, asks, read, operands, widths, widths_or, request, sum, at_least, pin_of, nth, all_ones}
 use Rattle.rules.specs.Questions.{question, first_no, priority_in_range, in_range, refusal}
 use Rattle.rules.specs.Writer.{Bytes, little_endian, field_bytes, row, bytes_of, fits, ranges, has_row, in_table, no_misfit, buffer_holds, write_refusal, names_node}
+use Rattle.rules.specs.ReadBack.{operands_read}
 use Rattle.rules.proofs.Laws.Writer as laws
 use Rattle.rules.proofs.Laws.Ranges.{out_of_range, in_range_passes}
 
@@ -43,20 +44,17 @@ module _ (l : Limits) (byte : ℕ) (fields : List ℕ) (room : ℕ) where
 -- A command that was read: its byte, the bytes behind it, what it asks and how many bytes it takes. Given to the writer are its operands with any number of zeros
 -- behind them.
 module _ (l : Limits) (byte : ℕ) (bytes : List ℕ) (are : Bytes bytes) (q : Request) (used : ℕ) (reads : read l (byte ∷ bytes) ≡ asks q used) (zeros : ℕ) where
-  abbrev pub operands_read : List ℕ
-  operands_read = operands (row l byte) bytes ++ replicate zeros 0
-
   pub known : (has_row (widths l byte) ≡ true) × (at_least (sum (row l byte)) bytes ≡ true) × (request l byte (operands (row l byte) bytes) ≡ q) × (suc (sum (row l byte)) ≡ used)
   unfolding read row
   known = laws.read_known l byte bytes q used (widths l byte) reads
 
   -- Its bytes are the very ones that were read.
-  pub rewritten : bytes_of l byte operands_read ≡ take used (byte ∷ bytes)
+  pub rewritten : bytes_of l byte (operands_read l byte bytes zeros) ≡ take used (byte ∷ bytes)
   unfolding bytes_of
   rewritten = rw (← known.3) (ap (λ (m : List ℕ). byte ∷ m) (laws.fields_again zeros (row l byte) bytes are known.1))
 
   -- They ask for the same.
-  pub asks_the_same : request l byte operands_read ≡ q
+  pub asks_the_same : request l byte (operands_read l byte bytes zeros) ≡ q
   asks_the_same = laws.request_zeros l byte zeros (operands (row l byte) bytes) ∙ known.2
 
 -- ---- "in the ranges of the sixth question"

@@ -10,7 +10,7 @@ use Rattle.rules.proofs.Laws.Seal as laws
 
 -- Which CPU numbers are declared, and which are placed.
 module _ (is_declared is_placed : ℕ → Bool) where
-  -- What the pass holds after the numbers below n. "got from the answer up to n − 1 and from CPU n" is its definition (Questions, `placed-with`).
+  -- What the pass holds after the numbers below n. "got from the answer up to n − 1 and from CPU n" is its definition (Questions, `placed_with`).
   abbrev held : ℕ → Bool
   held = all_placed_below is_declared is_placed
 

@@ -41,7 +41,8 @@ first_that test (c ∷ l) = cond (test c) (Some c) (first_that test l)
 unfoldable pub may_steal_from : ℕ → (ℕ → ℕ) → (ℕ → ℕ) → ℕ → Bool
 may_steal_from us load movable c = not (eqb c us) && (leb 2 (load c) && ltb 0 (movable c))
 
--- `choose_cpu_balance`: the highest score, of CPU 0 with 0 at first, and the lowest of the CPUs that did not raise the highest.
+-- `choose_cpu_balance`: CPU c with score s is weighed against the highest score so far, and where it does not raise that, against the lowest so far of those
+-- that did not. Nobody counts as CPU 0 with score 0 at first.
 unfoldable pub weigh : Extremes → ℕ → ℕ → ℕ → Extremes
 weigh e s c draws =
     cond (ltb e.highest_score s) (record { highest = c; highest_score = s; lowest = e.lowest; draws = draws })

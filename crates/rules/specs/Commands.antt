@@ -14,8 +14,7 @@ use Rattle.rules.specs.Questions.{refusal}
 
 -- ---- the answer
 
--- What a CPU runs.
--- "number from 0, refusal (0 if obeyed), CPU, thread it now runs or `idle`, queue load, calls of `wakeup` made by this command": none is shown as `-`.
+-- What the line of a command shows: "number from 0, refusal (0 if obeyed), CPU, thread it now runs or `idle`, queue load, calls of `wakeup` made by this command": none is shown as `-`.
 -- Of the calls, those to a different CPU (Schedule, `wakeup`).
 pub record Answer : Type 0 where
   pub refused : ℕ

@@ -14,7 +14,6 @@ pub mod Queue
 pub mod ReadBack
 pub mod Requests
 pub mod Schedule
-pub mod Seal
 pub mod Shortest
 pub mod State
 pub mod Times

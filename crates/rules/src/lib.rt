@@ -3,7 +3,7 @@
 
 pub mod choice;
 
-// Document 01's numbers are those of `class-number` in specs/Priority.antt.
+// Document 01's numbers are those of `class_number` in specs/Priority.antt.
 #[derive(Clone, Copy, PartialEq, Eq, PartialOrd, Ord)]
 pub enum PriorityClass {
     Idle,

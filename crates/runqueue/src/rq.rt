@@ -37,7 +37,7 @@ pub struct Arrival {
     pub pinned: bool,
 }
 
-// behind: whose link the caller must set to the thread that came in, NONE for nobody. part: where it came in; the Rust answers whether that is not idle.
+// behind: whose link the caller must set to the thread that came in, NONE for nobody, as it lies in a record (queue/lists.rt). part: where it came in; the Rust answers whether that is not idle.
 #[derive(Clone, Copy)]
 pub struct Put {
     pub queue: RunQueue,
@@ -53,6 +53,7 @@ pub struct Front {
     pub thread: u64,
 }
 
+// The queue after a hard tick, and the ticks since the one before it.
 #[derive(Clone, Copy)]
 pub struct Hardtick {
     pub queue: RunQueue,
@@ -202,35 +203,28 @@ impl RunQueue {
     {
         let p = a.priority;
         let mut queue = self.counted(p, a.pinned);
-        match part {
+        let behind = match part {
             Part::Realtime => {
                 let put = self.realtime.insert(a.thread, p.class, p.value);
                 queue.realtime = put.queue;
-                Put {
-                    queue,
-                    behind: put.behind,
-                    part,
-                }
+                put.behind
             }
             Part::Timeshare => {
                 let put = self.timeshare.insert(a.thread, p.value, a.current);
                 queue.timeshare = put.queue;
                 queue.timeshare_load = self.timeshare_load.wrapping_add(1);
-                Put {
-                    queue,
-                    behind: put.behind,
-                    part,
-                }
+                put.behind
             }
             Part::Idle => {
                 let put = self.idle.insert(a.thread, p.class, p.value);
                 queue.idle = put.queue;
-                Put {
-                    queue,
-                    behind: put.behind,
-                    part,
-                }
+                put.behind
             }
+        };
+        Put {
+            queue,
+            behind,
+            part,
         }
     }
 

@@ -129,18 +129,18 @@ module _ (limits : Limits) (topology : Topology) (tick us : ℕ) (known : ℕ �
     }
 
     -- 12: `schedule_thread`: a blocked thread goes into the queue of the CPU selected for it
-    module _ (x : ℕ) (is_Known : known x ≡ true) (new : (c : ℕ) → c < limits.cpus → New limits known nobody_but w c x) where
+    module _ (x : ℕ) (is_known : known x ≡ true) (new : (c : ℕ) → c < limits.cpus → New limits known nobody_but w c x) where
       abbrev selected : Got
       selected = sched.select_cpu limits topology tick us w x None
 
       chosen_is : select_for cs ns us limits.cpus (record_at ts x) None ≡ selected.got
-      chosen_is = select_shown limits topology tick us known numbered small early us_in H ns tree node put_on s safe x (numbered x is_Known) None
+      chosen_is = select_shown limits topology tick us known numbered small early us_in H ns tree node put_on s safe x (numbered x is_known) None
 
       abbrev selection : Selected limits topology tick us known numbered H us_in w selected
       selection = select_cpu_selected limits topology tick us known numbered H us_in w x None (safe.mild x)
 
       shows_selection : WorldRep limits topology known active ts (selected_for cs ns us limits.cpus (record_at ts x) None) selected.world
-      shows_selection = shows_selected limits topology tick us known numbered small early us_in H ns tree node put_on s safe x (numbered x is_Known) None
+      shows_selection = shows_selected limits topology tick us known numbered small early us_in H ns tree node put_on s safe x (numbered x is_known) None
 
       pub woken_on : is_some selected.got ≡ true
       woken_on = select_finds limits topology tick us known numbered small early us_in H ns tree node put_on (visited_placed limits topology tree.sound us node put_on) w x None

@@ -12,7 +12,7 @@ use Rattle.rules.specs.Times.{effective_priority, either}
 use Rattle.rules.specs.Puts.{PutOrTake}
 use Rattle.rules.specs.State.{at, Limits, Topology}
 use Rattle.rules.specs.Topology.{visited}
-use Rattle.rules.specs.Choice.{best_at, lower, find_cpu}
+use Rattle.rules.specs.Choice.{lower, find_cpu}
 use Rattle.rules.specs.Schedule as sched
 use Rattle.rules.specs.Schedule.{World, Got}
 use Rattle.rules.proofs.Laws.Sound.{at_here, at_there, Sound}
@@ -120,23 +120,23 @@ module _ (limits : Limits) (topology : Topology) (tick us : ℕ) (known : ℕ �
 
   -- ---- the thread running is blocked
 
-  module _ {active : ℕ → Bool} {ts : List Thread} {cs : List (List ℕ)} {w : World} (s : WorldRep limits topology known active ts cs w) (x : ℕ) (is_Known : known x ≡ true) (free : Free w x) where
+  module _ {active : ℕ → Bool} {ts : List Thread} {cs : List (List ℕ)} {w : World} (s : WorldRep limits topology known active ts cs w) (x : ℕ) (is_known : known x ≡ true) (free : Free w x) where
     abbrev t : Thread
     t = with_place (record_at ts x) BLOCKED
 
     blocked_at : (z : ℕ) → place_at (set ts x t) z ≡ cond (eqb z x) place.Blocked (place_at ts z)
     unfolding place_in with_place
-    blocked_at z = field_set (λ (u : Thread). place_in u.place) ts x t z (in_records s x (numbered x is_Known))
+    blocked_at z = field_set (λ (u : Thread). place_in u.place) ts x t z (in_records s x (numbered x is_known))
 
     block_places : Places limits.threads known (at active x false) (set ts x t) w
     block_places =
-        places_moved x place.Blocked blocked_at is_Known (λ z h. refl) (λ z h. at_there active x false z h) (λ d z h. refl) (λ d h. absurd (true≢false (sym h ∙ free d)))
+        places_moved x place.Blocked blocked_at is_known (λ z h. refl) (λ z h. at_there active x false z h) (λ d z h. refl) (λ d h. absurd (true≢false (sym h ∙ free d)))
         (λ h. absurd (false≢true (sym (at_here active x false) ∙ h))) (λ a f. refl) s.places
 
     pub shows_blocked : WorldRep limits topology known (at active x false) (block_def x ts) cs w
     unfolding block_def with_place
     shows_blocked =
-        let h = numbered x is_Known in
+        let h = numbered x is_known in
         shows_same_thread w x
         (shows_record s x t (w.threads x) h (reads_place (record_at ts x) BLOCKED ∙ s.threads x h) (λ d e. (refl, (refl, refl))) (s.queue_cpus x h) block_places)
 

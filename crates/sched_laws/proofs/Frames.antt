@@ -11,7 +11,6 @@ use Rattle.rules.proofs.Laws.Line.{both}
 use Rattle.rules.specs.Times.{effective_priority}
 use Rattle.rules.specs.Queue.{Queue, load, Next, nobody, next_in}
 use Rattle.rules.specs.State.{Limits, Topology, Cpu}
-use Rattle.rules.specs.Choice.{pair_at}
 use Rattle.rules.specs.Schedule as sched
 use Rattle.rules.specs.Schedule.{World, Balancing, with_cpu, with_thread, with_queue, with_draws, with_running, set_rebalance, noted, wakeup, with_preempt, with_ticks}
 use Rattle.rules.proofs.Laws.Sound.{at_keeps}

@@ -1,7 +1,6 @@
 -- `do_schedule` AND `schedule` OVER RECORDS AND WORDS ARE THE RULES'.
 use Rattle.std.specs.Prelude.{Bool, true, false, Option, None, Some}
 use Rattle.rules.specs.declared.choice.Best.{Best}
-use Rattle.rules.specs.Choice.{best_at}
 
 -- ---- a choice finds a CPU where there is one
 

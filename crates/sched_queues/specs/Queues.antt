@@ -1,5 +1,5 @@
 -- Threads go into queues and come out of them: puts, takes, steals.
-use Rattle.std.specs.Prelude.{ℕ, Bool, true, false, cond, not, List, set, eqb, Option, Some, None, is_none, unwrap_or}
+use Rattle.std.specs.Prelude.{ℕ, false, cond, not, List, set, eqb, Option, None, is_none, unwrap_or}
 use Rattle.thread.specs.declared.Thread.{Thread}
 use Rattle.thread.specs.Thread.{NONE, BLOCKED, with_place}
 use Rattle.thread.specs.Time.{moving_to_queue}

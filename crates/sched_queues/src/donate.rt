@@ -8,6 +8,7 @@ use rules::Priority;
 use sched_words::donate::signal_donation;
 use thread::Thread;
 
+// The words of the CPUs are lent to be read alone.
 #[tactic(auto, unfolding(crate::specs::Donate::donate_priority_def))]
 pub fn donate_priority(
     threads: &mut [Thread],

@@ -4,7 +4,7 @@ ghost use Rattle.thread.specs.Thread.{NONE};
 ghost use Rattle.records.specs.Left.{BecomesOne, Leaves, LeavesOver};
 ghost use Rattle.sched_queues.specs.Queues.{schedule_thread_on_cpu_def, wake_def, block_def, take_from, try_steal_def};
 
-use processor::words::CpuWords;
+use records::memory::Memory;
 use records::record::{get, set};
 use records::rq::{insert, take};
 use sched_words::choose::steal_from;
@@ -13,9 +13,8 @@ use sched_words::signal::signal;
 use sched_words::time::{moved_to, should_signal};
 use thread::place::Place;
 use thread::{NONE, Thread};
-use topology::words::NodeWords;
 
-// Is the thread running, cur, the idle thread?
+// Is the thread running, cur, the idle thread? A word of its CPU says it, NONE for the idle thread.
 pub fn is_idle(cur: u64) -> bool
     ensures { result ≡ eqb cur NONE }
 {
@@ -24,36 +23,23 @@ pub fn is_idle(cur: u64) -> bool
 
 // Thread x goes into the queue of CPU c.
 #[tactic(auto, unfolding(crate::specs::Queues::schedule_thread_on_cpu_def, crate::specs::Queues::moved_in))]
-pub fn schedule_thread_on_cpu(
-    threads: &mut [Thread],
-    cpus: &mut [CpuWords],
-    k: Context,
-    c: u64,
-    x: u64,
-    wakeups: u64,
-) -> u64
-    ensures { Leaves (schedule_thread_on_cpu_def k c x wakeups) result threads cpus }
+pub fn schedule_thread_on_cpu(m: &mut Memory<'_>, k: Context, c: u64, x: u64, wakeups: u64) -> u64
+    ensures { Leaves (schedule_thread_on_cpu_def k c x wakeups) result m }
 {
-    let t = get(threads, x);
-    let due = should_signal(cpus, k.us, c, t);
-    set(threads, x, moved_to(cpus, k, c, t));
-    insert(threads, cpus, c, x, k.tick, false);
+    let t = m.thread(x);
+    let due = should_signal(m.cpus(), k.us, c, t);
+    let moved = moved_to(m.cpus(), k, c, t);
+    set(m.threads, x, moved);
+    insert(m, c, x, k.tick, false);
     signal(wakeups, k.us, c, due)
 }
 
 // A blocked thread goes into the queue of CPU c. It and `block` alone change a place from or to blocked.
 #[tactic(auto, unfolding(crate::specs::Queues::wake_def))]
-pub fn wake(
-    threads: &mut [Thread],
-    cpus: &mut [CpuWords],
-    k: Context,
-    c: u64,
-    x: u64,
-    wakeups: u64,
-) -> u64
-    ensures { Leaves (wake_def k c x wakeups) result threads cpus }
+pub fn wake(m: &mut Memory<'_>, k: Context, c: u64, x: u64, wakeups: u64) -> u64
+    ensures { Leaves (wake_def k c x wakeups) result m }
 {
-    schedule_thread_on_cpu(threads, cpus, k, c, x, wakeups)
+    schedule_thread_on_cpu(m, k, c, x, wakeups)
 }
 
 // The thread running is blocked.
@@ -67,29 +53,19 @@ pub fn block(threads: &mut [Thread], x: u64)
 
 // A thread is asked of the queue of CPU c, for CPU d.
 #[tactic(auto, unfolding(crate::specs::Queues::take_from, crate::specs::Queues::moved_for_def))]
-pub fn take_a_thread_from_cpu(
-    threads: &mut [Thread],
-    cpus: &mut [CpuWords],
-    c: u64,
-    d: u64,
-) -> Option<u64>
-    ensures { Leaves (take_from c d) result threads cpus }
+pub fn take_a_thread_from_cpu(m: &mut Memory<'_>, c: u64, d: u64) -> Option<u64>
+    ensures { Leaves (take_from c d) result m }
 {
-    let x = take(threads, cpus, c, d != c)?;
-    let t = get(threads, x);
-    set(threads, x, t.moving_to_queue(d));
+    let x = take(m, c, d != c)?;
+    let t = m.thread(x);
+    set(m.threads, x, t.moving_to_queue(d));
     Some(x)
 }
 
 #[tactic(auto, unfolding(crate::specs::Queues::try_steal_def))]
-pub fn try_steal(
-    threads: &mut [Thread],
-    cpus: &mut [CpuWords],
-    nodes: &[NodeWords],
-    k: Context,
-) -> Option<u64>
-    ensures { LeavesOver (try_steal_def k) result threads cpus nodes }
+pub fn try_steal(m: &mut Memory<'_>, k: Context) -> Option<u64>
+    ensures { LeavesOver (try_steal_def k) result m }
 {
-    let c = steal_from(cpus, nodes, k)?;
-    take_a_thread_from_cpu(threads, cpus, c, k.us)
+    let c = steal_from(m.cpus(), m.nodes, k)?;
+    take_a_thread_from_cpu(m, c, k.us)
 }

@@ -4,6 +4,7 @@ ghost use Rattle.records.specs.Left.{Becomes, BecomesOne};
 ghost use Rattle.sched_ticks.specs.Ticks.{schedule_hardtick_def, schedule_resched_def};
 
 use processor::words::CpuWords;
+use records::memory::Memory;
 use records::record::{get, set};
 use records::rq::hardtick;
 use sched_queues::queues::is_idle;
@@ -14,23 +15,24 @@ use thread::Thread;
 
 // The thread running pays for the ticks since the last hard tick.
 #[tactic(auto, unfolding(crate::specs::Ticks::schedule_hardtick_def, crate::specs::Ticks::paid_by_def))]
-pub fn schedule_hardtick(threads: &mut [Thread], cpus: &mut [CpuWords], k: Context)
-    ensures { Becomes (schedule_hardtick_def k) threads cpus }
+pub fn schedule_hardtick(m: &mut Memory<'_>, k: Context)
+    ensures { Becomes (schedule_hardtick_def k) m }
 {
-    let cur = running(cpus, k.us);
-    let t = get(threads, cur);
-    let resched = needs_reschedule(cpus, k.us, t, true);
-    let ticks = hardtick(cpus, k.us, k.tick);
+    let cur = running(m.cpus(), k.us);
+    let t = m.thread(cur);
+    let resched = needs_reschedule(m.cpus(), k.us, t, true);
+    let ticks = hardtick(m.cpus, k.us, k.tick);
     let expired = if is_idle(cur) {
-        pay_idle(cpus, k, ticks)
+        pay_idle(m.cpus, k, ticks)
     } else {
-        let paid = pay(cpus, k, t, ticks);
-        set(threads, cur, paid.thread);
+        let paid = pay(m.cpus(), k, t, ticks);
+        set(m.threads, cur, paid.thread);
         paid.expired
     };
-    expire(cpus, k.us, resched, expired);
+    expire(m.cpus, k.us, resched, expired);
 }
 
+// The records are lent to be read alone.
 #[tactic(auto, unfolding(crate::specs::Ticks::schedule_resched_def))]
 pub fn schedule_resched(threads: &[Thread], cpus: &mut [CpuWords], us: u64)
     ensures { BecomesOne (schedule_resched_def us threads.now) cpus }

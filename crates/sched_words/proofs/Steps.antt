@@ -1,5 +1,5 @@
 -- What a choice of `balance` comes to, of what `choose_cpu_balance` answered.
-use Rattle.std.specs.Prelude.{◌≡◌, ℕ, List, Option, None, Some}
+use Rattle.std.specs.Prelude.{◌≡◌, ℕ, List, Option, None}
 use Rattle.rules.specs.declared.choice.Chosen.{Chosen}
 use Rattle.rules.specs.declared.choice.Pair.{Pair}
 use Rattle.rules.specs.Choice.{pair_at, choose_cpu_balance}

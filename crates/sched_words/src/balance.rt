@@ -15,7 +15,8 @@ use topology::words::NodeWords;
 
 pub const MAX_STEPS: u64 = 20;
 
-// The CPUs still allowed, the steps made, whether it goes on, and between which CPUs a thread moves, if one does.
+// The CPUs still allowed, the steps made, whether it goes on, and between which CPUs a thread moves, if one does. A flag beside `moves`: that it goes on
+// outlasts the move.
 #[derive(Clone, Copy)]
 pub struct Balancing {
     pub allowed: CpuSet,

@@ -11,6 +11,7 @@ use thread::Thread;
 use thread::time::Preferred;
 use topology::words::NodeWords;
 
+// A choice asks for the CPU alone, pinned or last.
 #[tactic(auto, unfolding(crate::specs::Choose::preferred_of_def))]
 pub fn preferred_of(p: Option<Preferred>) -> Option<u64>
     ensures { result ≡ preferred_of_def p }

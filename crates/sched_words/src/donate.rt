@@ -8,15 +8,15 @@ use crate::signal::signal;
 use processor::rq::load_queue;
 use processor::words::CpuWords;
 use thread::Thread;
-use thread::priority::{Donation, less};
+use thread::priority::Donation;
 
 // Is CPU c signalled for a thread with this record? If somebody waits there and it advertises more than the thread's priority.
-#[tactic(auto, unfolding(crate::specs::Donate::wakeup_due))]
+#[tactic(auto, using(thread::proofs::Order::less_derived), unfolding(crate::specs::Donate::wakeup_due))]
 pub fn wakeup_due(cpus: &[CpuWords], c: u64, t: Thread) -> bool
     ensures { result ≡ wakeup_due cpus.now c t }
 {
     let q = load_queue(cpus, c);
-    !q.is_empty() && less(t.effective_priority(), q.current_priority())
+    !q.is_empty() && t.effective_priority() < q.current_priority()
 }
 
 #[tactic(auto, unfolding(crate::specs::Donate::woken_in))]

@@ -10,16 +10,15 @@ use crate::running::running;
 use processor::rq::load_queue;
 use processor::words::{CpuWords, IDLE_TIMESLICE, PREEMPT, put_word, word};
 use rules::Priority;
-use thread::priority::{at_most, less};
 use thread::time::Paid;
 use thread::{NONE, Thread, blank};
 
 // Is what is advertised above this priority; with eq, or equal to it?
-#[tactic(auto, unfolding(crate::specs::Preempt::higher))]
+#[tactic(auto, using(thread::proofs::Order::at_most_derived, thread::proofs::Order::less_derived), unfolding(crate::specs::Preempt::higher))]
 pub fn higher(said: Priority, own: Priority, eq: bool) -> bool
     ensures { result ≡ higher said own eq }
 {
-    less(own, said) || (eq && at_most(own, said))
+    own < said || (eq && own <= said)
 }
 
 #[tactic(auto, unfolding(crate::specs::Preempt::rq_has_higher))]

@@ -16,6 +16,7 @@ pub fn running(cpus: &[CpuWords], c: u64) -> u64
     word(cpus, c, RUNNING)
 }
 
+// These four have the Rust's names, one store each.
 pub fn enter_idle(cpus: &mut [CpuWords], c: u64)
     ensures { cpus.new ≡ put_word cpus.old c IS_IDLE 1 }
 {

@@ -7,7 +7,6 @@ use processor::rq::load_queue;
 use processor::words::CpuWords;
 use rules::PriorityClass;
 use thread::Thread;
-use thread::priority::at_most;
 
 // The deadline of a thread of this class that goes into the queue of CPU c.
 #[tactic(auto, unfolding(crate::specs::Time::deadline_at, queue::specs::Num::sum))]
@@ -37,7 +36,7 @@ pub fn moved_to(cpus: &[CpuWords], k: Context, c: u64, t: Thread) -> Thread
 }
 
 // Is CPU c signalled when CPU us puts the thread into its queue?
-#[tactic(auto, unfolding(crate::specs::Time::should_signal_def))]
+#[tactic(auto, using(thread::proofs::Order::at_most_derived), unfolding(crate::specs::Time::should_signal_def))]
 pub fn should_signal(cpus: &[CpuWords], us: u64, c: u64, t: Thread) -> bool
     ensures { result ≡ should_signal_def cpus.now us c t }
 {
@@ -45,5 +44,5 @@ pub fn should_signal(cpus: &[CpuWords], us: u64, c: u64, t: Thread) -> bool
         return false;
     }
     let q = load_queue(cpus, c);
-    q.is_empty() || at_most(q.current_priority(), t.effective_priority())
+    q.is_empty() || q.current_priority() <= t.effective_priority()
 }

@@ -129,7 +129,7 @@ impl From<Runs> for Option<Running> {
     }
 }
 
-// The refusal of a number; any number past 10 but 12 counts as 11.
+// The refusal of a number; any number past 10 but 12 counts as 11. No `From`: both types are of other crates.
 #[tactic(auto, unfolding(outcome::specs::Call::refusal_back))]
 fn refusal_in(number: u64) -> Option<Refusal>
     ensures { result ≡ refusal_back number }

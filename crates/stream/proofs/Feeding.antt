@@ -1,5 +1,5 @@
 -- The loop of `run`: what is left to feed gives what feeding all gives.
-use Rattle.std.proofs.Common.{◌≡◌, ℕ, zero, suc, ◌+◌, ◌-◌, ◌<◌, ◌≤◌, Bool, true, false, cond, not, T as Holds, eqb, ltb, List, Result, Ok, Err, sym, refl, ap, ◌∙◌, sub-le, arith, ltb-false, ltb-true, lt-ltb, eqb-true}
+use Rattle.std.proofs.Common.{◌≡◌, ℕ, zero, suc, ◌-◌, ◌<◌, ◌≤◌, Bool, true, false, cond, not, T as Holds, eqb, ltb, List, Result, Ok, Err, sym, refl, ap, ◌∙◌, sub-le, arith, ltb-true}
 use borrow.Author.Tests.{eqb-false}
 use Rattle.rules.proofs.Laws.Line.{both}
 use Rattle.thread.specs.declared.Thread.{Thread}

@@ -1,4 +1,5 @@
-// A block of a stream, through as many commands as fit.
+// A block of a stream, through as many commands as fit. The three slices stand apart as `command_read` takes them, n and `last` as C gives them; n may be
+// past the end of the input.
 ghost use Rattle.stream.specs.Feed.{Feeds, run_def, feed_def};
 
 use crate::progress::{Progress, answered, can_answer, closed, must_wait, opened};
@@ -22,6 +23,7 @@ fn run(
     ensures { Feeds (run_def n input.now n last) fed result threads cpus nodes output }
 {
     let mut f = fed;
+    // It counts nothing: a turn ends by what was read and answered.
     while can_answer(output, n, f) {
         let reading = asked(input, n, f.at, f.state.wide);
         if must_wait(last, reading) {

@@ -1,4 +1,4 @@
-// How far a run is, and the lines that it writes.
+// How far a run is, and the lines that it writes. n is how many bytes the block has, as C gives it; it may be past the end of the input.
 ghost use Rattle.std.specs.Prelude.{◌≡◌};
 ghost use Rattle.rules.specs.Lines.{line};
 ghost use Rattle.lines.specs.Lines.{refusal_number, answer_of, buffer_with};
@@ -21,7 +21,8 @@ pub const ENDED: u64 = 3;
 // Command number 4,294,967,294 ends the run.
 pub const LAST_NUMBER: u64 = 4294967294;
 
-// The bytes of the block that were taken, the bytes of output, the number of the next command, the refused ones, the phase, and the state.
+// The bytes of the block that were taken, the bytes of output, the number of the next command, the refused ones, the phase, and the state. Numbers, since it
+// passes over C.
 #[repr(C)]
 #[derive(Clone, Copy)]
 pub struct Progress {

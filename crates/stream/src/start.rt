@@ -87,7 +87,8 @@ fn initial() -> State
     }
 }
 
-// The state, unless a slice is too short, and then nothing is changed.
+// The state, unless a slice is too short, and then nothing is changed. The slices stand apart, as C lends them and
+// all three are changed.
 #[tactic(auto, unfolding(crate::specs::Start::start_def))]
 pub fn start(
     threads: &mut [Thread],

@@ -24,6 +24,7 @@ pub const RUNNING: u64 = 2;
 
 pub const WAITING: u64 = 3;
 
+// C lends the records: each field is a plain number, a priority raw, a place as `Place` numbers it, and NONE, NO_DONATION or a negative field for none.
 #[repr(C)]
 #[derive(Clone, Copy)]
 pub struct Thread {

@@ -42,7 +42,7 @@ impl From<u64> for Place {
 }
 
 impl Thread {
-    // A declared thread, blocked, of this priority, pinned to this CPU; NONE pins it to none.
+    // A declared thread, blocked, of this priority, pinned to this CPU; NONE, a number as its law reads it, pins it to none.
     #[tactic(auto, unfolding(crate::specs::Place::new))]
     pub fn new(priority: Priority, pin: u64) -> Self
         ensures { result ≡ new priority pin }

@@ -1,6 +1,6 @@
 // Priorities (thread/priority.rs): a class, then a value from 0 to 127. Raw, the class is above the lower 16 bits.
 ghost use Rattle.std.specs.Prelude.{◌≡◌};
-ghost use Rattle.rules.specs.Priority.{class_at, cut, from_raw, raw, less, greater_of, at_most, effective, donation_accepted};
+ghost use Rattle.rules.specs.Priority.{class_at, cut, from_raw, raw, effective, donation_accepted};
 ghost use Rattle.rules.specs.Times.{effective_priority};
 ghost use Rattle.thread.specs.Reads.{donated_in, reads};
 ghost use Rattle.thread.specs.Priority.{stable_effective_priority, donate_priority, remove_donated_priority};
@@ -12,7 +12,7 @@ use rules::{Priority, PriorityClass};
 pub const MAX_PRIORITY: u64 = 128;
 
 // What a donation came to: the thread, whether the donation was accepted, and whether it was accepted and is above what was the thread's effective
-// priority, so that the thread's CPU may have to be signalled.
+// priority, so that the thread's CPU may have to be signalled. No `Option`: the record goes back into memory whatever is answered.
 #[derive(Clone, Copy)]
 pub struct Donation {
     pub thread: Thread,
@@ -27,7 +27,7 @@ pub struct Stable {
     pub priority: Priority,
 }
 
-// The class that a number names: everything from 3 up is Realtime.
+// The class that a number names: everything from 3 up is Realtime. A function, here and below, since `From` between types of other crates is not allowed.
 #[tactic(auto, unfolding(rules::specs::Priority::class_at))]
 pub fn class_at(number: u64) -> PriorityClass
     ensures { result ≡ class_at number }
@@ -40,6 +40,7 @@ pub fn class_at(number: u64) -> PriorityClass
     }
 }
 
+// The rules' word for a value in its range, which callers cite.
 #[tactic(auto, unfolding(rules::specs::Priority::cut, rules::specs::Priority::nr_values))]
 pub fn cut(value: u64) -> u64
     ensures { result ≡ cut value }
@@ -64,41 +65,20 @@ pub fn raw(priority: Priority) -> u64
     priority.class as u64 * 65536 + priority.value % 65536
 }
 
-#[tactic(auto, using(crate::proofs::Order::less_derived))]
-pub fn less(p: Priority, q: Priority) -> bool
-    ensures { result ≡ less p q }
-{
-    p < q
-}
-
-#[tactic(auto, using(crate::proofs::Order::max_derived))]
-pub fn max(p: Priority, q: Priority) -> Priority
-    ensures { result ≡ greater_of p q }
-{
-    p.max(q)
-}
-
 // The effective priority of a thread with these two.
-#[tactic(auto, unfolding(rules::specs::Priority::effective))]
+#[tactic(auto, using(crate::proofs::Order::max_derived), unfolding(rules::specs::Priority::effective))]
 pub fn effective(own: Priority, donated: Option<Priority>) -> Priority
     ensures { result ≡ effective own donated }
 {
-    donated.map_or(own, |p| max(own, p))
+    donated.map_or(own, |p| own.max(p))
 }
 
 // Is a donation accepted where another may be held? Not if that one is greater.
-#[tactic(auto, unfolding(rules::specs::Priority::donation_accepted, rules::specs::Priority::at_most))]
+#[tactic(auto, using(crate::proofs::Order::at_most_derived), unfolding(rules::specs::Priority::donation_accepted, rules::specs::Priority::at_most))]
 pub fn donation_accepted(current: Option<Priority>, pri: Priority) -> bool
     ensures { result ≡ donation_accepted current pri }
 {
-    current.is_none_or(|held| at_most(held, pri))
-}
-
-#[tactic(auto, using(crate::proofs::Order::at_most_derived))]
-pub fn at_most(p: Priority, q: Priority) -> bool
-    ensures { result ≡ at_most p q }
-{
-    p <= q
+    current.is_none_or(|held| held <= pri)
 }
 
 impl Thread {

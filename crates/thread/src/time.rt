@@ -12,14 +12,14 @@ pub enum Preferred {
     Last(u64),
 }
 
-// A thread that has paid, and whether its timeslice expired.
+// A thread that has paid, and whether its timeslice expired. No `Option`: the record goes back into memory in both cases.
 #[derive(Clone, Copy)]
 pub struct Paid {
     pub thread: Thread,
     pub expired: bool,
 }
 
-// The CPU that a field names.
+// The CPU that a field names. A function, and so is its inverse: `From` and `TryFrom` of an i32 are std's.
 #[tactic(auto, unfolding(crate::specs::Reads::cpu_in))]
 pub fn cpu_in(field: i32) -> Option<u64>
     ensures { result ≡ cpu_in field }

@@ -1,6 +1,6 @@
 // One node: what it is at first, its CPUs, and its place in the tree.
 ghost use Rattle.std.specs.Prelude.{◌≡◌};
-ghost use Rattle.topology.specs.Node.{lesser, greater, new_node, put_node, new_root, add_child, has_children, has_cpus, contains_at, put_cpu, set_cpu, first_of, end_of};
+ghost use Rattle.topology.specs.Node.{new_node, put_node, new_root, add_child, has_children, has_cpus, contains_at, put_cpu, set_cpu, first_of, end_of};
 
 use crate::cpuset::{MAX_CPU_ID, bit, set_bit};
 use crate::words::{NodeWords, WORDS, put_word, word};
@@ -29,21 +29,7 @@ pub const NO_CPU: u64 = 18446744073709551615;
 // The type System.
 pub const SYSTEM: u64 = 0;
 
-#[tactic(auto, unfolding(crate::specs::Node::lesser))]
-pub fn lesser(a: u64, b: u64) -> u64
-    ensures { result ≡ lesser a b }
-{
-    a.min(b)
-}
-
-#[tactic(auto, unfolding(crate::specs::Node::greater))]
-pub fn greater(a: u64, b: u64) -> u64
-    ensures { result ≡ greater a b }
-{
-    a.max(b)
-}
-
-// A node without children and CPUs, between two in the order of a search.
+// A node without children and CPUs, between two in the order of a search. Its type is a number, as its word holds it.
 #[tactic(auto, unfolding(crate::specs::Node::new_node))]
 pub fn new_node(level_type: u64, parent: u64, prev: u64, next: u64) -> NodeWords
     ensures { result ≡ new_node level_type parent prev next }
@@ -62,6 +48,7 @@ pub fn new_node(level_type: u64, parent: u64, prev: u64, next: u64) -> NodeWords
 pub fn put_node(nodes: &mut [NodeWords], n: u64, row: NodeWords)
     ensures { nodes.new ≡ put_node nodes.old n row }
 {
+    // The length is asked, since `get_mut` does not say what the slice becomes.
     let i = n as usize;
     if i < nodes.len() {
         nodes[i] = row;
@@ -119,23 +106,23 @@ pub fn first(nodes: &[NodeWords], n: u64) -> u64
     word(nodes, n, FIRST)
 }
 
-#[tactic(auto, unfolding(crate::specs::Node::end_of))]
+#[tactic(auto, unfolding(crate::specs::Node::end_of, crate::specs::Node::lesser))]
 pub fn end(nodes: &[NodeWords], n: u64, limit: u64) -> u64
     ensures { result ≡ end_of nodes.now n limit }
 {
-    lesser(word(nodes, n, END), limit)
+    word(nodes, n, END).min(limit)
 }
 
 // A CPU put on one node.
-#[tactic(auto, unfolding(crate::specs::Node::put_cpu, crate::specs::CpuSet::max_cpu_id))]
+#[tactic(auto, unfolding(crate::specs::Node::put_cpu, crate::specs::CpuSet::max_cpu_id, crate::specs::Node::lesser, crate::specs::Node::greater))]
 pub fn put_cpu(nodes: &mut [NodeWords], n: u64, cpu: u64)
     ensures { nodes.new ≡ put_cpu nodes.old n cpu }
 {
     if cpu < MAX_CPU_ID {
         let w = SET + (cpu / 64) as usize;
         let bits = set_bit(word(nodes, n, w), cpu);
-        let first = lesser(word(nodes, n, FIRST), cpu);
-        let end = greater(word(nodes, n, END), cpu + 1);
+        let first = word(nodes, n, FIRST).min(cpu);
+        let end = word(nodes, n, END).max(cpu + 1);
         put_word(nodes, n, w, bits);
         put_word(nodes, n, FIRST, first);
         put_word(nodes, n, END, end);

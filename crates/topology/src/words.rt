@@ -1,4 +1,5 @@
-// The words of the nodes. Past the end of the slice a word is 0, and a store does nothing; word numbers are taken modulo WORDS.
+// The words of the nodes. Past the end of the slice a word is 0, and a store does nothing; word numbers are taken modulo WORDS. C lends
+// them, so a link is a number there.
 ghost use Rattle.std.specs.Prelude.{◌≡◌};
 ghost use Rattle.topology.specs.Words.{word, put_word};
 
@@ -18,6 +19,7 @@ pub fn word(nodes: &[NodeWords], n: u64, w: usize) -> u64
 pub fn put_word(nodes: &mut [NodeWords], n: u64, w: usize, v: u64)
     ensures { nodes.new ≡ put_word nodes.old n w v }
 {
+    // The length is asked, since `get_mut` does not say what the slice becomes.
     let i = n as usize;
     if i < nodes.len() {
         nodes[i][w % WORDS] = v;

@@ -31,20 +31,21 @@ fn next_sizes(stdin: &mut impl Read) -> Option<Sizes> {
     })
 }
 
-// The next n bytes; false if they are not there.
-fn take(stdin: &mut impl Read, buffer: &mut [u8], n: usize) -> bool {
-    n <= buffer.len() && read_full(stdin, &mut buffer[..n]) == n
+// The next n bytes, if they are there.
+fn take<'a>(stdin: &mut impl Read, buffer: &'a mut [u8], n: usize) -> Option<&'a [u8]> {
+    let part = buffer.get_mut(..n)?;
+    if read_full(stdin, part) < n {
+        return None;
+    }
+    Some(part)
 }
 
-// Does the output begin with the header, and are its first `done` bytes the n bytes of the lines?
-fn agree(output: &[u8], done: usize, lines: &[u8], n: usize) -> bool {
-    output.starts_with(b"sched 1\n")
-        && done <= output.len()
-        && n <= lines.len()
-        && output[..done] == lines[..n]
+// Does the output begin with the header, and is it the lines?
+fn agree(output: &[u8], lines: &[u8]) -> bool {
+    output.starts_with(b"sched 1\n") && output == lines
 }
 
-// At most a thousand streams.
+// At most a thousand streams. The slices stand as `feed` takes them.
 fn replayed(
     stdin: &mut impl Read,
     threads: &mut [Thread],
@@ -59,15 +60,20 @@ fn replayed(
         let Some(sizes) = next_sizes(stdin) else {
             return tally;
         };
-        let n = sizes.stream;
-        let whole = take(stdin, &mut input, n);
-        let read = take(stdin, &mut lines, sizes.lines);
+        let stream = take(stdin, &mut input, sizes.stream);
+        let lines = take(stdin, &mut lines, sizes.lines);
         let Some(state) = start(threads, cpus, nodes) else {
             return tally;
         };
+        let (Some(stream), Some(lines)) = (stream, lines) else {
+            tally.add(false);
+            continue;
+        };
+        let n = stream.len();
         let begun = begin(state);
-        let fed = feed(threads, cpus, nodes, &input, &mut output, n, whole, begun);
-        tally.add(read && agree(&output, fed.done, &lines, sizes.lines));
+        let fed = feed(threads, cpus, nodes, stream, &mut output, n, true, begun);
+        let answered = output.get(..fed.done);
+        tally.add(answered.is_some_and(|answered| agree(answered, lines)));
     }
     tally
 }

@@ -5,10 +5,10 @@ ghost use Rattle.std.specs.Prelude.{◌≡◌, ◌≤◌, ◌^◌, ltb};
 ghost use Rattle.rules.specs.Writer.{little_endian, bytes_of, fits};
 ghost use Rattle.request.specs.Request.{limits_of};
 ghost use Rattle.request.specs.Fields.{list_of, row};
-ghost use Rattle.lines.specs.Text.{text, write};
+ghost use Rattle.lines.specs.Text.{Writes, text, write};
 ghost use Rattle.writer.specs.Writer.{written_of, no_misfit, known, known_after, answer, buffer_after};
 
-use lines::{Refusal, put, put_bytes};
+use lines::{Refusal, Text};
 use request::fields::{Fields, ranges, widths_of};
 use request::operand_bytes;
 
@@ -42,11 +42,11 @@ fn no_misfit(byte: u8, fields: Fields, wide: bool) -> bool
 
 // A number in n bytes, the least first.
 #[tactic(auto, using(crate::proofs::Rows::first_bytes))]
-fn put_field(buffer: &mut [u8], at: usize, n: usize, v: u64) -> usize
+fn put_field(text: &mut Text<'_>, n: usize, v: u64)
     requires { n ≤ 8 }
-    ensures { text buffer.new result ≡ write (text buffer.old at) (little_endian n v) }
+    ensures { Writes text (little_endian n v) }
 {
-    put_bytes(buffer, at, &v.to_le_bytes()[..n])
+    text.put_bytes(&v.to_le_bytes()[..n]);
 }
 
 // The command byte and its fields, from the buffer's front.
@@ -54,11 +54,13 @@ fn put_command(buffer: &mut [u8], byte: u8, fields: Fields, wide: bool) -> usize
     ensures { text buffer.new result ≡ write (text buffer.old 0) (bytes_of (limits_of wide) byte (list_of fields)) }
 {
     let [first, second, third, fourth] = widths_of(byte, wide);
-    let a = put(buffer, 0, byte);
-    let b = put_field(buffer, a, first, fields.first);
-    let c = put_field(buffer, b, second, fields.second);
-    let d = put_field(buffer, c, third, fields.third);
-    put_field(buffer, d, fourth, fields.fourth)
+    let mut text = Text { buffer, at: 0 };
+    text.put(byte);
+    put_field(&mut text, first, fields.first);
+    put_field(&mut text, second, fields.second);
+    put_field(&mut text, third, fields.third);
+    put_field(&mut text, fourth, fields.fourth);
+    text.at
 }
 
 // A command whose operands have n bytes.

@@ -1,5 +1,5 @@
 -- What every list of calls keeps: the memory stands for the state that the rules reach over the same bytes.
-use Rattle.std.specs.Prelude.{ℕ, ◌<◌, ◌≡◌, false, List, [], ◌∷◌, length, Option, Some, None}
+use Rattle.std.specs.Prelude.{ℕ, ◌<◌, ◌≡◌, false, List, [], ◌∷◌, length, Some, None}
 use Rattle.std.proofs.Common.{sym, ap, subst, arith, take_all}
 use Rattle.rules.proofs.Laws.Line.{both}
 use Rattle.rules.proofs.Laws.Limits.{SameButShortest}

@@ -1,6 +1,6 @@
 use Rattle.std.proofs.Common.{◌≡◌, ℕ, List, [], ◌∷◌, take, sym, ap, ◌∙◌, drop-cons}
 use Rattle.rules.specs.Lines.{space}
-use Rattle.lines.specs.Text.{text, write}
+use Rattle.lines.specs.Text.{text_of, write}
 use Rattle.request.specs.Fields.{list_of}
 use Rattle.listing.specs.Listing.{numbers}
 use Rattle.listing.proofs.Numbers.{next_put, all_put, take_most}
@@ -11,7 +11,10 @@ unfolding space
 loop-number-preserved c =
     let f = c.args.fields in
     let l : List ℕ = take c.min.result (f.first ∷ f.second ∷ f.third ∷ f.fourth ∷ []) in
-    next_put _ _ _ l c.loop-number.number-index _ c.put-behind.ensures c.put_number-next.ensures (drop-cons l c.loop-number.number-index 0 c.loop-number-test.true) ∙ c.loop-number.invariant
+    record {
+      written = next_put _ _ _ l c.loop-number.number-index _ c.put.ensures.0 c.put_number.ensures.0 (drop-cons l c.loop-number.number-index 0 c.loop-number-test.true) ∙ c.loop-number.invariant.written;
+      same_buffer = c.put_number.ensures.1 ∙ (c.put.ensures.1 ∙ c.loop-number.invariant.same_buffer);
+    }
 
 pub returns : goal.returns
 unfolding list_of
@@ -19,4 +22,4 @@ returns c =
     let f = c.args.fields in
     let l : List ℕ = take c.min.result (f.first ∷ f.second ∷ f.third ∷ f.fourth ∷ []) in
     let same : l ≡ take c.args.count (f.first ∷ f.second ∷ f.third ∷ f.fourth ∷ []) = rw c.min.ensures (take_most c.args.count (f.first ∷ f.second ∷ f.third ∷ f.fourth ∷ [])) in
-    sym (all_put _ l _ c.loop-number-test.false) ∙ (c.loop-number.invariant ∙ ap (λ (m : List ℕ). write (text c.args.buffer.now c.args.at) (numbers m)) same)
+    (sym (all_put _ l _ c.loop-number-test.false) ∙ (c.loop-number.invariant.written ∙ ap (λ (m : List ℕ). write (text_of c.args.text.now) (numbers m)) same), c.loop-number.invariant.same_buffer)

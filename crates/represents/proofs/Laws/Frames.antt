@@ -189,7 +189,7 @@ pub places_moved : {limit : ℕ} {known known' active active' : ℕ → Bool} {t
     → ((z : ℕ) → place_at ts' z ≡ cond (eqb z x) p (place_at ts z)) → known' x ≡ true → ((z : ℕ) → z ≢ x → known' z ≡ known z) → ((z : ℕ) → z ≢ x → active' z ≡ active z)
     → ((d z : ℕ) → z ≢ x → waits v d z ≡ waits w d z) → ((d : ℕ) → waits v d x ≡ true → p ≡ place.Waiting) → (active' x ≡ true → p ≡ place.Running)
     → (active' x ≡ false → Free v x → p ≡ place.Blocked) → Places limit known active ts w → Places limit known' active' ts' v
-places_moved x p now is_Known known_else active_else waits_else waiting running blocked was = record {
+places_moved x p now is_known known_else active_else waits_else waiting running blocked was = record {
   waiting = λ d z h. now z ∙ both (eqb z x)
       (λ e. rw e (waiting d (rw (eqb-true z x e) at h)))
       (λ e. rw e (was.waiting d z (sym (waits_else d z (eqb-false z x e)) ∙ h)));
@@ -200,7 +200,7 @@ places_moved x p now is_Known known_else active_else waits_else waiting running 
       (λ e. rw e (blocked (rw (eqb-true z x e) at a) (λ d. rw (eqb-true z x e) at (f d))))
       (λ e. let n = eqb-false z x e in rw e (was.blocked z l (sym (known_else z n) ∙ k) (sym (active_else z n) ∙ a) (λ d. sym (waits_else d z n) ∙ f d)));
   undeclared = λ z k. now z ∙ both (eqb z x)
-      (λ e. absurd (true≢false (sym is_Known ∙ rw (eqb-true z x e) at k)))
+      (λ e. absurd (true≢false (sym is_known ∙ rw (eqb-true z x e) at k)))
       (λ e. rw e (was.undeclared z (sym (known_else z (eqb-false z x e)) ∙ k)));
 }
 

@@ -1,6 +1,6 @@
 -- THE LAWS OF ONE RUN QUEUE: what a put, a look, a take, a clock and a hard tick of the code's run queue do is what the rules' do.
 use Prim.Native.Nat.{ℕ, zero, suc, ◌+◌, ◌-◌, ◌*◌, ◌/◌, ◌%◌, ◌^◌, ◌≤◌, ◌<◌}
-use Rattle.std.specs.Prelude.{◌≡◌, Bool, cond, ◌&&◌, ◌||◌, List, [], ◌∷◌, ◌++◌, map, length, get_or, eqb, ltb, Option, None}
+use Rattle.std.specs.Prelude.{◌≡◌, Bool, cond, ◌&&◌, ◌||◌, List, [], ◌∷◌, ◌++◌, map, length, get_or, eqb, ltb, None}
 use Rattle.std.proofs.Math.Path.{refl, sym, ap}
 use Rattle.std.proofs.Common.{◌∙◌, true≢false, eq-eqb, ne_eqb, mod-eq_of_lt, div-le_self, arith}
 use Rattle.std.proofs.Math.Bool.{true, false}

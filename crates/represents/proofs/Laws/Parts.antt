@@ -1,6 +1,6 @@
 -- The parts of a run queue, with their counts: what a put, a take and a look do to them.
 use Prim.Native.Nat.{ℕ, zero, suc, ◌+◌, ◌*◌, ◌/◌, ◌%◌, ◌≤◌, ◌<◌}
-use Rattle.std.specs.Prelude.{◌≡◌, Bool, cond, set, replicate, ltb, Option, None}
+use Rattle.std.specs.Prelude.{◌≡◌, Bool, cond, set, replicate, ltb, None}
 use Rattle.std.proofs.Math.Path.{refl, ap}
 use Rattle.std.proofs.Common.{sym, ◌∙◌, get_or-set_other, zero-add, mod-eq_of_lt, mul-le-mul_right, add-one, arith}
 use Rattle.std.proofs.Math.Bool.{true, false}

@@ -15,7 +15,7 @@ use Rattle.runqueue.specs.declared.rq.RunQueue.{RunQueue}
 use Rattle.runqueue.specs.declared.rq.Arrival.{Arrival}
 use Rattle.runqueue.specs.declared.rq.Put.{Put}
 use Rattle.runqueue.specs.declared.rq.Front.{Front}
-use Rattle.runqueue.specs.RunQueue.{front_at, rq_insert, rq_front, rq_taken, rq_clock, rq_hardtick}
+use Rattle.runqueue.specs.RunQueue.{rq_insert, rq_front, rq_taken, rq_clock, rq_hardtick}
 use Rattle.represents.proofs.Laws.Linked.{Alike, has_later}
 use Rattle.represents.specs.QueueRead.{Marks}
 use Rattle.represents.specs.Queue.{QueueReading, QueueRep}

@@ -11,7 +11,7 @@ use Rattle.runqueue.specs.declared.rq.RunQueue.{RunQueue}
 use Rattle.runqueue.specs.declared.rq.Arrival.{Arrival}
 use Rattle.runqueue.specs.declared.rq.Put.{Put}
 use Rattle.runqueue.specs.declared.rq.Front.{Front}
-use Rattle.runqueue.specs.RunQueue.{front_at, rq_taken}
+use Rattle.runqueue.specs.RunQueue.{rq_taken}
 use Rattle.represents.proofs.Laws.Linked.{link_after}
 use Rattle.represents.specs.QueueRead.{Marks, queue_read}
 use Rattle.represents.specs.Queue.{QueueReading, QueueRep}

@@ -13,7 +13,6 @@ use Rattle.rules.specs.Priority.{less, donation_accepted, priority, class_at}
 use Rattle.rules.specs.Times.{effective_priority}
 use Rattle.rules.specs.Queue.{load}
 use Rattle.rules.specs.State.{at, Limits, Topology, State}
-use Rattle.rules.specs.Choice.{pair_at}
 use Rattle.rules.proofs.Laws.Effect.{and_right}
 use Rattle.rules.specs.Schedule as sched
 use Rattle.rules.specs.Schedule.{World, Got, Balancing, Flags, with_cpu, with_thread}

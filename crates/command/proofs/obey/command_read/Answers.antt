@@ -1,4 +1,4 @@
-use Rattle.std.proofs.Common.{◌≡◌, ap, ◌∙◌}
+use Rattle.std.proofs.Common.{ap, ◌∙◌}
 use Rattle.outcome.specs.declared.answer.Answered.{Answered}
 use Rattle.command.specs.Lent.{Lent, kept}
 use Rattle.command.proofs.Judged.{refused, obeyed}

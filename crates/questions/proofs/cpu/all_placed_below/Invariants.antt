@@ -1,6 +1,5 @@
 use mathlib.Core.Path.{◌≡◌}
-use Prim.Native.Nat.{◌≤◌, ◌-◌}
-use Rattle.rules.specs.Questions as rules
+use Prim.Native.Nat.{◌≤◌}
 use Rattle.questions.specs.Questions.{all_placed_below}
 use Rattle.questions.proofs.cpu.all_placed_below.Given as goal
 

@@ -1,8 +1,7 @@
-use Rattle.std.proofs.Common.{◌≡◌, ◌∙◌, ◌<◌, ◌-◌, ℕ, Bool, true, false, not, T as Holds, ap, sym, subst}
-use Rattle.outcome.specs.Call.{asked_def}
-use Rattle.stream.specs.Progress.{can_answer, must_wait}
+use Rattle.std.proofs.Common.{◌≡◌, ◌∙◌, ◌<◌, ◌-◌, Bool, true, false, not, T as Holds, ap, sym, subst}
+use Rattle.stream.specs.Progress.{must_wait}
 use Rattle.stream.specs.Feed.{World, world_of_def}
-use Rattle.stream.proofs.Feeding.{Inv, inv_start, inv_next, inv_near, inv_waits, inv_end, stepped, turned}
+use Rattle.stream.proofs.Feeding.{Inv, inv_start, inv_next, inv_near, inv_waits, inv_end, turned}
 use Rattle.stream.proofs.feed.run.Goals as goal
 
 holds_by : (t : Bool) → true ≡ t → Holds t
