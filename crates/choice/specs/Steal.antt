@@ -1,7 +1,7 @@
 -- The first CPU that passes a test, over the numbers of a node and over nodes.
-use Rattle.std.specs.Prelude.{ℕ, ◌+◌, ◌-◌, ◌≤◌, ◌<◌, ◌≡◌, Bool, cond, ◌&&◌, eqb, Option, None, Some, is_some}
+use Rattle.std.specs.Prelude.{ℕ, zero, suc, ◌+◌, ◌-◌, ◌≤◌, ◌<◌, ◌≡◌, Bool, cond, ◌&&◌, eqb, Option, None, Some, is_some, MatchOption}
 use Rattle.std.proofs.Math.Path.{refl}
-use Rattle.std.proofs.Common.{sym, ap, ◌∙◌}
+use Rattle.std.proofs.Common.{sym, ap, ◌∙◌, arith}
 use Rattle.std.proofs.Math.Bool.{true, false}
 use mathlib.Core.List.{List, [], ◌∷◌, ◌++◌}
 use Rattle.rules.specs.State.{join_all}
@@ -22,6 +22,31 @@ module _ (donor : ℕ → Bool) where
   pub first_end : (test : ℕ → Bool) (c to : ℕ) → to ≤ c → first_that donor (those_from test c (to - c)) ≡ None
   unfolding first_that
   first_end test c to h = rw (those_end test c to h)
+
+  none_from : (test : ℕ → Bool) (n c to : ℕ) → to - c ≡ n → ((k : ℕ) → c ≤ k → k < to → (test k && donor k) ≡ false)
+      → first_that donor (those_from test c (to - c)) ≡ None
+  none_from test zero c to e h = first_end test c to (omega (arith, e))
+  none_from test (suc n) c to e h =
+      rw (first_turn test c to (omega (arith, e)), h c (omega arith) (omega (arith, e)))
+      (none_from test n (c + 1) to (omega (arith, e)) (λ k p q. h k (omega (arith, p)) q))
+
+  some_from : (test : ℕ → Bool) (n c to i : ℕ) → i - c ≡ n → c ≤ i → i < to → (test i && donor i) ≡ true
+      → ((k : ℕ) → c ≤ k → k < i → (test k && donor k) ≡ false)
+      → first_that donor (those_from test c (to - c)) ≡ Some i
+  some_from test zero c to i e p q y0 n0 =
+      let here : c ≡ i = omega (arith, e, p) in
+      rw (here, first_turn test i to q, y0) refl
+  some_from test (suc n) c to i e p q y0 n0 =
+      rw (first_turn test c to (omega (arith, e, q)), n0 c (omega arith) (omega (arith, e)))
+      (some_from test n (c + 1) to i (omega (arith, e)) (omega (arith, e)) q y0 (λ k u v. n0 k (omega (arith, u)) v))
+
+  -- the first of the numbers from c up to `to`
+  pub first_from : (test : ℕ → Bool) (c to : ℕ) (r : Option ℕ)
+      → MatchOption r ((k : ℕ) → c ≤ k → k < to → (test k && donor k) ≡ false)
+      (λ i. (c ≤ i) × (i < to) × ((test i && donor i) ≡ true) × ((k : ℕ) → c ≤ k → k < i → (test k && donor k) ≡ false))
+      → r ≡ first_that donor (those_from test c (to - c))
+  first_from test c to None h = sym (none_from test (to - c) c to refl h)
+  first_from test c to (Some i) h = sym (some_from test (i - c) c to i refl h.0 h.1 h.2 h.3)
 
   first_found : (a b : List ℕ) → is_some (first_that donor a) ≡ true → first_that donor (a ++ b) ≡ first_that donor a
   unfolding first_that

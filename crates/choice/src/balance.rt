@@ -1,5 +1,6 @@
 // The CPU that gives a thread and the one that gets it (`choose_cpu_balance`).
-// CPUs, nodes, the CPU that asks and the limit are parameters of their own: as fields of a struct they make each clause longer.
+// CPUs, nodes, the CPU that asks and the limit are parameters of their own. Tried as fields of a struct: each clause gets longer, and most functions ask for
+// fewer.
 ghost use Rattle.std.specs.Prelude.{◌≡◌, ◌-◌, ◌&&◌};
 ghost use Rattle.rules.specs.Choice as rule;
 ghost use Rattle.rules.specs.Choice.{extremes, choose_cpu_balance};
@@ -69,6 +70,7 @@ fn counts(nodes: &[NodeWords], allowed: CpuSet, n: u64, c: u64) -> bool
     contains(nodes, n, c) && allowed.contains(c)
 }
 
+// The CPUs from one number to below another, ascending. A loop, as in `search_range`.
 #[tactic(auto, using(crate::specs::Balance::extremes_end, crate::specs::Balance::extremes_no, crate::specs::Balance::extremes_yes))]
 pub fn balance_range(
     cpus: &[CpuWords],

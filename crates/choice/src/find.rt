@@ -1,5 +1,6 @@
 // The search of the tree for the CPU with the lowest score (`find_cpu_from_topo`).
-// CPUs, nodes, the CPU that asks and the limit are parameters of their own: as fields of a struct they make each clause longer.
+// CPUs, nodes, the CPU that asks and the limit are parameters of their own. Tried as fields of a struct: each clause gets longer, and most functions ask for
+// fewer.
 ghost use Rattle.std.specs.Prelude.{◌≡◌, ◌-◌};
 ghost use Rattle.rules.specs.Choice.{lower, find_cpu};
 ghost use Rattle.topology.specs.Node.{contains_at};

@@ -1,5 +1,6 @@
 // The CPU for a thread (`select_cpu`).
-// CPUs, nodes, the CPU that asks and the limit are parameters of their own: as fields of a struct they make each clause longer.
+// CPUs, nodes, the CPU that asks and the limit are parameters of their own. Tried as fields of a struct: each clause gets longer, and most functions ask for
+// fewer.
 ghost use Rattle.std.specs.Prelude.{◌≡◌};
 ghost use Rattle.rules.specs.Schedule.{same_cpu};
 ghost use Rattle.choice.specs.Select.{runs_at_once, at_once, cpu_found, accepted, search_twice, select_cpu, after_select};

@@ -1,5 +1,6 @@
 // The CPU from which to steal (`choose_cpu_steal_via_topo`): the CPUs of the own leaf, ascending, then those of each node above it.
-// CPUs, nodes, the CPU that asks and the limit are parameters of their own: as fields of a struct they make each clause longer.
+// CPUs, nodes, the CPU that asks and the limit are parameters of their own. Tried as fields of a struct: each clause gets longer, and most functions ask for
+// fewer.
 ghost use Rattle.std.specs.Prelude.{◌≡◌, ◌&&◌, ◌-◌};
 ghost use Rattle.rules.specs.Choice.{may_steal_from, first_that};
 ghost use Rattle.topology.specs.Node.{contains_at};
@@ -41,12 +42,7 @@ pub fn steal_range(
     ensures { result
         ≡ (first_that (may_steal_from us (load_at cpus.now) (movable_at cpus.now)) (those_from (contains_at nodes.now n) from (to - from))) }
 {
-    for c in from..to {
-        if is_donor(cpus, nodes, us, n, c) {
-            return Some(c);
-        }
-    }
-    None
+    (from..to).find(|c| is_donor(cpus, nodes, us, n, *c))
 }
 
 #[tactic(auto, unfolding(topology::specs::Walk::cpus_at))]

@@ -1,9 +1,8 @@
 -- A command by its refusal, or obeyed where there is none.
-use Rattle.std.specs.Prelude.{ℕ, ◌≡◌, false, cond, not, eqb, get_or, Option, None, Some, Result, Ok, Err}
+use Rattle.std.specs.Prelude.{ℕ, ◌≡◌, false, cond, not, eqb, Option, None, Some, Result, Ok, Err}
 use Rattle.std.proofs.Common.{refl, sym, ap, ◌∙◌}
 use Rattle.std.specs.Result.{result_err}
 use Rattle.thread.specs.declared.Thread.{Thread}
-use Rattle.thread.specs.Thread.{blank}
 use Rattle.rules.specs.Lines.{used}
 use Rattle.request.specs.Request.{request_of, reading_of}
 use Rattle.request.specs.declared.Asked.{Asked}
@@ -16,7 +15,7 @@ use Rattle.questions.specs.declared.state.State.{State}
 use Rattle.questions.specs.Questions.{refusal_in}
 use Rattle.records.specs.Left.{Left}
 use Rattle.outcome.specs.declared.answer.Answered.{Answered}
-use Rattle.outcome.specs.Call.{refusal_back, thread_in}
+use Rattle.outcome.specs.Call.{refusal_back, thread_in, named_record}
 use Rattle.outcome.specs.Answer.{refuses}
 use Rattle.command.specs.Lent.{Lent, kept}
 use Rattle.command.specs.Command.{judged_def, obey_def, answered_def}
@@ -51,11 +50,11 @@ module _ (s : State) (w : Lent) where
   unfolding answered_def refusal_number
   is_obeyed a e = ap (by_refusal a) e
 
-  -- the calls of `command_read`: the thread x that is named, its record t, and what was judged, j
-  module _ (r : Result Asked Unread) (x : ℕ) (named : x ≡ thread_in (reading_of r)) (t : Thread) (got : t ≡ get_or w.threads x blank)
+  -- the calls of `command_read`: the record t of the thread that is named, and what was judged, j
+  module _ (r : Result Asked Unread) (t : Thread) (got : t ≡ named_record w.threads (thread_in (reading_of r)))
       (j : Result Asked Refusal) (judged : result_err j ≡ refusal_back (refusal_in w.cpus w.nodes s t (reading_of r))) where
     same : result_err j ≡ judged_def s r w
-    same = judged ∙ ap (λ (u : Thread). refusal_back (refusal_in w.cpus w.nodes s u (reading_of r))) (got ∙ ap (λ (y : ℕ). get_or w.threads y blank) named)
+    same = judged ∙ ap (λ (u : Thread). refusal_back (refusal_in w.cpus w.nodes s u (reading_of r))) got
 
     pub refused : (q : Refusal) (n : ℕ) → j ≡ Err q → n ≡ used (reading_of r) → kept w (refuses s (Some q) n) ≡ answered_def s r w
     refused q n e k = ap (λ (m : ℕ). kept w (refuses s (Some q) m)) k ∙ sym (is_refused r q (sym same ∙ ap result_err e))

@@ -1,9 +1,8 @@
 -- What one command does to lent memory: the thread records, the words of the CPUs and of the nodes, and the state.
-use Rattle.std.specs.Prelude.{ℕ, cond, not, List, eqb, get_or, set, Option, Result, Ok, Err}
+use Rattle.std.specs.Prelude.{ℕ, cond, not, List, eqb, set, Option, Result, Ok, Err}
 use Rattle.rules.specs.Requests.{Request, declare_cpu, add_node, place_cpu, seal, set_shortest, declare_thread, set_tick, schedule_thread, schedule, hardtick, stattick, resched, maybe_preempt, donate, remove_donation, set_critical}
 use Rattle.thread.specs.declared.Thread.{Thread}
-use Rattle.thread.specs.Thread.{blank}
-use Rattle.thread.specs.Place.{new}
+use Rattle.thread.specs.Place.{pin_number, new}
 use Rattle.request.specs.declared.Asked.{Asked}
 use Rattle.request.specs.declared.Unread.{Unread}
 use Rattle.request.specs.Request.{request_of, reading_of}
@@ -24,7 +23,7 @@ use Rattle.sched_queues.specs.Donate.{donate_priority_def, remove_donated, set_c
 use Rattle.outcome.specs.declared.answer.Answered.{Answered}
 use Rattle.command.specs.Lent.{Lent, memory_of, in_memory, in_threads, in_cpus, in_nodes, kept}
 use Rattle.outcome.specs.Answer.{refuses, changed, ran}
-use Rattle.outcome.specs.Call.{asked_def, refusal_back, thread_in, pin_number, priority_in, context_of, flags_in, ticked, sealed_now, with_shortest, one_node_more}
+use Rattle.outcome.specs.Call.{asked_def, refusal_back, thread_in, named_record, priority_in, context_of, flags_in, ticked, sealed_now, with_shortest, one_node_more}
 
 -- ---- 10 and from 12 on
 
@@ -93,7 +92,7 @@ obey_def s (set_critical x mark) used w = in_threads w (set_critical_command s x
 
 -- the refusal, with the record of the thread that is named
 abbrev pub judged_def : State → Result Asked Unread → Lent → Option Refusal
-judged_def s r w = refusal_back (refusal_in w.cpus w.nodes s (get_or w.threads (thread_in (reading_of r)) blank) (reading_of r))
+judged_def s r w = refusal_back (refusal_in w.cpus w.nodes s (named_record w.threads (thread_in (reading_of r))) (reading_of r))
 
 -- the command that was read
 unfoldable pub answered_def : State → Result Asked Unread → Lent → Left Answered Lent

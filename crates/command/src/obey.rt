@@ -3,25 +3,24 @@ ghost use Rattle.std.specs.Prelude.{◌≡◌, length};
 ghost use Rattle.rules.specs.Lines.{used};
 ghost use Rattle.request.specs.Request.{request_of, reading_of};
 ghost use Rattle.records.specs.Left.{Leaves, LeavesOne, LeavesOver};
+ghost use Rattle.outcome.specs.Call.{named_record, thread_in};
 ghost use Rattle.command.specs.Lent.{LeavesAll};
 ghost use Rattle.command.specs.Command.{declare_thread_command, schedule_thread_command, schedule_command, hardtick_command, stattick_command, resched_command, maybe_preempt_command, donate_command, remove_donation_command, set_critical_command, obey_def, answered_def, command_def};
 
 use outcome::answer::{Answered, changed, ran, refuses};
-use outcome::call::{
-    asked, context_of, flags_in, judged, pin_number, priority_in, thread_named, ticked,
-};
+use outcome::call::{asked, context_of, flags_in, judged, priority_in, thread_named, ticked};
 use outcome::prepare::{add_node, declare_cpu, place_cpu, seal, set_shortest};
 use processor::words::CpuWords;
 use questions::state::State;
 use records::memory::Memory;
 use records::record::{get, set};
-use request::{Reading, Request};
+use request::{Asked, Reading, Request};
 use sched::preempt::schedule_maybe_preempt;
 use sched::schedule::schedule;
 use sched_queues::donate::{donate_priority, remove_donated_priority};
 use sched_ticks::balance::schedule_stattick;
 use sched_ticks::ticks::{schedule_hardtick, schedule_resched};
-use thread::Thread;
+use thread::{Thread, blank};
 use topology::words::NodeWords;
 
 // class and value are the operands as they came in (`priority_in`).
@@ -37,7 +36,7 @@ pub fn declare_thread(
 ) -> Answered
     ensures { LeavesOne (declare_thread_command state thread class value pin used) result threads }
 {
-    let declared = Thread::new(priority_in(class, value), pin_number(pin));
+    let declared = Thread::new(priority_in(class, value), pin);
     set(threads, thread, declared);
     changed(state, used)
 }
@@ -58,6 +57,8 @@ pub fn schedule_thread(
     ran(m.cpus(), state, chosen.cpu, chosen.wakeups, used)
 }
 
+// Three lines, as are `stattick` and `maybe_preempt`, of which the middle one differs: a function over a closure would be longer than they are, since it asks
+// that the closure can be called and says in its clause what it does.
 #[tactic(auto, unfolding(crate::specs::Command::schedule_command))]
 pub fn schedule_on(m: &mut Memory<'_>, state: State, cpu: u64, flags: u64, used: usize) -> Answered
     ensures { LeavesOver (schedule_command state cpu flags used) result m }
@@ -156,19 +157,19 @@ pub fn set_critical(
     changed(state, used)
 }
 
-// The case of the command. Here and above up to C the three slices stand apart: commands before the seal change the nodes, which a `Memory` reads. Nodes
-// that it could change would be forgotten by the check where it is lent to be read.
+// The case of the command, read from bytes or made of numbers (`Call`). Here and above up to C the three slices stand apart: commands before the seal change
+// the nodes, which a `Memory` reads. Nodes that it could change would be forgotten by the check where it is lent to be read.
 #[tactic(auto, unfolding(crate::specs::Command::obey_def, request::specs::Request::request_of))]
 pub fn obey(
     threads: &mut [Thread],
     cpus: &mut [CpuWords],
     nodes: &mut [NodeWords],
     state: State,
-    request: Request,
-    used: usize,
+    asked: Asked,
 ) -> Answered
-    ensures { LeavesAll (obey_def state (request_of request) used) result threads cpus nodes }
+    ensures { LeavesAll (obey_def state (request_of asked.request) asked.used) result threads cpus nodes }
 {
+    let Asked { request, used } = asked;
     let m = &mut Memory {
         threads,
         cpus,
@@ -215,6 +216,14 @@ fn taken(reading: Reading) -> usize
     }
 }
 
+// The record of the thread that is named, blank where there is none.
+#[tactic(auto, unfolding(outcome::specs::Call::named_record))]
+fn named(threads: &[Thread], reading: Reading) -> Thread
+    ensures { result ≡ named_record threads.now (thread_in (reading_of reading)) }
+{
+    thread_named(reading).map_or(blank(), |x| get(threads, x))
+}
+
 // The command that was read. "A no gives the number, changes nothing."
 pub fn command_read(
     threads: &mut [Thread],
@@ -225,10 +234,9 @@ pub fn command_read(
 ) -> Answered
     ensures { LeavesAll (answered_def state reading) result threads cpus nodes }
 {
-    let x = thread_named(reading);
-    let t = get(threads, x);
+    let t = named(threads, reading);
     match judged(cpus, nodes, state, t, reading) {
-        Ok(asked) => obey(threads, cpus, nodes, state, asked.request, asked.used),
+        Ok(asked) => obey(threads, cpus, nodes, state, asked),
         Err(refusal) => refuses(state, Some(refusal), taken(reading)),
     }
 }

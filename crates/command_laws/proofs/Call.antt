@@ -1,10 +1,12 @@
 -- ONE CALL, by the rules' reading of its bytes: refused or obeyed.
 use Prim.Native.Nat.{ℕ, suc, ◌≤◌}
-use Rattle.std.specs.Prelude.{◌≡◌, ◌≢◌, false, cond, not, List, eqb, take, drop, get_or, Option}
+use Rattle.std.specs.Prelude.{◌≡◌, ◌≢◌, ◌<◌, false, cond, not, ◌&&◌, List, eqb, ltb, take, drop, Option, Some}
 use Rattle.std.proofs.Math.Path.{refl, ap, subst}
-use Rattle.std.proofs.Common.{sym, ◌∙◌, arith}
+use Rattle.std.proofs.Common.{sym, ◌∙◌, ltb-true, arith}
 use borrow.Author.Tests.{eqb-true, eqb-false}
 use Rattle.rules.proofs.Laws.Line.{both}
+use Rattle.rules.proofs.Laws.Effect.{and_left}
+use Rattle.rules.proofs.Laws.Reached.{yes}
 use Rattle.rules.specs.Puts.{PutOrTake}
 use Rattle.rules.specs.State as rules
 use Rattle.rules.specs.Requests.{Request, declare_cpu, add_node, place_cpu, seal, set_shortest, declare_thread, set_tick, schedule_thread, schedule, hardtick, stattick, resched, maybe_preempt, donate, remove_donation, set_critical, Reading, unknown, cut_short, asks, read}
@@ -13,18 +15,21 @@ use Rattle.rules.specs.Commands as ruled
 use Rattle.rules.specs.Commands.{obeys, answered}
 use Rattle.rules.specs.Lines.{used}
 use Rattle.thread.specs.declared.Thread.{Thread}
-use Rattle.thread.specs.Thread.{blank}
+use Rattle.thread.specs.Thread.{NONE}
 use Rattle.request.specs.Request.{limits_of, request_of, reading_of}
 use Rattle.lines.specs.declared.Refusal.{Refusal}
 use Rattle.lines.specs.Lines.{question_number, refusal_number, answer_of}
 use Rattle.questions.specs.declared.state.State.{State}
 use Rattle.questions.specs.Questions.{refusal_in}
 use Rattle.outcome.specs.Answer.{nothing_shown, refuses}
-use Rattle.outcome.specs.Call.{request_back, reading_back, refusal_back, thread_named, thread_in}
+use Rattle.outcome.specs.Numbers.{request_by, call_of, call_read}
+use Rattle.outcome.proofs.CallNumbers.{numbers_again}
+use Rattle.outcome.specs.Call.{request_back, reading_back, refusal_back, thread_named, thread_in, named_record}
 use Rattle.command.specs.Command.{obey_def, answered_def, command_def}
 use Rattle.represents.specs.State.{StateRep}
 use Rattle.question_laws.proofs.Refusals.{refusal_same}
 use Rattle.command_laws.specs.Law.{Reachable, AsRuled}
+use Rattle.command_laws.proofs.CallNumbers.{call_numbers}
 use Rattle.command_laws.proofs.Numbers.{refusal_most}
 use Rattle.command_laws.proofs.Obeyed.{obey_law, obey_obeyed}
 -- ---- there and back: the rules' requests and the declared ones, a refusal and its number
@@ -76,6 +81,12 @@ number_there n l =
     (λ i. number_or n 9 _ _ refl i
     (λ j. number_or n 10 _ _ refl j (λ k. absurd (omega arith))))))))))))
 
+-- ---- the numbers of a call
+
+call_taken : (r : Request) (n : ℕ) → (call_of r n).used ≡ n
+unfolding call_read used
+call_taken r n = (call_numbers (asks r n)).0
+
 -- ---- a call by the rules' reading of its bytes, and by the number of its refusal
 
 module _ (ts : List Thread) (cs ns : List (List ℕ)) (a : State) where
@@ -90,13 +101,13 @@ module _ (ts : List Thread) (cs ns : List (List ℕ)) (a : State) where
   unfoldable pub read_call : Reading → Left Answered Lent
   read_call unknown = unread_call 1
   read_call cut_short = unread_call 2
-  read_call (asks r used) = numbered_call r used (refusal_in cs ns a (get_or ts (thread_named r) blank) (asks r used))
+  read_call (asks r used) = numbered_call r used (refusal_in cs ns a (named_record ts (thread_named r)) (asks r used))
 
   reading_call : (r : Reading) → answered_def a (reading_back r) (lent ts cs ns) ≡ read_call r
   unfolding answered_def read_call unread_call numbered_call reading_back reading_of thread_in refusal_in
   reading_call unknown = refl
   reading_call cut_short = refl
-  reading_call (asks r used) = ap (λ (q : Request). numbered_call q used (refusal_in cs ns a (get_or ts (thread_named q) blank) (asks q used))) (request_there r)
+  reading_call (asks r used) = ap (λ (q : Request). numbered_call q used (refusal_in cs ns a (named_record ts (thread_named q)) (asks q used))) (request_there r)
 
   pub command_read : (bytes : List ℕ) (n at : ℕ) → command_def n at a bytes (lent ts cs ns) ≡ read_call (read (limits_of a.wide) (drop at (take n bytes)))
   unfolding command_def
@@ -153,3 +164,33 @@ module _ {H : ℕ → List PutOrTake} {ts : List Thread} {cs ns : List (List ℕ
   read_law cut_short = unread_law 2 (omega arith)
   read_law (asks r used) =
       subst (λ (n : ℕ). AsRuled (numbered_call ts cs ns a r used n) (answered s (asks r used))) (sym (refusal_same m h.reached (asks r used))) (asked_law r used)
+
+  -- a pin that is declared is not the number for none
+  pin_fits : (x k v used : ℕ) → rules_ask.refusal s (asks (declare_thread x k v (Some NONE)) used) ≢ 0
+  unfolding rules_ask.refusal rules_ask.concerning rules_ask.sealed_now rules_ask.pin_declared rules_ask.cpu_declared rules_ask.declared
+  pin_fits x k v used e =
+      let y = yes 3 (ltb NONE s.limits.cpus && s.topology.declared NONE) _ (yes 2 _ _ e).1 in
+      let near : NONE < s.limits.cpus = ltb-true _ _ (and_left (ltb NONE s.limits.cpus) (s.topology.declared NONE) y.0) in
+      omega (arith, near, m.small.cpus)
+
+  -- the numbers of a request that is obeyed ask it again
+  obeyed_again : (r : Request) (used : ℕ) → rules_ask.refusal s (asks r used) ≡ 0 → request_by (call_of r used) ≡ r
+  obeyed_again r used e =
+      numbers_again r used (λ x k v q. pin_fits x k v used (subst (λ (o : Request). rules_ask.refusal s (asks o used) ≡ 0) q e))
+
+  asked_numbers : (r : Request) (used : ℕ)
+      → AsRuled (numbered_call ts cs ns a (request_by (call_of r used)) (call_of r used).used (rules_ask.refusal s (asks r used))) (answered s (asks r used))
+  unfolding answered
+  asked_numbers r used =
+      let n : ℕ = rules_ask.refusal s (asks r used) in
+      subst (λ (i : ℕ). AsRuled (numbered_call ts cs ns a (request_by (call_of r used)) i n) (answered s (asks r used))) (sym (call_taken r used))
+      (both (eqb n 0)
+      (λ t. subst (λ (o : Request). AsRuled (numbered_call ts cs ns a o used n) (answered s (asks r used))) (sym (obeyed_again r used (eqb-true n 0 t))) (asked_law r used))
+      (λ t. rw t (refused_law (request_by (call_of r used)) used n (refusal_most s (asks r used)) t)))
+
+  -- the call by the numbers of what is read
+  pub numbered_law : (r : Reading) → AsRuled (numbered_call ts cs ns a (request_by (call_read r)) (call_read r).used (rules_ask.refusal s r)) (answered s r)
+  unfolding answered rules_ask.refusal call_read
+  numbered_law unknown = refused_law _ 0 1 (omega arith) refl
+  numbered_law cut_short = refused_law _ 0 2 (omega arith) refl
+  numbered_law (asks r used) = asked_numbers r used

@@ -1,5 +1,6 @@
 pub mod Asked
 pub mod Call
+pub mod CallNumbers
 pub mod Command
 pub mod CpusFound
 pub mod InRange

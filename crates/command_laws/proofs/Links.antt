@@ -22,7 +22,7 @@ use Rattle.runqueue.specs.declared.rq.Arrival.{Arrival}
 use Rattle.runqueue.specs.declared.rq.Front.{Front}
 use Rattle.runqueue.specs.RunQueue.{no_run_queue, with_realtime, with_timeshare, with_idle, advertising, counted, uncounted, rq_insert_realtime, rq_insert_timeshare, rq_insert_idle, rq_insert_into, rq_insert, first_in_def, rq_front_idle, rq_front_timeshare, rq_front_realtime, rq_front, rq_taken_realtime, rq_recalc, rq_taken_timeshare, rq_taken_idle, rq_taken_from, rq_taken, rq_clock, rq_hardtick}
 use Rattle.processor.proofs.Laws.Queue.{Eights}
-use Rattle.command_laws.specs.Links.{FoundLink, FrontLink, Link, ListsInRange, QueueInRange}
+use Rattle.command_laws.specs.Links.{BehindLink, FoundLink, FrontLink, Link, ListsInRange, QueueInRange}
 
 links_set : (l : List ℕ) (i v : ℕ) → ((b : ℕ) → Link (get_or l b 0)) → Link v → (b : ℕ) → Link (get_or (set l i v) b 0)
 links_set l i v h k b =
@@ -32,8 +32,8 @@ links_set l i v h k b =
     (λ m. rw (set_out l i v (ltb-false _ _ m)) (h b)))
     (λ e. rw (get_or-set_other l i b v 0 (eqb-false b i e)) (h b))
 
-pub neat_push : (l : Lists) (b t : ℕ) → ListsInRange l → Link t → ListsInRange (push_back l b t).queue × Link (push_back l b t).behind
-unfolding push_back
+pub neat_push : (l : Lists) (b t : ℕ) → ListsInRange l → Link t → ListsInRange (push_back l b t).queue × BehindLink (push_back l b t).behind
+unfolding push_back BehindLink
 neat_push l b t n k =
     both (eqb (get_or l.heads (b % nr_buckets) 0) NONE)
     (λ e. rw e (
@@ -45,7 +45,7 @@ neat_push l b t n k =
         heads = links_set l.heads (b % nr_buckets) t n.heads k;
         tails = links_set l.tails (b % nr_buckets) t n.tails k;
       },
-      λ h. refl,
+      tt,
     ))
     (λ e. rw e (
       record {
@@ -105,7 +105,7 @@ unfolding no_run_queue no_priority no_timeshare nr_buckets
 orderly_none = record { realtime = neat_none; timeshare = neat_none; idle = neat_none; counts = refl }
 
 -- a put, and whose link is to lead to the thread
-insert_into : (p : Part) (q : RunQueue) (a : Arrival) → QueueInRange q → Link a.thread → QueueInRange (rq_insert_into p q a).queue × Link (rq_insert_into p q a).behind
+insert_into : (p : Part) (q : RunQueue) (a : Arrival) → QueueInRange q → Link a.thread → QueueInRange (rq_insert_into p q a).queue × BehindLink (rq_insert_into p q a).behind
 unfolding rq_insert_into rq_insert_realtime rq_insert_timeshare rq_insert_idle with_realtime with_timeshare with_idle counted pq_insert ts_insert
 insert_into part.Realtime q a o k =
     let n = neat_push q.realtime.queues (class_bucket a.priority.class a.priority.value) a.thread o.realtime k in
@@ -117,7 +117,7 @@ insert_into part.Idle q a o k =
     let n = neat_push q.idle.queues (class_bucket a.priority.class a.priority.value) a.thread o.idle k in
     (record { realtime = o.realtime; timeshare = o.timeshare; idle = n.0; counts = o.counts }, n.1)
 
-pub orderly_insert : (q : RunQueue) (a : Arrival) → QueueInRange q → Link a.thread → QueueInRange (rq_insert q a).queue × Link (rq_insert q a).behind
+pub orderly_insert : (q : RunQueue) (a : Arrival) → QueueInRange q → Link a.thread → QueueInRange (rq_insert q a).queue × BehindLink (rq_insert q a).behind
 unfolding rq_insert
 orderly_insert q a o k = insert_into (part_of a.priority.class a.due) q a o k
 

@@ -8,7 +8,9 @@ use Rattle.rules.specs.Commands.{obeys}
 use Rattle.thread.specs.declared.Thread.{Thread}
 use Rattle.lines.specs.Lines.{refusal_number}
 use Rattle.questions.specs.declared.state.State.{State}
+use Rattle.outcome.specs.declared.numbers.Call.{Call}
 use Rattle.outcome.specs.Answer.{nothing_shown, shown, changed, ran}
+use Rattle.outcome.specs.Numbers.{prepared_by}
 use Rattle.command.specs.Command.{declare_thread_command, schedule_thread_command, schedule_command, hardtick_command, stattick_command, resched_command, maybe_preempt_command, donate_command, remove_donation_command, set_critical_command, obey_def}
 use Rattle.represents.specs.State.{StateRep}
 use Rattle.command_laws.specs.Law.{Reachable, AsRuled}
@@ -55,3 +57,7 @@ obey_obeyed ts cs ns a (maybe_preempt c) n = record { number = refl; used = refl
 obey_obeyed ts cs ns a (donate c x k v) n = record { number = refl; used = refl }
 obey_obeyed ts cs ns a (remove_donation x) n = record { number = refl; used = refl }
 obey_obeyed ts cs ns a (set_critical x k) n = record { number = refl; used = refl }
+
+-- so are the numbers of a command before the seal
+pub prepares_obeyed : (ts : List Thread) (cs ns : List (List ℕ)) (a : State) (k : Call) → Obeyed k.used (obey_def a (prepared_by k) k.used (lent ts cs ns))
+prepares_obeyed ts cs ns a k = obey_obeyed ts cs ns a (prepared_by k) k.used

@@ -46,7 +46,7 @@ use Rattle.sched.specs.Preempt.{preempting, schedule_maybe_preempt_def}
 use Rattle.sched_ticks.specs.Balance as tick
 use Rattle.sched_ticks.specs.Balance.{received, move_made, move_one_def, move_two, balance_def, maybe_rebalance_def, due_in, clocked, schedule_stattick_def}
 use Rattle.sched_ticks.specs.Ticks.{paid_by_def, schedule_hardtick_def, schedule_resched_def}
-use Rattle.command_laws.specs.Links.{Link, FrontLink}
+use Rattle.command_laws.specs.Links.{BehindLink, Link, FrontLink}
 use Rattle.command_laws.proofs.Links.{orderly_insert, orderly_front, orderly_taken, orderly_clock, orderly_hardtick}
 use Rattle.command_laws.specs.CpusFound.{PairNear}
 use Rattle.command_laws.proofs.CpusFound.{selected_near, steal_near, choice_near}
@@ -139,10 +139,10 @@ goes_marked ts cs c false k h = goes_none k
 
 -- ---- puts and takes
 
-goes_behind : (ts : List Thread) (cs : List (List ℕ)) (b x : ℕ) → InRange (mem ts cs) → Link b → Link x → StaysInRange (mem ts cs) (mem (link_behind ts b x) cs)
-unfolding link_behind
-goes_behind ts cs b x k l n =
-    both (eqb b NONE) (λ e. rw e (goes_none k)) (λ e. rw e (goes_record ts cs b (with_next (record_at ts b) x) k l (tidy_next (record_at ts b) x n (k.records b))))
+goes_behind : (ts : List Thread) (cs : List (List ℕ)) (b : Option ℕ) (x : ℕ) → InRange (mem ts cs) → BehindLink b → Link x → StaysInRange (mem ts cs) (mem (link_behind ts b x) cs)
+unfolding link_behind BehindLink
+goes_behind ts cs None x k l n = goes_none k
+goes_behind ts cs (Some b) x k l n = goes_record ts cs b (with_next (record_at ts b) x) k l (tidy_next (record_at ts b) x n (k.records b))
 
 goes_insert : (c x n : ℕ) (current : Bool) (m : Memory) → InRange m → c < 64 → Link x → StaysInRange m (insert_def c x n current m)
 unfolding insert_def arrival_of

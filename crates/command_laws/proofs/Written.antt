@@ -23,7 +23,7 @@ use Rattle.thread.specs.declared.Thread.{Thread}
 use Rattle.thread.specs.Thread.{NONE}
 use Rattle.thread.specs.Reads.{cpu_in}
 use Rattle.thread.specs.Time.{named_none}
-use Rattle.thread.specs.Place.{new}
+use Rattle.thread.specs.Place.{pin_number, new}
 use Rattle.topology.specs.CpuSet.{max_cpu_id}
 use Rattle.topology.specs.Node.{lesser}
 use Rattle.represents.specs.Topology.{Sized}
@@ -32,7 +32,7 @@ use Rattle.lines.specs.Lines.{refusal_number}
 use Rattle.questions.specs.declared.state.State.{State}
 use Rattle.records.specs.Left.{mem}
 use Rattle.outcome.specs.Answer.{accepted, refuses, changed, ran}
-use Rattle.outcome.specs.Call.{refusal_back, thread_in, pin_number, context_of, ticked, sealed_now as sealing, with_shortest, one_node_more}
+use Rattle.outcome.specs.Call.{refusal_back, thread_in, context_of, ticked, sealed_now as sealing, with_shortest, one_node_more}
 use Rattle.command.specs.Command.{declare_thread_command, schedule_thread_command, schedule_command, hardtick_command, stattick_command, resched_command, maybe_preempt_command, donate_command, remove_donation_command, set_critical_command, obey_def, command_def}
 use Rattle.represents.specs.State.{StateRep, limits_in}
 use Rattle.question_laws.proofs.Refusals.{refusal_same}

@@ -28,6 +28,12 @@ unfoldable pub FrontLink : Option Front → Type 0
 FrontLink (Some f) = Link f.thread
 FrontLink None = Unit
 
+-- ---- whose link leads to a thread that came in
+
+unfoldable pub BehindLink : Option ℕ → Type 0
+BehindLink None = Unit
+BehindLink (Some b) = Link b
+
 -- ---- the run queue
 
 pub record QueueInRange (q : RunQueue) : Type 0 where

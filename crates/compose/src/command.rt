@@ -9,31 +9,30 @@ use writer::write_command;
 // No command has so many bytes.
 const ROOM: usize = 32;
 
-// The first `count` fields, and 0 in the others. `Fields` is C's struct, so it is no array to be cut.
-fn front(fields: Fields, count: usize) -> Fields {
-    let mut front = fields;
-    if count < 2 {
-        front.second = 0;
+// The command with its first `count` fields, and 0 in the others.
+fn front(command: Command, count: usize) -> Command {
+    let mut fields = <[u64; 4]>::from(command.fields);
+    fields[count.min(4)..].fill(0);
+    Command {
+        fields: Fields::from(fields),
+        ..command
     }
-    if count < 3 {
-        front.third = 0;
-    }
-    if count < 4 {
-        front.fourth = 0;
-    }
-    front
 }
 
-fn is_refused(byte: u64, fields: Fields) -> bool {
-    write_command(byte, fields, false, &mut [0u8; ROOM]).is_err()
+fn write(command: Command, buffer: &mut [u8]) -> Result<usize, Refusal> {
+    write_command(u64::from(command.byte), command.fields, false, buffer)
+}
+
+fn is_refused(command: Command) -> bool {
+    write(command, &mut [0u8; ROOM]).is_err()
 }
 
 // The word for which the writer refuses a command: the name, or the first field that does not fit.
-fn word_refused(refusal: Refusal, byte: u64, fields: Fields) -> usize {
+fn word_refused(refusal: Refusal, command: Command) -> usize {
     match refusal {
         Refusal::UnknownCommand => 0,
         _ => (1..4)
-            .find(|word| is_refused(byte, front(fields, *word)))
+            .find(|word| is_refused(front(command, *word)))
             .unwrap_or(4),
     }
 }
@@ -45,9 +44,7 @@ fn compose_command<'a, W: Print>(
     output: &mut Output<'_, W>,
 ) -> Result<(), Fault<'a>> {
     output.make_room(ROOM).map_err(|_| Fault::Output)?;
-    let byte = u64::from(command.byte);
-    let free = &mut output.bytes[output.done..];
-    match write_command(byte, command.fields, false, free) {
+    match write(command, &mut output.bytes[output.done..]) {
         Ok(n) => {
             output.add(n);
             Ok(())
@@ -56,7 +53,7 @@ fn compose_command<'a, W: Print>(
             line,
             number,
             refusal,
-            word: word_refused(refusal, byte, command.fields),
+            word: word_refused(refusal, command),
         }),
     }
 }

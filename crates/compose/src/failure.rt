@@ -89,6 +89,7 @@ impl Message {
     }
 }
 
+// The first two are told as in `replay` and `explain`: a common enum would be one more case to take apart in each.
 #[derive(Clone, Copy)]
 pub enum Failure {
     Input,

@@ -53,7 +53,7 @@ fn compose<W: Print>(stdin: &mut impl Read, output: &mut Output<'_, W>) -> Resul
     Ok(())
 }
 
-// What was composed is shown also where the text has a fault.
+// What was composed is shown also where the text has a fault. As in `explain`: a common function would be over a closure, with a parameter for the error.
 fn run(stdin: &mut impl Read, stdout: &impl Print) -> Result<(), Failure> {
     let mut output = Output::new(stdout);
     let composed = compose(stdin, &mut output);

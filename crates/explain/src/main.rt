@@ -7,8 +7,9 @@ use blocks::keep;
 use failure::Failure;
 use files::fill;
 use files::output::{Output, SIZE};
+use lines::Text;
 use listing::{LINE, list_command};
-use request::fields::operands;
+use request::fields::{Command, operands};
 use request::operand_bytes;
 use std::io::Read;
 
@@ -31,8 +32,12 @@ fn list_block<W: Print>(
         }
         output.make_room(LINE).map_err(|_| Failure::Output)?;
         let fields = operands(block, at + 1, byte, false);
-        let free = &mut output.bytes[output.done..];
-        let n = list_command(free, 0, byte, fields, false);
+        let mut text = Text {
+            buffer: &mut output.bytes[output.done..],
+            at: 0,
+        };
+        list_command(&mut text, Command { byte, fields }, false);
+        let n = text.at;
         output.add(n);
         at += 1 + count;
     }
@@ -61,7 +66,7 @@ fn list<W: Print>(stdin: &mut impl Read, output: &mut Output<'_, W>) -> Result<(
     Ok(())
 }
 
-// What is listed is shown also where the stream has a fault.
+// What is listed is shown also where the stream has a fault. As in `compose`: a common function would be over a closure, with a parameter for the error.
 fn run(stdin: &mut impl Read, stdout: &impl Print) -> Result<(), Failure> {
     let mut output = Output::new(stdout);
     let listed = list(stdin, &mut output);

@@ -9,7 +9,7 @@ ghost use Rattle.std.specs.Prelude.{◌≤◌, length, IfOk};
 use std::io;
 use std::io::Read;
 
-// The bytes at the front of the input, and whether they are the last.
+// The bytes at the front of the input, and whether they are the last. No `Option`: the last bytes are bytes too.
 #[derive(Clone, Copy)]
 pub struct Filled {
     pub bytes: usize,

@@ -3,34 +3,34 @@
 
 ghost use Rattle.std.specs.Prelude.{◌≡◌, cond, length, take};
 ghost use Rattle.request.specs.Fields.{list_of, row};
-ghost use Rattle.lines.specs.Text.{Writes, text, write};
+ghost use Rattle.lines.specs.Text.{Writes};
 ghost use Rattle.listing.specs.Listing.{numbers, no_pin, listed};
 
 use lines::Text;
 use names::put_name;
 use request::all_ones;
-use request::fields::{Fields, field_count};
+use request::fields::{Command, Fields, field_count};
 
 // A line has at most so many bytes.
 pub const LINE: usize = 93;
 
-// Is it a thread whose pin is none?
+// Is it a thread whose pin is none? By the byte of the table, as in `names`: a command here is any byte.
 #[tactic(auto, unfolding(crate::specs::Listing::no_pin, request::specs::Fields::list_of, rules::specs::Requests::nth))]
-fn no_pin(byte: u8, fields: Fields, wide: bool) -> bool
-    ensures { result ≡ no_pin wide byte (list_of fields) }
+fn no_pin(command: Command, wide: bool) -> bool
+    ensures { result ≡ no_pin wide command.byte (list_of command.fields) }
 {
-    byte == 0x10 && fields.fourth == all_ones(wide)
+    command.byte == 0x10 && command.fields.fourth == all_ones(wide)
 }
 
 // How many fields its line shows.
 #[tactic(auto, using(request::proofs::ByWidths::rows_alike))]
-fn shown_count(byte: u8, fields: Fields, wide: bool) -> usize
-    ensures { result ≡ cond (no_pin wide byte (list_of fields)) 3 (length (row wide byte)) }
+fn shown_count(command: Command, wide: bool) -> usize
+    ensures { result ≡ cond (no_pin wide command.byte (list_of command.fields)) 3 (length (row wide command.byte)) }
 {
-    if no_pin(byte, fields, wide) {
+    if no_pin(command, wide) {
         3
     } else {
-        field_count(byte)
+        field_count(command.byte)
     }
 }
 
@@ -38,22 +38,20 @@ fn shown_count(byte: u8, fields: Fields, wide: bool) -> usize
 fn put_fields(text: &mut Text<'_>, fields: Fields, count: usize)
     ensures { Writes text (numbers (take count (list_of fields))) }
 {
-    let all = [fields.first, fields.second, fields.third, fields.fourth];
+    let all = <[u64; 4]>::from(fields);
     for number in &all[..count.min(all.len())] {
         text.put(b' ');
         text.put_number(*number);
     }
 }
 
-// The line of one command, from any place of a buffer on, as the law of a whole line has it (proofs/Whole).
+// The line of one command; with room for `LINE` bytes it stands whole (proofs/Whole).
 #[tactic(auto, using(lines::proofs::Writing::write_append), unfolding(crate::specs::Listing::listed, crate::specs::Listing::shown_fields, rules::specs::Lines::line_feed))]
-pub fn list_command(buffer: &mut [u8], at: usize, byte: u8, fields: Fields, wide: bool) -> usize
-    ensures { text buffer.new result ≡ write (text buffer.old at) (listed wide byte (list_of fields)) }
+pub fn list_command(text: &mut Text<'_>, command: Command, wide: bool)
+    ensures { Writes text (listed wide command.byte (list_of command.fields)) }
 {
-    let count = shown_count(byte, fields, wide);
-    let mut text = Text { buffer, at };
-    put_name(&mut text, byte);
-    put_fields(&mut text, fields, count);
+    let count = shown_count(command, wide);
+    put_name(text, command.byte);
+    put_fields(text, command.fields, count);
     text.put(b'\n');
-    text.at
 }

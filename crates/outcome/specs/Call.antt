@@ -1,11 +1,12 @@
 -- What a command asks, the thread that it names, and the state that it leaves.
-use Rattle.std.specs.Prelude.{◌≡◌, ℕ, ◌+◌, ◌/◌, ◌%◌, ◌^◌, Bool, true, cond, List, take, drop, ◌==◌, refl, Option, None, Some, Result, Ok, Err}
+use Rattle.std.specs.Prelude.{◌≡◌, ℕ, ◌+◌, ◌/◌, ◌%◌, ◌^◌, Bool, true, cond, List, take, drop, ◌==◌, refl, get_or, Option, None, Some, Result, Ok, Err}
 use Rattle.std.specs.Result.{result_err}
 use Rattle.std.proofs.Common.{sym}
 use Rattle.rules.specs.declared.Priority.{Priority}
 use Rattle.rules.specs.Priority.{priority, class_at}
 use Rattle.rules.specs.Requests as rules
-use Rattle.thread.specs.Thread.{NONE}
+use Rattle.thread.specs.declared.Thread.{Thread}
+use Rattle.thread.specs.Thread.{blank}
 use Rattle.request.specs.declared.Request.{Request}
 use Rattle.request.specs.declared.Request.TheVariants as req
 use Rattle.request.specs.declared.Asked.{Asked}
@@ -69,33 +70,34 @@ asked_def bytes n at wide = reading_back (rules.read (limits_of wide) (drop at (
 
 -- ---- of a command's operands
 
--- the thread that a request names, NONE where it names none
-unfoldable pub thread_named : rules.Request → ℕ
-thread_named (rules.declare_cpu c) = NONE
-thread_named (rules.add_node p k) = NONE
-thread_named (rules.place_cpu n c) = NONE
-thread_named rules.seal = NONE
-thread_named (rules.set_shortest n) = NONE
-thread_named (rules.declare_thread x k v pin) = x
-thread_named (rules.set_tick n) = NONE
-thread_named (rules.schedule_thread c x) = x
-thread_named (rules.schedule c flags) = NONE
-thread_named (rules.hardtick c) = NONE
-thread_named (rules.stattick c n) = NONE
-thread_named (rules.resched c) = NONE
-thread_named (rules.maybe_preempt c) = NONE
-thread_named (rules.donate c x k v) = x
-thread_named (rules.remove_donation x) = x
-thread_named (rules.set_critical x m) = x
+-- the thread that a request names
+unfoldable pub thread_named : rules.Request → Option ℕ
+thread_named (rules.declare_cpu c) = None
+thread_named (rules.add_node p k) = None
+thread_named (rules.place_cpu n c) = None
+thread_named rules.seal = None
+thread_named (rules.set_shortest n) = None
+thread_named (rules.declare_thread x k v pin) = Some x
+thread_named (rules.set_tick n) = None
+thread_named (rules.schedule_thread c x) = Some x
+thread_named (rules.schedule c flags) = None
+thread_named (rules.hardtick c) = None
+thread_named (rules.stattick c n) = None
+thread_named (rules.resched c) = None
+thread_named (rules.maybe_preempt c) = None
+thread_named (rules.donate c x k v) = Some x
+thread_named (rules.remove_donation x) = Some x
+thread_named (rules.set_critical x m) = Some x
 
-unfoldable pub thread_in : rules.Reading → ℕ
-thread_in rules.unknown = NONE
-thread_in rules.cut_short = NONE
+unfoldable pub thread_in : rules.Reading → Option ℕ
+thread_in rules.unknown = None
+thread_in rules.cut_short = None
 thread_in (rules.asks r used) = thread_named r
 
-unfoldable pub pin_number : Option ℕ → ℕ
-pin_number None = NONE
-pin_number (Some c) = c
+-- its record, blank where none is named
+unfoldable pub named_record : List Thread → Option ℕ → Thread
+named_record ts None = blank
+named_record ts (Some x) = get_or ts x blank
 
 unfoldable pub priority_in : ℕ → ℕ → Priority
 priority_in class value = priority (class_at class) value

@@ -1,2 +1,3 @@
 pub mod Answer
 pub mod Call
+pub mod Numbers

@@ -8,8 +8,8 @@ use questions::state::State;
 use rules::Running;
 use thread::NONE;
 
-// The answer that a line shows, the bytes that the command took, and the state for the next call. The functions of a command are given state and bytes apart:
-// the one goes on changed, the other as it is, and each clause says the whole.
+// The answer that a line shows, the bytes that the command took, and the state for the next call. The functions of a command are given the state and the
+// number of bytes apart. Tried as one struct for the commands before the seal: each clause names both parts, and what changes the state makes the struct anew.
 #[derive(Clone, Copy)]
 pub struct Answered {
     pub answer: Answer,

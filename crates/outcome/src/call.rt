@@ -3,7 +3,7 @@ ghost use Rattle.std.specs.Prelude.{◌≡◌, IfOk, Ok};
 ghost use Rattle.std.specs.Result.{result_err};
 ghost use Rattle.request.specs.Request.{reading_of};
 ghost use Rattle.questions.specs.Questions.{refusal_in};
-ghost use Rattle.outcome.specs.Call.{asked_def, refusal_back, thread_in, pin_number, priority_in, context_of, flags_in, ticked, sealed_now, with_shortest, one_node_more};
+ghost use Rattle.outcome.specs.Call.{asked_def, refusal_back, thread_in, priority_in, context_of, flags_in, ticked, sealed_now, with_shortest, one_node_more};
 
 use lines::Refusal;
 use processor::words::CpuWords;
@@ -12,8 +12,8 @@ use questions::state::State;
 use request::{Asked, Reading, Request, read};
 use rules::Priority;
 use sched_words::context::{Context, SchedFlags};
+use thread::Thread;
 use thread::priority::class_at;
-use thread::{NONE, Thread};
 use topology::cpuset::MAX_CPU_ID;
 use topology::words::NodeWords;
 
@@ -41,30 +41,22 @@ pub fn judged(
     refusal_of(cpus, nodes, state, t, reading)
 }
 
-// The thread that is named. NONE where there is none: no record has that number, so the record read for it is blank.
+// The thread that is named.
 #[tactic(auto, unfolding(crate::specs::Call::thread_in, crate::specs::Call::thread_named, request::specs::Request::reading_of, request::specs::Request::request_of))]
-pub fn thread_named(reading: Reading) -> u64
+pub fn thread_named(reading: Reading) -> Option<u64>
     ensures { result ≡ thread_in (reading_of reading) }
 {
     let Ok(asked) = reading else {
-        return NONE;
+        return None;
     };
     match asked.request {
         Request::DeclareThread { thread, .. }
         | Request::ScheduleThread { thread, .. }
         | Request::Donate { thread, .. }
         | Request::RemoveDonation { thread }
-        | Request::SetCritical { thread, .. } => thread,
-        _ => NONE,
+        | Request::SetCritical { thread, .. } => Some(thread),
+        _ => None,
     }
-}
-
-// A pin as a new record is given it (`Thread::new`), NONE for none, as the rules' words of a record have it.
-#[tactic(auto, unfolding(crate::specs::Call::pin_number))]
-pub fn pin_number(pin: Option<u64>) -> u64
-    ensures { result ≡ pin_number pin }
-{
-    pin.unwrap_or(NONE)
 }
 
 // Of operands as they came in: that they mean a class and a value is question 6.

@@ -27,16 +27,16 @@ names_read = refl
 value_append : (h : Bool) (n : ℕ) (l m : List ℕ) → value h n (l ++ m) ≡ and_then (value h n l) (λ x. value h x m)
 unfolding value and_then
 value_append h n [] m = refl
-value_append h n (b ∷ l) m = go (next h n (digit b)) (λ x. value_append h x l m)
+value_append h n (b ∷ l) m = go (and_then (digit b) (next h n)) (λ x. value_append h x l m)
   where
     go : (o : Option ℕ) → ((x : ℕ) → value h x (l ++ m) ≡ and_then (value h x l) (λ y. value h y m))
         → and_then o (λ x. value h x (l ++ m)) ≡ and_then (and_then o (λ x. value h x l)) (λ y. value h y m)
     go None ih = refl
     go (Some x) ih = ih x
 
-digit_of : (d : ℕ) → d < 10 → digit (48 + d) ≡ d
+digit_of : (d : ℕ) → d < 10 → digit (48 + d) ≡ Some d
 unfolding digit
-digit_of d h = rw (le-ltb (48 + d) 48 (omega arith), lt-ltb (48 + d) 58 (omega arith)) (omega arith)
+digit_of d h = rw (le-ltb (48 + d) 48 (omega arith), lt-ltb (48 + d) 58 (omega arith)) (ap Some (omega arith))
 
 last_digit : (m n : ℕ) → n / 10 ≡ m → n < 2 ^ 64 → value false m ((48 + n % 10) ∷ []) ≡ Some n
 unfolding value and_then next base

@@ -1,7 +1,7 @@
 -- Reading digits one by one.
 use Rattle.std.specs.Prelude.{Option, Some, None}
 use Prim.Native.Nat.{ℕ, suc, ◌<◌, ◌≤◌}
-use mathlib.Core.Path.{◌≡◌, refl, ◌∙◌}
+use mathlib.Core.Path.{◌≡◌, refl, sym, ◌∙◌}
 use mathlib.Core.Bool.{Bool}
 use mathlib.Core.List.{List, [], ◌∷◌}
 use native.Mathlib.Omega.{arith}
@@ -31,16 +31,21 @@ module _ (hexadecimal : Bool) (w : List ℕ) (i : ℕ) where
   unfolding value
   digits_end n h = rw (drop_of_length-le w h)
 
-  -- what one more digit brings
-  module _ (n d : ℕ) (r : Option ℕ) (h : i < length w) (p : d ≡ digit (get_or w i 0)) (q : r ≡ next hexadecimal n d) where
-    step : value hexadecimal n (drop i w) ≡ and_then r (λ m. value hexadecimal m (drop (suc i) w))
+  -- what the next byte brings
+  module _ (n : ℕ) (d : Option ℕ) (h : i < length w) (p : d ≡ digit (get_or w i 0)) where
+    step : value hexadecimal n (drop i w) ≡ and_then (and_then d (next hexadecimal n)) (λ m. value hexadecimal m (drop (suc i) w))
     unfolding value
-    step = rw (drop-cons w i 0 h, q, p)
+    step = rw (drop-cons w i 0 h, p)
 
-    pub digit_more : (m : ℕ) → r ≡ Some m → value hexadecimal n (drop i w) ≡ value hexadecimal m (drop (suc i) w)
+    pub no_digit : d ≡ None → value hexadecimal n (drop i w) ≡ None
     unfolding and_then
-    digit_more m e = step ∙ (rw e)
+    no_digit e = step ∙ (rw e)
 
-    pub digit_none : r ≡ None → value hexadecimal n (drop i w) ≡ None
-    unfolding and_then
-    digit_none e = step ∙ (rw e)
+    module _ (x : ℕ) (r : Option ℕ) (q : r ≡ next hexadecimal n x) (e : d ≡ Some x) where
+      pub digit_more : (m : ℕ) → r ≡ Some m → value hexadecimal n (drop i w) ≡ value hexadecimal m (drop (suc i) w)
+      unfolding and_then
+      digit_more m f = step ∙ (rw (e, sym q, f))
+
+      pub digit_none : r ≡ None → value hexadecimal n (drop i w) ≡ None
+      unfolding and_then
+      digit_none f = step ∙ (rw (e, sym q, f))

@@ -22,8 +22,8 @@ plain_length (suc k) (n ∷ ns) h = both (plain n)
     (λ e. omega (arith, plain_length k ns (rw e at h)))
     (λ e. absurd (false≢true (rw e at h)))
 
-pub at_most_four : (byte : ℕ) → byte < 256 → length (row false byte) ≤ 4
-at_most_four byte h = plain_length 4 (row false byte) (row_plain false byte h)
+pub at_most_four : (byte : ℕ) → length (row false byte) ≤ 4
+at_most_four byte = plain_length 4 (row false byte) (row_plain false byte)
 
 -- ---- one field
 

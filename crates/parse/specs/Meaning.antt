@@ -6,7 +6,7 @@ use Rattle.request.specs.Request.{all_ones_of}
 use Rattle.request.specs.Fields.{list_of, four, row}
 use Rattle.parse.specs.Words.{before_comment, skip_blanks, word, behind}
 use Rattle.parse.specs.Numbers.{number_of}
-use Rattle.parse.specs.declared.Command.{Command}
+use Rattle.request.specs.declared.fields.Command.{Command}
 use Rattle.parse.specs.declared.Misfit.{Misfit}
 use Rattle.parse.specs.declared.Misfit.TheVariants as misfit
 

@@ -1,31 +1,31 @@
 -- The number that a word stands for: decimal, or hexadecimal behind `0x`.
 use Rattle.std.specs.Prelude.{ℕ, ◌+◌, ◌*◌, ◌-◌, ◌^◌, Bool, true, false, cond, List, [], ◌∷◌, eqb, ltb, length, get_or, drop, Option, None, Some}
 
--- 0 to 9, a to f, A to F; 16 for a byte that is no digit
-unfoldable pub digit : ℕ → ℕ
-digit b =
-    cond (ltb b 48) 16
-    (cond (ltb b 58) (b - 48)
-    (cond (ltb b 65) 16
-    (cond (ltb b 71) (b - 55)
-    (cond (ltb b 97) 16
-    (cond (ltb b 103) (b - 87) 16)))))
-
-unfoldable pub base : Bool → ℕ
-base hexadecimal = cond hexadecimal 16 10
-
--- The number n with one more digit; none if that is no digit of the base, or if the number is 2^64 or more.
-unfoldable pub next : Bool → ℕ → ℕ → Option ℕ
-next hexadecimal n d = cond (ltb d (base hexadecimal)) (cond (ltb (n * base hexadecimal + d) (2 ^ 64)) (Some (n * base hexadecimal + d)) None) None
-
 unfoldable pub and_then : Option ℕ → (ℕ → Option ℕ) → Option ℕ
 and_then None f = None
 and_then (Some n) f = f n
 
+-- 0 to 9, a to f, A to F
+unfoldable pub digit : ℕ → Option ℕ
+digit b =
+    cond (ltb b 48) None
+    (cond (ltb b 58) (Some (b - 48))
+    (cond (ltb b 65) None
+    (cond (ltb b 71) (Some (b - 55))
+    (cond (ltb b 97) None
+    (cond (ltb b 103) (Some (b - 87)) None)))))
+
+unfoldable pub base : Bool → ℕ
+base hexadecimal = cond hexadecimal 16 10
+
+-- The number n with the digit d behind it; none if d is no digit of the base, or if the number is 2^64 or more.
+unfoldable pub next : Bool → ℕ → ℕ → Option ℕ
+next hexadecimal n d = cond (ltb d (base hexadecimal)) (cond (ltb (n * base hexadecimal + d) (2 ^ 64)) (Some (n * base hexadecimal + d)) None) None
+
 -- the number n with all these digits behind it
 unfoldable pub value : Bool → ℕ → List ℕ → Option ℕ
 value hexadecimal n [] = Some n
-value hexadecimal n (b ∷ l) = and_then (next hexadecimal n (digit b)) (λ m. value hexadecimal m l)
+value hexadecimal n (b ∷ l) = and_then (and_then (digit b) (next hexadecimal n)) (λ m. value hexadecimal m l)
 
 -- at least one digit
 unfoldable pub digits : Bool → List ℕ → Option ℕ

@@ -5,21 +5,16 @@ pub mod name;
 pub mod number;
 pub mod words;
 
-ghost use Rattle.std.specs.Prelude.{◌≡◌, [], length, set};
+ghost use Rattle.std.specs.Prelude.{◌≡◌, [], length};
 ghost use Rattle.request.specs.Fields.{list_of, four, row};
 ghost use Rattle.parse.specs.Meaning.{is_pin, no_pin, pin, field, ended, fields_from, text_meaning, meaning, meaning_of};
 
 use name::byte_named;
 use number::number_of;
 use request::all_ones;
+pub use request::fields::Command;
 use request::fields::{Fields, field_count};
 use words::{before_comment, skip_blanks, split_word};
-
-#[derive(Clone, Copy)]
-pub struct Command {
-    pub byte: u8,
-    pub fields: Fields,
-}
 
 // Why a line is no command.
 #[derive(Clone, Copy)]
@@ -30,6 +25,7 @@ pub enum Misfit {
     Unfit(usize),
 }
 
+// Is it the pin of a thread, by the byte of the table and the number of the field?
 #[tactic(auto, unfolding(crate::specs::Meaning::is_pin))]
 fn is_pin(byte: u8, i: usize) -> bool
     ensures { result ≡ is_pin byte i }
@@ -65,60 +61,35 @@ fn field(word: &[u8], byte: u8, i: usize, wide: bool) -> Option<u64>
     number_of(word)
 }
 
-#[tactic(auto, unfolding(request::specs::Fields::list_of, request::specs::Fields::four, rules::specs::Requests::nth))]
-fn no_fields() -> Fields
-    ensures { list_of result ≡ four [] }
-{
-    Fields {
-        first: 0,
-        second: 0,
-        third: 0,
-        fourth: 0,
-    }
-}
-
-// By number: the fields are C's struct, which is no array.
-#[tactic(auto, unfolding(request::specs::Fields::list_of))]
-fn set_field(fields: &mut Fields, i: usize, value: u64)
-    ensures { list_of fields.new ≡ set (list_of fields.old) i value }
-{
-    match i {
-        0 => fields.first = value,
-        1 => fields.second = value,
-        2 => fields.third = value,
-        3 => fields.fourth = value,
-        _ => {}
-    }
-}
-
 // All fields are read: the text has to end.
 #[tactic(auto, unfolding(crate::specs::Meaning::ended, crate::specs::Meaning::meaning_of))]
-fn ended(text: &[u8], byte: u8, word: usize, fields: Fields) -> Result<Option<Command>, Misfit>
-    ensures { meaning_of result ≡ ended byte word (list_of fields) text.now }
+fn ended(text: &[u8], command: Command, word: usize) -> Result<Option<Command>, Misfit>
+    ensures { meaning_of result ≡ ended command.byte word (list_of command.fields) text.now }
 {
     if skip_blanks(text).is_empty() {
-        return Ok(Some(Command { byte, fields }));
+        return Ok(Some(command));
     }
     Err(Misfit::Unfit(word))
 }
 
-// The fields of a command out of the text behind its name.
-#[tactic(auto, using(crate::proofs::Reading::at_most_four, crate::proofs::Reading::fields_done, crate::proofs::Reading::fields_next, crate::proofs::Reading::fields_stop, request::proofs::ByWidths::rows_alike), unfolding(crate::specs::Meaning::meaning_of))]
+// The fields of a command out of the text behind its name, and 0 in the others. By number: `field` and a misfit say it too.
+#[tactic(auto, using(crate::proofs::Reading::at_most_four, crate::proofs::Reading::fields_done, crate::proofs::Reading::fields_next, crate::proofs::Reading::fields_stop, request::proofs::ByWidths::rows_alike), unfolding(crate::specs::Meaning::meaning_of, request::specs::Fields::four, rules::specs::Requests::nth))]
 fn fields(text: &[u8], byte: u8, wide: bool) -> Result<Option<Command>, Misfit>
     ensures { meaning_of result ≡ fields_from wide byte 0 (length (row wide byte)) (four []) text.now }
 {
     let count = field_count(byte);
-    let mut found = no_fields();
+    let mut found = [0; 4];
     let mut left = text;
     for i in 0..count {
         let (word, rest) = split_word(skip_blanks(left));
         let Some(value) = field(word, byte, i, wide) else {
             return Err(Misfit::Unfit(i + 1));
         };
-        set_field(&mut found, i, value);
+        found[i] = value;
         left = rest;
     }
-    ended(left, byte, count + 1, found)
+    let fields = Fields::from(found);
+    ended(left, Command { byte, fields }, count + 1)
 }
 
 // What a line without its comment means.

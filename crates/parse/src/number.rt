@@ -2,16 +2,16 @@
 ghost use Rattle.std.specs.Prelude.{◌≡◌};
 ghost use Rattle.parse.specs.Numbers.{digit, base, next, digits, number_of};
 
-// 16 for a byte that is no digit; `char::to_digit` would answer an `Option` of a `u32` of a `char`.
+// `char::to_digit` would answer a `u32`, of a `char`.
 #[tactic(auto, unfolding(crate::specs::Numbers::digit))]
-fn digit(byte: u8) -> u64
+fn digit(byte: u8) -> Option<u64>
     ensures { result ≡ digit byte }
 {
     match byte {
-        b'0'..=b'9' => u64::from(byte - b'0'),
-        b'A'..=b'F' => u64::from(byte - b'A' + 10),
-        b'a'..=b'f' => u64::from(byte - b'a' + 10),
-        _ => 16,
+        b'0'..=b'9' => Some(u64::from(byte - b'0')),
+        b'A'..=b'F' => Some(u64::from(byte - b'A' + 10)),
+        b'a'..=b'f' => Some(u64::from(byte - b'a' + 10)),
+        _ => None,
     }
 }
 
@@ -22,7 +22,7 @@ fn base(hexadecimal: bool) -> u64
     if hexadecimal { 16 } else { 10 }
 }
 
-// The number n with one more digit.
+// The number n with the digit d behind it.
 #[tactic(auto, unfolding(crate::specs::Numbers::next))]
 fn next(hexadecimal: bool, n: u64, d: u64) -> Option<u64>
     ensures { result ≡ next hexadecimal n d }
@@ -34,7 +34,7 @@ fn next(hexadecimal: bool, n: u64, d: u64) -> Option<u64>
     None
 }
 
-#[tactic(auto, using(crate::proofs::Numbers::digit_more, crate::proofs::Numbers::digit_none, crate::proofs::Numbers::digits_begin, crate::proofs::Numbers::digits_end, crate::proofs::Numbers::no_digits))]
+#[tactic(auto, using(crate::proofs::Numbers::digit_more, crate::proofs::Numbers::digit_none, crate::proofs::Numbers::digits_begin, crate::proofs::Numbers::digits_end, crate::proofs::Numbers::no_digit, crate::proofs::Numbers::no_digits))]
 fn digits(word: &[u8], hexadecimal: bool) -> Option<u64>
     ensures { result ≡ digits hexadecimal word.now }
 {
@@ -43,7 +43,7 @@ fn digits(word: &[u8], hexadecimal: bool) -> Option<u64>
     }
     let mut n = 0;
     for byte in word {
-        n = next(hexadecimal, n, digit(*byte))?;
+        n = next(hexadecimal, n, digit(*byte)?)?;
     }
     Some(n)
 }

@@ -30,7 +30,7 @@ use Rattle.thread.specs.Thread.{NONE, BLOCKED, with_critical}
 use Rattle.thread.specs.Priority.{remove_donated_priority}
 use Rattle.thread.specs.Time.{field_of, named_field, named_none}
 use Rattle.thread.specs.Reads.{reads, cpu_in}
-use Rattle.thread.specs.Place.{place_in, new, reads_new, critical_mark}
+use Rattle.thread.specs.Place.{place_in, pin_number, new, reads_new, critical_mark}
 use Rattle.processor.specs.Words.{width, word, put_word}
 use Rattle.processor.proofs.Laws.Words.{word_put_other}
 use Rattle.processor.specs.Word.{DECLARED, PLACED}
@@ -48,7 +48,7 @@ use Rattle.represents.proofs.Laws.Placed.{tree_declared, tree_placed}
 use Rattle.questions.specs.declared.state.State.{State}
 use Rattle.represents.specs.State.{limits_in, runs, StateRep}
 use Rattle.represents.proofs.Laws.State.{Counted, stands_changed, stands_shortened}
-use Rattle.outcome.specs.Call.{pin_number, with_shortest}
+use Rattle.outcome.specs.Call.{with_shortest}
 
 -- ---- questions answered yes
 

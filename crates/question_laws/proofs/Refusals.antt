@@ -19,7 +19,7 @@ use Rattle.questions.specs.declared.state.State.{State}
 use Rattle.questions.specs.Questions as ask
 use Rattle.represents.specs.State.{StateRep}
 use Rattle.represents.proofs.Laws.State.{cpus_are}
-use Rattle.outcome.specs.Call.{thread_in, thread_named}
+use Rattle.outcome.specs.Call.{thread_in, thread_named, named_record}
 use Rattle.question_laws.proofs.Answers.{open_same, sealed_same, cpu_declared_same, cpu_new_same, cpu_unplaced_same, pin_declared_same, thread_declared_same, thread_new_same, thread_blocked_same, node_exists_same, parent_same, node_fits_same, childless_same, tick_fits_same, all_placed_below_same, room_same}
 
 -- a question that is answered alike, and where it is answered yes those after it
@@ -42,8 +42,8 @@ module _ {H : ℕ → List PutOrTake} {ts : List Thread} {cs ns : List (List ℕ
   knows x e = e
 
   -- THE REFUSAL OF EACH REQUEST, asked with the record of the thread that it names
-  pub asked_same : (r : Request) → ask.asked_of cs ns a (record_at ts (thread_named r)) r ≡ first_no (rules_ask.concerning s r ++ (rules_ask.room s ∷ []))
-  unfolding ask.asked_of ask.concerning rules_ask.concerning thread_named
+  pub asked_same : (r : Request) → ask.asked_of cs ns a (named_record ts (thread_named r)) r ≡ first_no (rules_ask.concerning s r ++ (rules_ask.room s ∷ []))
+  unfolding ask.asked_of ask.concerning rules_ask.concerning thread_named named_record
   asked_same (declare_cpu c) = rw (open_same m reached, cpu_new_same m reached c, room_same m reached)
   asked_same (add_node p k) =
       rw (open_same m reached, node_exists_same m reached p, node_fits_same m reached, room_same m reached)
@@ -68,8 +68,8 @@ module _ {H : ℕ → List PutOrTake} {ts : List Thread} {cs ns : List (List ℕ
   asked_same (set_critical x k) = rw (sealed_same m reached, thread_declared_same m reached x, room_same m reached)
 
   -- THE REFUSAL OF EACH READING
-  pub refusal_same : (r : Reading) → ask.refusal_in cs ns a (record_at ts (thread_in r)) r ≡ refusal s r
-  unfolding ask.refusal_in refusal thread_in
+  pub refusal_same : (r : Reading) → ask.refusal_in cs ns a (named_record ts (thread_in r)) r ≡ refusal s r
+  unfolding ask.refusal_in refusal thread_in named_record
   refusal_same unknown = refl
   refusal_same cut_short = refl
   refusal_same (asks r used) = asked_same r

@@ -6,6 +6,8 @@ use crate::state::State;
 use processor::words::{CpuWords, DECLARED, PLACED, word};
 use thread::NONE;
 
+// The words, and the state with its limit of CPU numbers, stand apart, as a command has them: one struct would be made for each question that asks both.
+
 #[tactic(auto, unfolding(crate::specs::Questions::declared))]
 pub fn declared(cpus: &[CpuWords], state: State, c: u64) -> bool
     ensures { result ≡ declared cpus.now state c }
@@ -31,10 +33,7 @@ pub fn unplaced(cpus: &[CpuWords], state: State, c: u64) -> bool
 pub fn pin_declared(cpus: &[CpuWords], state: State, pin: Option<u64>) -> bool
     ensures { result ≡ (pin_declared cpus.now state pin).answer }
 {
-    match pin {
-        None => true,
-        Some(c) => declared(cpus, state, c),
-    }
+    pin.is_none_or(|c| declared(cpus, state, c))
 }
 
 // Question 9 for CPUs 0 to n, from the answer for those before n and the words of CPU n. CPU 0 must be declared.

@@ -167,7 +167,7 @@ fn of_thread(state: State, t: Thread, ranges: bool) -> Result<(), Refusal>
     room_left(state)
 }
 
-// Of a request; t is the record of the thread that it names.
+// Of a request; t is the record of the thread that it names. Words, state and record stand apart: a question is given those that it asks.
 #[tactic(auto, unfolding(crate::specs::Questions::asked_of, crate::specs::Questions::concerning, rules::specs::Questions::first_no, rules::specs::Questions::question, rules::specs::Questions::at_most, rules::specs::Questions::shortest_in_range, rules::specs::Questions::priority_in_range, request::specs::Request::request_of))]
 fn asked(
     cpus: &[CpuWords],

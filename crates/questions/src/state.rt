@@ -2,7 +2,7 @@
 ghost use Rattle.std.specs.Prelude.{◌≡◌};
 ghost use Rattle.questions.specs.Questions.{node_exists, node_fits, tick_fits, room};
 
-// The limits: how many CPUs and nodes there may be, the shortest User timeslice, and whether an operand that names a CPU or a node has two bytes. Then
+// C's struct. The limits: how many CPUs and nodes there may be, the shortest User timeslice, and whether an operand that names a CPU or a node has two bytes. Then
 // the tick, whether the topology is sealed, the commands accepted, and the nodes that exist.
 #[repr(C)]
 #[derive(Clone, Copy, Default)]

@@ -1,12 +1,11 @@
--- That the constant table holds what its rule says, and that the code reads it so.
-use Rattle.std.specs.Prelude.{◌≡◌, ℕ, zero, suc, ◌+◌, ◌*◌, ◌/◌, ◌%◌, ◌^◌, ◌<◌, true, List, length, nat_eq, nat_lt, slice_index, slice_index_or, refl}
-use Rattle.std.proofs.Common.{sym, ◌∙◌, add-zero, zero-add, arith, eqb-true, lt-ltb, ltb-false}
-use Rattle.rules.proofs.Laws.Below.{all_below, at_below}
+-- That the constant table holds what its rule says.
+use Rattle.std.specs.Prelude.{◌≡◌, ℕ, zero, suc, ◌+◌, ◌*◌, ◌%◌, ◌<◌, length, nat_lt, slice_index, refl}
+use Rattle.std.proofs.Common.{sym, ◌∙◌, add-zero, zero-add, arith, lt-ltb, ltb-false}
 use Rattle.rules.proofs.Laws.Line.{both}
 use Rattle.rules.proofs.Laws.Effect.{cut_below, offset_past}
 use Rattle.rules.specs.Priority.{nr_values, cut}
-use Rattle.rules.specs.Queue.{nr_buckets, width, realtime_bucket, offset}
-use Rattle.queue.specs.Table.{ByRule, entry, packed, row_word, table, two_each, unpacked}
+use Rattle.rules.specs.Queue.{width, realtime_bucket, offset}
+use Rattle.queue.specs.Table.{ByRule, entry, table, two_each}
 
 entries_of : (w k : ℕ) → length (two_each w k) ≡ 2 * k
 unfolding two_each
@@ -30,25 +29,6 @@ table_rule = record {
   buckets = λ v h. rw (zero-add v) at (two_at 0 128 v h).0;
   offsets = λ v h. rw (zero-add v) at (two_at 0 128 v h).1;
 }
-
--- it fits a word
-pub packed_below : (k : ℕ) (t : List ℕ) (r : ℕ) → packed k t r < 18446744073709551616
-unfolding packed
-packed_below zero t r = omega arith
-packed_below (suc k) t r = omega (arith, packed_below k t r)
-
-read_back : all_below 256 (λ n. nat_eq (unpacked n) (slice_index table n)) ≡ true
-unfolding all_below packed table two_each nr_values realtime_bucket cut offset width nr_buckets
-read_back = refl
-
-pub entry_unpacked : (i : ℕ) → row_word table (i / 16) / 2 ^ (i % 16 * 4) % 16 ≡ entry i
-unfolding entry
-entry_unpacked i =
-    let h : i % 256 < 256 = omega arith in
-    let r : i % 256 / 16 % 16 ≡ i / 16 % 16 = omega arith in
-    let d : i % 256 % 16 ≡ i % 16 = omega arith in
-    let e : unpacked (i % 256) ≡ slice_index_or table (i % 256) 0 = eqb-true _ _ (at_below 256 _ read_back (i % 256) h) in
-    rw (r, d) at e
 
 -- ---- the two numbers of any value
 

@@ -12,12 +12,12 @@ use Rattle.queue.specs.declared.lists.Found.{Found}
 unfoldable pub no_lists_def : Lists
 no_lists_def = record { heads = replicate nr_buckets NONE; tails = replicate nr_buckets NONE }
 
--- A thread comes in as the last of bucket b: the lists, and whose link has to lead to it.
+-- A thread comes in as the last of bucket b: the lists, and whose link has to lead to it, if anybody's.
 unfoldable pub push_back : Lists → ℕ → ℕ → Put Lists
 push_back l b t =
     cond (slice_index l.heads (b % nr_buckets) == NONE)
-    (record { queue = record { heads = slice_set l.heads (b % nr_buckets) t; tails = slice_set l.tails (b % nr_buckets) t }; behind = NONE })
-    (record { queue = record { heads = l.heads; tails = slice_set l.tails (b % nr_buckets) t }; behind = slice_index l.tails (b % nr_buckets) })
+    (record { queue = record { heads = slice_set l.heads (b % nr_buckets) t; tails = slice_set l.tails (b % nr_buckets) t }; behind = None })
+    (record { queue = record { heads = l.heads; tails = slice_set l.tails (b % nr_buckets) t }; behind = Some (slice_index l.tails (b % nr_buckets)) })
 
 -- A thread leaves bucket b from behind `previous`, where its link was `next`.
 unfoldable pub unlinked : Lists → ℕ → ℕ → ℕ → Lists

@@ -11,11 +11,11 @@ pub struct Lists {
     pub tails: [u64; 8],
 }
 
-// Lists, or a part of a run queue, with a thread that came in. behind: whose record's link has to be set to that thread; NONE: nobody's.
+// Lists, or a part of a run queue, with a thread that came in. behind: whose record's link has to be set to that thread, if anybody's.
 #[derive(Clone, Copy)]
 pub struct Put<Q> {
     pub queue: Q,
-    pub behind: u64,
+    pub behind: Option<u64>,
 }
 
 // The first thread of a list, and the number of that list.
@@ -42,7 +42,7 @@ impl Lists {
     {
         let i = (bucket % 8) as usize;
         let first = self.heads[i] == NONE;
-        let behind = if first { NONE } else { self.tails[i] };
+        let behind = (!first).then_some(self.tails[i]);
         self.tails[i] = thread;
         if first {
             self.heads[i] = thread;

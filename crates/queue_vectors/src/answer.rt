@@ -14,10 +14,9 @@ struct Place {
 
 // The bucket whose last thread is this one.
 fn bucket_of(lists: Lists, thread: u64) -> Option<u8> {
-    (0u8..8).find(|i| {
-        let i = usize::from(*i);
-        i < 8 && lists.heads[i] != NONE && lists.tails[i] == thread
-    })
+    let mut ends = lists.heads.iter().zip(&lists.tails);
+    let bucket = ends.position(|(first, last)| *first != NONE && *last == thread)?;
+    Some(bucket as u8)
 }
 
 // Where a thread is the last of its bucket.

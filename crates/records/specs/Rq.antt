@@ -1,6 +1,6 @@
 -- Put, take (own and stealing), clock and hard tick of the run queues in lent memory: one interface over the thread records ts and the words cs of the
 -- CPUs. Each is total: past the end of the slice a record is blank and a write does nothing, and so with the words of a CPU.
-use Rattle.std.specs.Prelude.{ℕ, Bool, cond, List, get_or, set, eqb, leb, Option, Some, None}
+use Rattle.std.specs.Prelude.{ℕ, Bool, List, get_or, set, leb, Option, Some, None}
 use Rattle.rules.specs.declared.Part.{Part}
 use Rattle.rules.specs.declared.Part.TheVariants as part
 use Rattle.rules.specs.Priority.{from_raw}
@@ -37,9 +37,10 @@ steady_in part.Idle t = t
 unfoldable pub put_in_def : Thread → Part → Thread
 put_in_def t p = steady_in p (with_next (with_place t WAITING) NONE)
 
--- thread b's link points to x; b is NONE where x is the first of its list
-unfoldable pub link_behind : List Thread → ℕ → ℕ → List Thread
-link_behind ts b x = cond (eqb b NONE) ts (set ts b (with_next (record_at ts b) x))
+-- the link of the thread that x stands behind points to x; x stands behind nobody where it is the first of its list
+unfoldable pub link_behind : List Thread → Option ℕ → ℕ → List Thread
+link_behind ts None x = ts
+link_behind ts (Some b) x = set ts b (with_next (record_at ts b) x)
 
 -- the put that thread x makes into the queue of CPU c
 abbrev pub put_of_def : ℕ → ℕ → ℕ → Bool → Memory → Put

@@ -8,7 +8,8 @@ use thread::Thread;
 use topology::words::NodeWords;
 
 // The thread records and the words of the CPUs, which the scheduler changes, and the words of the nodes, which it reads. Threads and CPUs are
-// read by methods: where such a field is lent to be read, the check forgets all of it but its length.
+// read by methods: where such a field is lent to be read, the check forgets all of it but its length. The nodes need no method, and none could lend them while the
+// CPUs are lent to be changed.
 #[derive(Drop)]
 pub struct Memory<'a> {
     pub threads: &'a mut [Thread],

@@ -49,12 +49,12 @@ fn put_in(t: Thread, part: Part) -> Thread
     }
 }
 
-// Thread b's link points to x; b is NONE where x is the first of its list.
+// The link of the thread that x stands behind points to x; x stands behind nobody where it is the first of its list.
 #[tactic(auto, unfolding(crate::specs::Rq::link_behind))]
-fn link_behind(threads: &mut [Thread], b: u64, x: u64)
-    ensures { threads.new ≡ link_behind threads.old b x }
+fn link_behind(threads: &mut [Thread], behind: Option<u64>, x: u64)
+    ensures { threads.new ≡ link_behind threads.old behind x }
 {
-    if b != NONE {
+    if let Some(b) = behind {
         let t = get(threads, b);
         set(threads, b, t.set_next(x));
     }

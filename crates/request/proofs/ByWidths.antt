@@ -1,5 +1,5 @@
 -- Operands read by their widths, four at a time.
-use Prim.Native.Nat.{ℕ, zero, suc, ◌<◌, ◌≤◌, ◌-◌}
+use Prim.Native.Nat.{ℕ, zero, suc, ◌≤◌, ◌-◌}
 use native.Mathlib.Omega.{arith}
 use borrow.Author.Tests.{lt-ltb, leb-true}
 use Rattle.std.specs.Prelude.{nat_lt}
@@ -7,10 +7,9 @@ use Rattle.std.specs.List.{filter}
 use Rattle.rules.proofs.Laws.Writer.{and_left, and_right}
 use mathlib.Core.Path.{◌≡◌, refl, sym, ap}
 use mathlib.Core.Bool.{Bool, true, false, ◌&&◌, ◌||◌}
-use mathlib.Core.List.{List, [], ◌∷◌, ◌++◌}
+use mathlib.Core.List.{List, [], ◌∷◌, ◌++◌, map}
 use lib.Dec.{eqb, leb}
 use lib.ListN.{length, replicate}
-use Rattle.rules.proofs.Laws.Below.{all_below, at_below}
 use Rattle.rules.proofs.Laws.Line.{both}
 use Rattle.rules.specs.State.{Limits}
 use Rattle.rules.specs.Requests.{Request, operand, past, operands, nth, widths, widths_or}
@@ -18,7 +17,7 @@ use Rattle.rules.specs.Questions.{at_most, in_range}
 use Rattle.rules.specs.Writer.{row as rules_row, ranges}
 use Rattle.request.specs.Request.{width, limits_of}
 use Rattle.request.specs.Fields.{four, row}
-use Rattle.request.proofs.Table.{Apart, but_last, last_request}
+use Rattle.request.proofs.Table.{Apart, all_bytes, but_last, last_request, no_row, same_unless}
 
 -- a width that an operand can have
 unfoldable pub plain : ℕ → Bool
@@ -30,13 +29,14 @@ plain_row k [] = true
 plain_row zero (n ∷ ns) = false
 plain_row (suc k) (n ∷ ns) = plain n && plain_row k ns
 
-all_plain : (wide : Bool) → all_below 256 (λ byte. plain_row 4 (row wide byte)) ≡ true
-unfolding all_below plain_row plain row rules_row widths widths_or limits_of width
-all_plain true = refl
-all_plain false = refl
+-- What holds of each row of the table and of no widths holds of the widths of every byte.
+of_each_row : (wide : Bool) (p : List ℕ → Bool) (byte : ℕ) → map (λ b. p (row wide b)) all_bytes ≡ map (λ b. true) all_bytes → p [] ≡ true → p (row wide byte) ≡ true
+of_each_row wide p byte all none = same_unless (λ b. p (row wide b)) (λ b. true) byte Unit all_bytes all tt (λ h. rw (no_row wide Unit byte h) none)
 
-pub row_plain : (wide : Bool) (byte : ℕ) → byte < 256 → plain_row 4 (row wide byte) ≡ true
-row_plain wide byte h = at_below 256 (λ b. plain_row 4 (row wide b)) (all_plain wide) byte h
+pub row_plain : (wide : Bool) (byte : ℕ) → plain_row 4 (row wide byte) ≡ true
+unfolding plain_row plain row rules_row widths widths_or limits_of width
+row_plain true byte = of_each_row true (plain_row 4) byte refl refl
+row_plain false byte = of_each_row false (plain_row 4) byte refl refl
 
 head_plain : (n k : ℕ) (ns : List ℕ) → plain_row (suc k) (n ∷ ns) ≡ true → plain n ≡ true
 unfolding plain_row
@@ -58,10 +58,10 @@ most_row : List ℕ → Bool
 most_row [] = true
 most_row (n ∷ ns) = leb n 8 && most_row ns
 
-all_most : (wide : Bool) → all_below 256 (λ byte. most_row (row wide byte)) ≡ true
-unfolding all_below most_row row rules_row widths widths_or limits_of width
-all_most true = refl
-all_most false = refl
+row_most : (wide : Bool) (byte : ℕ) → most_row (row wide byte) ≡ true
+unfolding most_row row rules_row widths widths_or limits_of width
+row_most true byte = of_each_row true most_row byte refl refl
+row_most false byte = of_each_row false most_row byte refl refl
 
 nth_most : (ns : List ℕ) (i : ℕ) → most_row ns ≡ true → nth i ns ≤ 8
 unfolding most_row nth
@@ -69,8 +69,8 @@ nth_most [] i h = omega arith
 nth_most (n ∷ ns) zero h = leb-true n 8 (and_left (leb n 8) (most_row ns) h)
 nth_most (n ∷ ns) (suc i) h = nth_most ns i (and_right (leb n 8) (most_row ns) h)
 
-pub width_most : (wide : Bool) (byte : ℕ) → byte < 256 → (i : ℕ) → nth i (row wide byte) ≤ 8
-width_most wide byte h i = nth_most (row wide byte) i (at_below 256 (λ b. most_row (row wide b)) (all_most wide) byte h)
+pub width_most : (wide : Bool) (byte i : ℕ) → nth i (row wide byte) ≤ 8
+width_most wide byte i = nth_most (row wide byte) i (row_most wide byte)
 
 -- four operands, each from behind the one before it
 four_of : (ns b : List ℕ)
@@ -125,4 +125,4 @@ last_ranges l A byte vs h = sym (ap (λ (r : Request). (in_range r).answer) (las
 pub rows_alike : (wide : Bool) (byte : ℕ) → length (row false byte) ≡ length (row wide byte)
 unfolding row rules_row widths_or widths limits_of
 rows_alike false byte = refl
-rows_alike true byte = both (eqb byte 0x01) (λ e. rw e) (λ e. rw e (both (eqb byte 0x02) (λ e. rw e) (λ e. rw e (both (eqb byte 0x03) (λ e. rw e) (λ e. rw e (both (eqb byte 0x04) (λ e. rw e) (λ e. rw e (both (eqb byte 0x05) (λ e. rw e) (λ e. rw e (both (eqb byte 0x10) (λ e. rw e) (λ e. rw e (both (eqb byte 0x11) (λ e. rw e) (λ e. rw e (both (eqb byte 0x12) (λ e. rw e) (λ e. rw e (both (eqb byte 0x13) (λ e. rw e) (λ e. rw e (both (eqb byte 0x14) (λ e. rw e) (λ e. rw e (both (eqb byte 0x15) (λ e. rw e) (λ e. rw e (both (eqb byte 0x16) (λ e. rw e) (λ e. rw e (both (eqb byte 0x17) (λ e. rw e) (λ e. rw e (both (eqb byte 0x18) (λ e. rw e) (λ e. rw e (both (eqb byte 0x19) (λ e. rw e) (λ e. rw e (both (eqb byte 0x1a) (λ e. rw e) (λ e. rw e)))))))))))))))))))))))))))))))
+rows_alike true byte = same_unless (λ b. length (row false b)) (λ b. length (row true b)) byte Unit all_bytes refl tt (λ h. rw (no_row false Unit byte h, no_row true Unit byte h))

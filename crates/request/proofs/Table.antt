@@ -56,9 +56,9 @@ module _ (l : Limits) (A : Type 0) (byte : ℕ) where
   unfolding Apart widths
   no_widths h = rw (ne_eqb _ _ h.0.0.0.0.0.0.0.0.0.0.0.0.0.0.0.1, ne_eqb _ _ h.0.0.0.0.0.0.0.0.0.0.0.0.0.0.1, ne_eqb _ _ h.0.0.0.0.0.0.0.0.0.0.0.0.0.1, ne_eqb _ _ h.0.0.0.0.0.0.0.0.0.0.0.0.1, ne_eqb _ _ h.0.0.0.0.0.0.0.0.0.0.0.1, ne_eqb _ _ h.0.0.0.0.0.0.0.0.0.0.1, ne_eqb _ _ h.0.0.0.0.0.0.0.0.0.1, ne_eqb _ _ h.0.0.0.0.0.0.0.0.1, ne_eqb _ _ h.0.0.0.0.0.0.0.1, ne_eqb _ _ h.0.0.0.0.0.0.1, ne_eqb _ _ h.0.0.0.0.0.1, ne_eqb _ _ h.0.0.0.0.1, ne_eqb _ _ h.0.0.0.1, ne_eqb _ _ h.0.0.1, ne_eqb _ _ h.0.1, ne_eqb _ _ h.1)
 
--- Two functions that agree on each byte of the table, taken one by one, agree on every byte that has a row.
+-- Two functions that agree on each byte of the table, taken one by one, agree on every byte that has a row, and on every byte where they agree on those without.
 module _ {S : Type 0} (f g : ℕ → S) (byte : ℕ) where
-  same_unless : (A : Type 0) (ks : List ℕ) → map f ks ≡ map g ks → A → (Apart A byte ks → f byte ≡ g byte) → f byte ≡ g byte
+  pub same_unless : (A : Type 0) (ks : List ℕ) → map f ks ≡ map g ks → A → (Apart A byte ks → f byte ≡ g byte) → f byte ≡ g byte
   unfolding Apart
   same_unless A [] e a k = k a
   same_unless A (x ∷ ks) e a k =

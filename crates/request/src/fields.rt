@@ -1,4 +1,4 @@
-// The operands of a command as four numbers, in the order of document 01's table: their widths, their ranges, and how they are read.
+// A command as its byte and four numbers, its operands in the order of document 01's table: their widths, their ranges, and how they are read.
 ghost use Rattle.std.specs.Prelude.{◌≡◌, false, length, drop};
 ghost use Rattle.rules.specs.Requests.{operands};
 ghost use Rattle.rules.specs.Writer.{ranges};
@@ -19,8 +19,38 @@ pub struct Fields {
     pub fourth: u64,
 }
 
-// How many bytes each operand of a command has; 0 where there is none, and for a byte that is not in the table. A command is a byte here, and beside its fields:
-// as C gives them any byte may come in (`scheduler_write`), where an enum or a pair would ask more.
+impl From<Fields> for [u64; 4] {
+    ghost from_gives = { λ fields numbers. numbers ≡ list_of fields };
+
+    #[tactic(auto, unfolding(crate::specs::Fields::list_of))]
+    fn from(fields: Fields) -> [u64; 4] {
+        [fields.first, fields.second, fields.third, fields.fourth]
+    }
+}
+
+impl From<[u64; 4]> for Fields {
+    ghost from_gives = { λ numbers fields. list_of fields ≡ numbers };
+
+    #[tactic(auto, unfolding(crate::specs::Fields::list_of))]
+    fn from(numbers: [u64; 4]) -> Fields {
+        let [first, second, third, fourth] = numbers;
+        Fields {
+            first,
+            second,
+            third,
+            fourth,
+        }
+    }
+}
+
+// Any byte, since C gives any, and any fields.
+#[derive(Clone, Copy)]
+pub struct Command {
+    pub byte: u8,
+    pub fields: Fields,
+}
+
+// How many bytes each operand of a command has; 0 where there is none, and for a byte that is not in the table.
 #[tactic(auto, using(crate::proofs::Table::no_row), unfolding(crate::specs::Fields::row, rules::specs::Writer::row, rules::specs::Requests::widths, rules::specs::Requests::widths_or, crate::specs::Request::limits_of, crate::specs::Fields::four, rules::specs::Requests::nth, crate::proofs::Table::Apart))]
 pub fn widths_of(byte: u8, wide: bool) -> [usize; 4]
     ensures { result ≡ four (row wide byte) }
@@ -56,29 +86,32 @@ pub fn field_count(byte: u8) -> usize
     widths.iter().filter(|n| **n > 0).count()
 }
 
-// Question 6 as far as it needs no state, of fields that no request holds yet; a byte that is not in the table is asked as hex 1A. A row for each byte, at which
-// the proof computes.
-#[tactic(auto, using(crate::proofs::ByWidths::last_ranges), unfolding(rules::specs::Writer::ranges, rules::specs::Requests::request, crate::specs::Fields::list_of, rules::specs::Requests::nth, rules::specs::Questions::question, rules::specs::Questions::at_most, crate::proofs::Table::Apart))]
-pub fn ranges(byte: u8, fields: Fields, wide: bool) -> bool
-    ensures { result ≡ ranges (limits_of wide) byte (list_of fields) }
-{
-    match byte {
-        0x01 => true,
-        0x02 => fields.second <= MOST_TYPE,
-        0x03 => true,
-        0x04 => true,
-        0x05 => shortest_in_range(fields.first),
-        0x10 => priority_in_range(fields.second, fields.third),
-        0x11 => true,
-        0x12 => true,
-        0x13 => fields.second <= MOST_FLAGS,
-        0x14 => true,
-        0x15 => true,
-        0x16 => true,
-        0x17 => true,
-        0x18 => priority_in_range(fields.third, fields.fourth),
-        0x19 => true,
-        _ => fields.second <= MOST_MARK,
+impl Command {
+    // Question 6 as far as it needs no state, of fields that no request holds yet; a byte that is not in the table is asked as hex 1A. A row for each byte, at
+    // which the proof computes.
+    #[tactic(auto, using(crate::proofs::ByWidths::last_ranges), unfolding(rules::specs::Writer::ranges, rules::specs::Requests::request, crate::specs::Fields::list_of, rules::specs::Requests::nth, rules::specs::Questions::question, rules::specs::Questions::at_most, crate::proofs::Table::Apart))]
+    pub fn ranges(self, wide: bool) -> bool
+        ensures { result ≡ ranges (limits_of wide) self.byte (list_of self.fields) }
+    {
+        let fields = self.fields;
+        match self.byte {
+            0x01 => true,
+            0x02 => fields.second <= MOST_TYPE,
+            0x03 => true,
+            0x04 => true,
+            0x05 => shortest_in_range(fields.first),
+            0x10 => priority_in_range(fields.second, fields.third),
+            0x11 => true,
+            0x12 => true,
+            0x13 => fields.second <= MOST_FLAGS,
+            0x14 => true,
+            0x15 => true,
+            0x16 => true,
+            0x17 => true,
+            0x18 => priority_in_range(fields.third, fields.fourth),
+            0x19 => true,
+            _ => fields.second <= MOST_MARK,
+        }
     }
 }
 

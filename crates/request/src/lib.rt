@@ -123,8 +123,8 @@ fn pinned(v: u64, wide: bool) -> Option<u64>
     (v != all_ones(wide)).then_some(v)
 }
 
-// How many bytes the operands of a command have; none for a byte that is not in the table. A row for each byte: each command passes here, and the proof
-// computes at each byte.
+// How many bytes the operands of the command with this byte have; any byte may come, as C gives it, and one that is not in the table has none. A row for each
+// byte: each command passes here, and the proof computes at each byte.
 #[tactic(auto, using(crate::proofs::Table::no_operands, crate::proofs::Table::width_small), unfolding(crate::specs::Request::operands_of, crate::specs::Request::operands_in, rules::specs::Requests::widths, crate::specs::Request::limits_of, rules::specs::Requests::sum, crate::proofs::Table::Apart))]
 pub fn operand_bytes(byte: u8, wide: bool) -> Option<usize>
     ensures { result ≡ operands_of wide byte }

@@ -37,11 +37,12 @@ pub struct Arrival {
     pub pinned: bool,
 }
 
-// behind: whose link the caller must set to the thread that came in, NONE for nobody, as it lies in a record (queue/lists.rt). part: where it came in; the Rust answers whether that is not idle.
+// behind: whose link the caller must set to the thread that came in, if anybody's. part: where it came in; the Rust answers whether that is not idle. Not
+// `queue::lists::Put` beside a part, nor `Found` in `Front`: clauses and callers would name one field more.
 #[derive(Clone, Copy)]
 pub struct Put {
     pub queue: RunQueue,
-    pub behind: u64,
+    pub behind: Option<u64>,
     pub part: Part,
 }
 

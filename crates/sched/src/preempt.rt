@@ -19,7 +19,7 @@ pub fn preempting() -> SchedFlags
     }
 }
 
-// A mark is cleared, and obeyed.
+// A mark is cleared, and obeyed. m, k and the wake-ups stand apart, as in `schedule`.
 #[tactic(auto, unfolding(crate::specs::Preempt::schedule_maybe_preempt_def))]
 pub fn schedule_maybe_preempt(m: &mut Memory<'_>, k: Context, wakeups: u64) -> u64
     ensures { LeavesOver (schedule_maybe_preempt_def k wakeups) result m }

@@ -1,12 +1,12 @@
 // `switch_to`, `do_schedule` and `schedule`, and the command that schedules a blocked thread.
 ghost use Rattle.std.specs.Prelude.{◌≡◌, eqb};
-ghost use Rattle.records.specs.Left.{Becomes, BecomesOne, BecomesOver, Leaves, LeavesOver, on_threads};
+ghost use Rattle.records.specs.Left.{Becomes, BecomesOne, BecomesOver, Leaves, LeavesOver};
 ghost use Rattle.thread.specs.Thread.{NONE};
 ghost use Rattle.sched.specs.Schedule.{switch_to_def, run_taken_def, idle_unless, run_stolen_def, pick_next_def, must_move_def, reinserted_def, reset_thread_time_def, reinsert_def, do_schedule_def, schedule_def, scheduled, schedule_thread_def};
 
 use processor::words::CpuWords;
 use records::memory::Memory;
-use records::record::set;
+use records::record::{get, set};
 use records::rq::take;
 use sched_queues::queues::{block, is_idle, schedule_thread_on_cpu, try_steal, wake};
 use sched_words::choose::{reinsert_at, select_for};
@@ -91,17 +91,18 @@ pub fn reinserted(m: &mut Memory<'_>, k: Context, chosen: Option<u64>, x: u64, w
     }
 }
 
-// The deadline of thread x is set anew on CPU us.
+// The deadline of thread x is set anew on CPU us, of slices lent apart. `reinsert` does the same in lines of its own: `cpus()` would lend the whole of its `Memory`, and of a
+// field that is lent to be read the check forgets the content.
 #[tactic(auto, unfolding(crate::specs::Schedule::reset_thread_time_def))]
-fn reset_thread_time(m: &mut Memory<'_>, k: Context, x: u64)
-    ensures { Becomes (on_threads (reset_thread_time_def k x)) m }
+pub fn reset_thread_time(threads: &mut [Thread], cpus: &[CpuWords], k: Context, x: u64)
+    ensures { BecomesOne (reset_thread_time_def k x cpus.now) threads }
 {
-    let t = reset_time(m.cpus(), k, k.us, m.thread(x));
-    set(m.threads, x, t);
+    let t = reset_time(cpus, k, k.us, get(threads, x));
+    set(threads, x, t);
 }
 
 // The thread running, cur, goes back into a queue, and the next is picked; or it runs on with its deadline set anew.
-#[tactic(auto, unfolding(crate::specs::Schedule::reinsert_def, crate::specs::Schedule::then_next_def))]
+#[tactic(auto, unfolding(crate::specs::Schedule::reinsert_def, crate::specs::Schedule::then_next_def, crate::specs::Schedule::reset_thread_time_def))]
 pub fn reinsert(m: &mut Memory<'_>, k: Context, cur: u64, flags: SchedFlags, wakeups: u64) -> u64
     ensures { LeavesOver (reinsert_def k cur flags wakeups) result m }
 {
@@ -112,7 +113,8 @@ pub fn reinsert(m: &mut Memory<'_>, k: Context, cur: u64, flags: SchedFlags, wak
     } else if flags.yields {
         schedule_thread_on_cpu(m, k, k.us, cur, wakeups)
     } else {
-        reset_thread_time(m, k, cur);
+        let u = reset_time(m.cpus(), k, k.us, t);
+        set(m.threads, cur, u);
         return wakeups;
     };
     pick_next(m, k, cur);

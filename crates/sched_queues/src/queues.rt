@@ -14,6 +14,8 @@ use sched_words::time::{moved_to, should_signal};
 use thread::place::Place;
 use thread::{NONE, Thread};
 
+// The lent memory m, the context k and the wake-ups so far stand apart: m alone is changed, k is the same throughout, and the wake-ups are what is answered.
+
 // Is the thread running, cur, the idle thread? A word of its CPU says it, NONE for the idle thread.
 pub fn is_idle(cur: u64) -> bool
     ensures { result ≡ eqb cur NONE }
@@ -34,7 +36,7 @@ pub fn schedule_thread_on_cpu(m: &mut Memory<'_>, k: Context, c: u64, x: u64, wa
     signal(wakeups, k.us, c, due)
 }
 
-// A blocked thread goes into the queue of CPU c. It and `block` alone change a place from or to blocked.
+// A blocked thread goes into the queue of CPU c. A name of its own, which the laws cite: it and `block` alone change a place from or to blocked.
 #[tactic(auto, unfolding(crate::specs::Queues::wake_def))]
 pub fn wake(m: &mut Memory<'_>, k: Context, c: u64, x: u64, wakeups: u64) -> u64
     ensures { Leaves (wake_def k c x wakeups) result m }

@@ -10,6 +10,8 @@ use sched_words::balance::{Balancing, find_move};
 use sched_words::context::Context;
 use sched_words::rebalance::rebalance_due;
 
+// m, k and the wake-ups stand apart, as in `sched_queues`.
+
 // The move that the choices came to, if any.
 #[tactic(auto, unfolding(crate::specs::Balance::move_made, crate::specs::Balance::received))]
 pub fn move_one(m: &mut Memory<'_>, k: Context, b: Balancing, wakeups: u64) -> u64

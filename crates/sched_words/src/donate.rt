@@ -10,6 +10,8 @@ use processor::words::CpuWords;
 use thread::Thread;
 use thread::priority::Donation;
 
+// The words, the CPU that signals and the wake-ups so far stand apart: the words are read, the CPU stays, the wake-ups are the answer.
+
 // Is CPU c signalled for a thread with this record? If somebody waits there and it advertises more than the thread's priority.
 #[tactic(auto, using(thread::proofs::Order::less_derived), unfolding(crate::specs::Donate::wakeup_due))]
 pub fn wakeup_due(cpus: &[CpuWords], c: u64, t: Thread) -> bool

@@ -61,6 +61,7 @@ pub struct Written {
     pub bytes: usize,
 }
 
+// Each of C's structs that holds an option has two conversions of its own, since the fields differ.
 impl From<Option<u64>> for Column {
     ghost from_gives = { λ shown column. column ≡ column_of shown };
 
@@ -129,7 +130,8 @@ impl From<Runs> for Option<Running> {
     }
 }
 
-// The refusal of a number; any number past 10 but 12 counts as 11. No `From`: both types are of other crates.
+// The refusal of a number; any number past 10 but 12 counts as 11. No `From`: both types are of other crates; no `TryFrom` in `lines` either,
+// since every number has an answer.
 #[tactic(auto, unfolding(outcome::specs::Call::refusal_back))]
 fn refusal_in(number: u64) -> Option<Refusal>
     ensures { result ≡ refusal_back number }

@@ -1,4 +1,5 @@
-// The static library for C: each function of `scheduler` with its clauses, since a crate is a library or a static library. A slice passes as a pointer and a length, a struct as C lays it out.
+// The static library for C: each function of `scheduler` with its clauses, since a crate is a library or a static library. A slice passes as a pointer and a
+// length, a struct as C lays it out.
 #![tactic(auto)]
 
 ghost use Rattle.std.specs.Prelude.{◌≡◌};

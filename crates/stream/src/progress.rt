@@ -74,10 +74,7 @@ pub fn must_wait(last: bool, reading: Reading) -> bool
 fn ends(number: u64, refusal: Option<Refusal>) -> bool
     ensures { result ≡ ends_by number (refusal_number refusal) }
 {
-    match refusal {
-        Some(Refusal::UnknownCommand | Refusal::CutShort) => true,
-        _ => number == LAST_NUMBER,
-    }
+    matches!(refusal, Some(Refusal::UnknownCommand | Refusal::CutShort)) || number == LAST_NUMBER
 }
 
 // Where the next command begins: at the end where this one ends the run.

@@ -160,7 +160,7 @@ three_read : (wide : Bool) (a b c d : ℕ) → fits (row wide 0x10) (a ∷ b ∷
     → fields_from wide 0x10 0 (length (row wide 0x10)) (0 ∷ 0 ∷ 0 ∷ 0 ∷ []) (numbers (a ∷ b ∷ c ∷ [])) ≡ command 0x10 (a ∷ b ∷ c ∷ d ∷ [])
 unfolding row rules_row widths_or widths
 three_read wide a b c d f e =
-    let p : plain_row 4 (row wide 0x10) ≡ true = row_plain wide 0x10 (omega arith) in
+    let p : plain_row 4 (row wide 0x10) ≡ true = row_plain wide 0x10 in
     let p₁ : plain_row 3 (1 ∷ 1 ∷ (limits_of wide).cpu_bytes ∷ []) ≡ true = row_left 3 2 _ a _ p f in
     let f₁ : fits (1 ∷ 1 ∷ (limits_of wide).cpu_bytes ∷ []) (b ∷ c ∷ d ∷ []) ≡ true = fits_left 3 2 _ a _ p f in
     let p₂ : plain_row 2 (1 ∷ (limits_of wide).cpu_bytes ∷ []) ≡ true = row_left 2 1 _ b _ p₁ f₁ in
@@ -176,7 +176,7 @@ module _ (wide : Bool) (byte a b c d : ℕ) (h : has_row (widths (limits_of wide
   unfolding shown_fields no_pin four nth
   shown_read = both (no_pin wide byte (a ∷ b ∷ c ∷ d ∷ []))
       (λ e. rw e (without_pin (eqb-true byte 0x10 (and_left (eqb byte 0x10) (eqb d (all_ones_of wide)) e)) (eqb-true d (all_ones_of wide) (and_right (eqb byte 0x10) (eqb d (all_ones_of wide)) e))))
-      (λ e. rw e (fields_read wide byte (row wide byte) a b c d (row_plain wide byte (byte_small (limits_of wide) byte h)) f))
+      (λ e. rw e (fields_read wide byte (row wide byte) a b c d (row_plain wide byte) f))
 
 -- ---- the line
 

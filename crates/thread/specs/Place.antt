@@ -1,5 +1,5 @@
 -- Where a thread is, its link, and the mark that it is critical.
-use Rattle.std.specs.Prelude.{ℕ, zero, suc, ◌<◌, ◌≡◌, refl, Bool, true, false, cond, eqb, negsuc, None}
+use Rattle.std.specs.Prelude.{ℕ, zero, suc, ◌<◌, ◌≡◌, refl, Bool, true, false, cond, eqb, negsuc, Option, None, Some}
 use Rattle.std.proofs.Common.{arith}
 use Rattle.rules.specs.declared.Priority.{Priority}
 use Rattle.rules.specs.Priority.{nr_values, class_at, cut, from_raw, raw}
@@ -30,6 +30,11 @@ is_declared place.Undeclared = false
 is_declared place.Blocked = true
 is_declared place.Running = true
 is_declared place.Waiting = true
+
+-- the CPU that a new thread is pinned to, NONE for none
+unfoldable pub pin_number : Option ℕ → ℕ
+pin_number None = NONE
+pin_number (Some c) = c
 
 -- a declared thread, blocked, of this priority, pinned to this CPU; a number past the largest of an i32 pins it to none
 unfoldable pub new : Priority → ℕ → Thread

@@ -9,20 +9,22 @@ pub mod time;
 ghost use Rattle.std.specs.Prelude.{◌≡◌};
 ghost use Rattle.thread.specs.Thread.{blank};
 
+use place::Place;
+
 // The link number that leads nowhere.
 pub const NONE: u64 = 18446744073709551615;
 
 // The donated priority, raw, where there is no donation: u32::MAX of the Rust.
 pub const NO_DONATION: u64 = 4294967295;
 
-// A thread's places; any other number counts as undeclared.
-pub const UNDECLARED: u64 = 0;
+// A thread's places as a record holds them, for patterns and clauses; any other number counts as undeclared.
+pub const UNDECLARED: u64 = Place::Undeclared as u64;
 
-pub const BLOCKED: u64 = 1;
+pub const BLOCKED: u64 = Place::Blocked as u64;
 
-pub const RUNNING: u64 = 2;
+pub const RUNNING: u64 = Place::Running as u64;
 
-pub const WAITING: u64 = 3;
+pub const WAITING: u64 = Place::Waiting as u64;
 
 // C lends the records: each field is a plain number, a priority raw, a place as `Place` numbers it, and NONE, NO_DONATION or a negative field for none.
 #[repr(C)]

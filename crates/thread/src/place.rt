@@ -2,7 +2,7 @@
 ghost use Rattle.std.specs.Prelude.{◌≡◌, eqb};
 ghost use Rattle.thread.specs.Thread.{BLOCKED, with_place, with_next, with_critical};
 ghost use Rattle.thread.specs.Reads.{critical_in};
-ghost use Rattle.thread.specs.Place.{number, place_in, is_declared, new};
+ghost use Rattle.thread.specs.Place.{number, place_in, is_declared, pin_number, new};
 
 use crate::priority::raw;
 use crate::time::field_of;
@@ -42,10 +42,10 @@ impl From<u64> for Place {
 }
 
 impl Thread {
-    // A declared thread, blocked, of this priority, pinned to this CPU; NONE, a number as its law reads it, pins it to none.
-    #[tactic(auto, unfolding(crate::specs::Place::new))]
-    pub fn new(priority: Priority, pin: u64) -> Self
-        ensures { result ≡ new priority pin }
+    // A declared thread, blocked, of this priority, pinned to this CPU if there is one.
+    #[tactic(auto, unfolding(crate::specs::Place::new, crate::specs::Place::pin_number, crate::specs::Time::field_of))]
+    pub fn new(priority: Priority, pin: Option<u64>) -> Self
+        ensures { result ≡ new priority (pin_number pin) }
     {
         let own = raw(priority);
         Thread {
@@ -57,7 +57,7 @@ impl Thread {
             place: BLOCKED,
             next: NONE,
             last_cpu: -1,
-            pinned_cpu: field_of(pin),
+            pinned_cpu: pin.map_or(-1, field_of),
             current_processor_queue: -1,
             deadline: 0,
             timeslice: 0,
@@ -77,10 +77,11 @@ impl Thread {
         self.place() != Place::Undeclared
     }
 
+    #[tactic(auto, unfolding(crate::specs::Place::place_in))]
     pub fn is_blocked(self) -> bool
         ensures { result ≡ eqb self.place BLOCKED }
     {
-        self.place == BLOCKED
+        self.place() == Place::Blocked
     }
 
     #[tactic(auto, unfolding(crate::specs::Thread::with_place))]

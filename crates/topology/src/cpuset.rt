@@ -65,6 +65,7 @@ impl CpuSet {
         id < MAX_CPU_ID && bit(self.set[(id / 64) as usize], id)
     }
 
+    // This and `remove` set and clear a bit, under a definition each; a common function would take a closure.
     #[tactic(auto, unfolding(crate::specs::CpuSet::insert, crate::specs::CpuSet::max_cpu_id, crate::specs::CpuSet::word_of))]
     pub fn insert(mut self, id: u64) -> Self
         ensures { result ≡ insert self id }

@@ -90,7 +90,7 @@ pub fn has_cpus(nodes: &[NodeWords], n: u64) -> bool
     !has_children(nodes, n) && 0 < word(nodes, n, END)
 }
 
-// Is the CPU on the node or below it?
+// Is the CPU on the node or below it? Asked of the words themselves, as in `put_cpu`.
 #[tactic(auto, unfolding(crate::specs::Node::contains_at, crate::specs::CpuSet::max_cpu_id))]
 pub fn contains(nodes: &[NodeWords], n: u64, cpu: u64) -> bool
     ensures { result ≡ contains_at nodes.now n cpu }
@@ -113,7 +113,7 @@ pub fn end(nodes: &[NodeWords], n: u64, limit: u64) -> u64
     word(nodes, n, END).min(limit)
 }
 
-// A CPU put on one node.
+// A CPU put on one node. The set is sixteen of the node's words: a `CpuSet` would be copied out of them and in again.
 #[tactic(auto, unfolding(crate::specs::Node::put_cpu, crate::specs::CpuSet::max_cpu_id, crate::specs::Node::lesser, crate::specs::Node::greater))]
 pub fn put_cpu(nodes: &mut [NodeWords], n: u64, cpu: u64)
     ensures { nodes.new ≡ put_cpu nodes.old n cpu }

@@ -1,5 +1,5 @@
 // The words of the nodes. Past the end of the slice a word is 0, and a store does nothing; word numbers are taken modulo WORDS. C lends
-// them, so a link is a number there.
+// them, so a link is a number there. Functions of their own, as processor/words.rt says.
 ghost use Rattle.std.specs.Prelude.{◌≡◌};
 ghost use Rattle.topology.specs.Words.{word, put_word};
 

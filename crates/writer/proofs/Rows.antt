@@ -2,9 +2,9 @@
 use Rattle.std.specs.Prelude.{Option, Some, None, Result}
 use Prim.Native.Nat.{ℕ, zero, suc, ◌+◌, ◌-◌, ◌*◌, ◌/◌, ◌%◌, ◌^◌, ◌≤◌, ◌<◌}
 use mathlib.Core.Path.{◌≡◌, refl, sym, ap, ◌∙◌}
-use mathlib.Core.Bool.{Bool, true, false, cond, ◌&&◌}
-use mathlib.Core.List.{List, [], ◌∷◌, ◌++◌, append-nil}
-use lib.ListN.{length, get_or, take}
+use mathlib.Core.Bool.{Bool, true, false, cond}
+use mathlib.Core.List.{List, [], ◌∷◌}
+use lib.ListN.{length, take}
 use lib.Seq.{sets}
 use lib.Dec.{eqb, ltb, leb}
 use native.Mathlib.Omega.{arith}
@@ -22,11 +22,13 @@ use Rattle.rules.specs.Questions.{question}
 use Rattle.rules.proofs.Laws.Writer.{of_three, refusal_is, fails_first, fields_length}
 use Rattle.lines.specs.declared.Refusal.{Refusal}
 use Rattle.lines.specs.Text.{Text, text, write}
-use Rattle.lines.proofs.Writing.{then, write_sets}
+use Rattle.lines.proofs.Writing.{write_append, write_sets}
 use Rattle.request.specs.Request.{limits_of, operands_in, operands_of}
-use Rattle.request.specs.Fields.{four, row}
+use Rattle.request.specs.declared.fields.Fields.{Fields}
+use Rattle.request.specs.Fields.{list_of, four, row}
+use Rattle.std.specs.List.{list_all, zip}
 use Rattle.request.proofs.Table.{by_row}
-use Rattle.request.proofs.ByWidths.{plain_row, row_plain, not_five}
+use Rattle.request.proofs.ByWidths.{plain_row, row_plain, not_five, width_most}
 use Rattle.writer.specs.Writer.{written_of, no_misfit, known_answer, known_buffer}
 
 -- a number below 2^64 fits in eight bytes or more
@@ -71,10 +73,15 @@ first_bytes n v h =
     let all : take n (bytes_low_first 0 8 v) ≡ bytes_low_first 0 n v = subst (λ (k : ℕ). take n (bytes_low_first 0 k v) ≡ bytes_low_first 0 n v) (sym e) (front 0 n (8 - n) v) in
     all ∙ (sym (bytes_from 0 n v) ∙ ap (little_endian n) (div-one v))
 
-pub five_parts : (t a b c d e : Text) (byte : ℕ) (l m n o : List ℕ) → a ≡ write t (byte ∷ []) → b ≡ write a l → c ≡ write b m → d ≡ write c n → e ≡ write d o
-    → e ≡ write t (byte ∷ (l ++ (m ++ (n ++ (o ++ [])))))
-five_parts t a b c d e byte l m n o h₁ h₂ h₃ h₄ h₅ =
-    rw append-nil (then t a e (byte ∷ []) (l ++ (m ++ (n ++ o))) h₁ (then a b e l (m ++ (n ++ o)) h₂ (then b c e m (n ++ o) h₃ (then c d e n o h₄ h₅))))
+-- no width is above eight
+unfoldable pub Narrow : List ℕ → Type 0
+Narrow [] = Unit
+Narrow (n ∷ ns) = (n ≤ 8) × Narrow ns
+
+-- a field is written, then the others
+pub field_put : (t u : Text) (n v : ℕ) (ns vs : List ℕ) → u ≡ write t (little_endian n v) → write u (field_bytes ns vs) ≡ write t (field_bytes (n ∷ ns) (v ∷ vs))
+unfolding field_bytes
+field_put t u n v ns vs h = rw (h, write_append)
 
 -- ---- four widths, of which those that a command does not have are 0
 
@@ -101,25 +108,20 @@ bytes_four (n ∷ m ∷ o ∷ []) a b c d h = refl
 bytes_four (n ∷ m ∷ o ∷ t ∷ []) a b c d h = refl
 bytes_four (n ∷ m ∷ o ∷ t ∷ u ∷ ns) a b c d h = let z : false ≡ true = not_five n m o t u ns h in cc
 
-regroup : (s t u v : Bool) → (((s && t) && u) && v) ≡ (s && (t && (u && (v && true))))
-regroup false t u v = refl
-regroup true false u v = refl
-regroup true true false v = refl
-regroup true true true false = refl
-regroup true true true true = refl
-
 -- ---- a command of the table
 
-module _ (wide : Bool) (byte : ℕ) (a b c d : ℕ) (small : byte < 256) where
-  pub fits_row : (ws : List ℕ) → ws ≡ four (row wide byte)
-      → (((ltb a (256 ^ get_or ws 0 0) && ltb b (256 ^ get_or ws 1 0)) && ltb c (256 ^ get_or ws 2 0)) && ltb d (256 ^ get_or ws 3 0)) ≡ fits (row wide byte) (a ∷ b ∷ c ∷ d ∷ [])
-  unfolding four fits
-  fits_row ws e = rw (e, ← fits_four (row wide byte) a b c d (row_plain wide byte small))
-      (regroup (ltb a (256 ^ nth 0 (row wide byte))) (ltb b (256 ^ nth 1 (row wide byte))) (ltb c (256 ^ nth 2 (row wide byte))) (ltb d (256 ^ nth 3 (row wide byte))))
+module _ (wide : Bool) (byte : ℕ) (fields : Fields) (ws vs : List ℕ) (w : ws ≡ four (row wide byte)) (v : vs ≡ list_of fields) where
+  pub fits_row : list_all (λ p. ltb p.0 (256 ^ p.1)) (zip vs ws) ≡ fits (row wide byte) (list_of fields)
+  unfolding list_of four fits
+  fits_row = rw (w, v) (fits_four (row wide byte) _ _ _ _ (row_plain wide byte))
 
-  pub bytes_row : (ws : List ℕ) → ws ≡ four (row wide byte) → byte ∷ field_bytes ws (a ∷ b ∷ c ∷ d ∷ []) ≡ bytes_of (limits_of wide) byte (a ∷ b ∷ c ∷ d ∷ [])
-  unfolding bytes_of row
-  bytes_row ws e = ap (λ (l : List ℕ). byte ∷ l) (rw e (bytes_four (row wide byte) _ _ _ _ (row_plain wide byte small)))
+  pub bytes_row : byte ∷ field_bytes ws vs ≡ bytes_of (limits_of wide) byte (list_of fields)
+  unfolding bytes_of row list_of
+  bytes_row = ap (λ (l : List ℕ). byte ∷ l) (rw (w, v) (bytes_four (row wide byte) _ _ _ _ (row_plain wide byte)))
+
+  pub narrow_row : Narrow ws
+  unfolding four Narrow
+  narrow_row = rw w (width_most wide byte 0, (width_most wide byte 1, (width_most wide byte 2, (width_most wide byte 3, tt))))
 
 -- a text written at the front of a buffer
 pub at_front : (b b' l : List ℕ) (next : ℕ) → text b' next ≡ write (text b 0) l → b' ≡ sets b 0 l

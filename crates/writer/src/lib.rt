@@ -9,7 +9,7 @@ ghost use Rattle.lines.specs.Text.{Writes, text, write};
 ghost use Rattle.writer.specs.Writer.{written_of, no_misfit, known, known_after, answer, buffer_after};
 
 use lines::{Refusal, Text};
-use request::fields::{Fields, ranges, widths_of};
+use request::fields::{Command, Fields, widths_of};
 use request::operand_bytes;
 
 // Is the number below 256 to the width?
@@ -21,23 +21,20 @@ fn below(v: u64, n: usize) -> bool
 }
 
 // Does each field fit its width?
-#[tactic(auto, using(crate::proofs::Rows::fits_row))]
-fn fit(byte: u8, fields: Fields, wide: bool) -> bool
-    ensures { result ≡ fits (row wide byte) (list_of fields) }
+fn fit(command: Command, wide: bool) -> bool
+    ensures { result ≡ fits (row wide command.byte) (list_of command.fields) }
 {
-    let [first, second, third, fourth] = widths_of(byte, wide);
-    below(fields.first, first)
-        && below(fields.second, second)
-        && below(fields.third, third)
-        && below(fields.fourth, fourth)
+    let widths = widths_of(command.byte, wide);
+    let fields = <[u64; 4]>::from(command.fields);
+    fields.iter().zip(&widths).all(|(v, n)| below(*v, *n))
 }
 
 // Question 6: does each field fit its width, and is it in its range?
 #[tactic(auto, unfolding(crate::specs::Writer::no_misfit, rules::specs::Writer::no_misfit, rules::specs::Questions::question, request::specs::Fields::row))]
-fn no_misfit(byte: u8, fields: Fields, wide: bool) -> bool
-    ensures { result ≡ no_misfit wide byte (list_of fields) }
+fn no_misfit(command: Command, wide: bool) -> bool
+    ensures { result ≡ no_misfit wide command.byte (list_of command.fields) }
 {
-    fit(byte, fields, wide) && ranges(byte, fields, wide)
+    fit(command, wide) && command.ranges(wide)
 }
 
 // A number in n bytes, the least first.
@@ -50,41 +47,36 @@ fn put_field(text: &mut Text<'_>, n: usize, v: u64)
 }
 
 // The command byte and its fields, from the buffer's front.
-fn put_command(buffer: &mut [u8], byte: u8, fields: Fields, wide: bool) -> usize
-    ensures { text buffer.new result ≡ write (text buffer.old 0) (bytes_of (limits_of wide) byte (list_of fields)) }
+fn put_command(buffer: &mut [u8], command: Command, wide: bool) -> usize
+    ensures { text buffer.new result ≡ write (text buffer.old 0) (bytes_of (limits_of wide) command.byte (list_of command.fields)) }
 {
-    let [first, second, third, fourth] = widths_of(byte, wide);
+    let widths = widths_of(command.byte, wide);
+    let fields = <[u64; 4]>::from(command.fields);
     let mut text = Text { buffer, at: 0 };
-    text.put(byte);
-    put_field(&mut text, first, fields.first);
-    put_field(&mut text, second, fields.second);
-    put_field(&mut text, third, fields.third);
-    put_field(&mut text, fourth, fields.fourth);
+    text.put(command.byte);
+    for (n, v) in widths.iter().zip(&fields) {
+        put_field(&mut text, *n, *v);
+    }
     text.at
 }
 
 // A command whose operands have n bytes.
 #[tactic(auto, using(crate::proofs::Rows::at_front), unfolding(crate::specs::Writer::written_of, crate::specs::Writer::known_answer, crate::specs::Writer::known_buffer, lines::specs::Lines::refusal_number, lines::specs::Lines::question_number))]
-fn write_known(
-    byte: u8,
-    n: usize,
-    fields: Fields,
-    wide: bool,
-    buffer: &mut [u8],
-) -> Result<usize, Refusal>
-    ensures { (written_of result ≡ known wide byte n fields buffer.old) × (buffer.new ≡ known_after wide byte n fields buffer.old) }
+fn write_known(command: Command, n: usize, wide: bool, buffer: &mut [u8]) -> Result<usize, Refusal>
+    ensures { (written_of result ≡ known wide command.byte n command.fields buffer.old) × (buffer.new ≡ known_after wide command.byte n command.fields buffer.old) }
 {
-    if !no_misfit(byte, fields, wide) {
+    if !no_misfit(command, wide) {
         return Err(Refusal::OutOfRange);
     }
     if buffer.len() <= n {
         return Err(Refusal::ShortBuffer);
     }
-    put_command(buffer, byte, fields, wide);
+    put_command(buffer, command, wide);
     Ok(n + 1)
 }
 
-// The command in the buffer's first bytes. An operand that names a CPU or a node has two bytes if `wide`, else one; a pin is the number that is written.
+// The command in the buffer's first bytes. Any number may come as its byte, as from C, so it is no `Command` yet. An operand that names a CPU or a
+// node has two bytes if `wide`, else one; a pin is the number that is written.
 pub fn write_command(
     byte: u64,
     fields: Fields,
@@ -97,5 +89,5 @@ pub fn write_command(
         return Err(Refusal::UnknownCommand);
     };
     let n = operand_bytes(byte, wide).ok_or(Refusal::UnknownCommand)?;
-    write_known(byte, n, fields, wide, buffer)
+    write_known(Command { byte, fields }, n, wide, buffer)
 }

@@ -1,4 +1,4 @@
-use Rattle.std.proofs.Common.{◌≡◌, ℕ, List, [], ◌∷◌, take, sym, ap, ◌∙◌, drop-cons}
+use Rattle.std.proofs.Common.{◌≡◌, ℕ, List, take, sym, ap, ◌∙◌, drop-cons}
 use Rattle.rules.specs.Lines.{space}
 use Rattle.lines.specs.Text.{text_of, write}
 use Rattle.request.specs.Fields.{list_of}
@@ -9,8 +9,7 @@ use Rattle.listing.proofs.put_fields.Goals as goal
 pub loop-number-preserved : goal.loop-number-preserved
 unfolding space
 loop-number-preserved c =
-    let f = c.args.fields in
-    let l : List ℕ = take c.min.result (f.first ∷ f.second ∷ f.third ∷ f.fourth ∷ []) in
+    let l : List ℕ = take c.min.result c.from-all.result in
     record {
       written = next_put _ _ _ l c.loop-number.number-index _ c.put.ensures.0 c.put_number.ensures.0 (drop-cons l c.loop-number.number-index 0 c.loop-number-test.true) ∙ c.loop-number.invariant.written;
       same_buffer = c.put_number.ensures.1 ∙ (c.put.ensures.1 ∙ c.loop-number.invariant.same_buffer);
@@ -19,7 +18,6 @@ loop-number-preserved c =
 pub returns : goal.returns
 unfolding list_of
 returns c =
-    let f = c.args.fields in
-    let l : List ℕ = take c.min.result (f.first ∷ f.second ∷ f.third ∷ f.fourth ∷ []) in
-    let same : l ≡ take c.args.count (f.first ∷ f.second ∷ f.third ∷ f.fourth ∷ []) = rw c.min.ensures (take_most c.args.count (f.first ∷ f.second ∷ f.third ∷ f.fourth ∷ [])) in
+    let l : List ℕ = take c.min.result c.from-all.result in
+    let same : l ≡ take c.args.count (list_of c.args.fields) = rw (c.min.ensures, c.from-all.ensures) (take_most c.args.count (list_of c.args.fields)) in
     (sym (all_put _ l _ c.loop-number-test.false) ∙ (c.loop-number.invariant.written ∙ ap (λ (m : List ℕ). write (text_of c.args.text.now) (numbers m)) same), c.loop-number.invariant.same_buffer)

@@ -1,7 +1,6 @@
 -- One list of threads that runs through the thread records: from the first by each one's link to the last, whose link leads nowhere.
-use Rattle.std.specs.Prelude.{ℕ, zero, suc, ◌≤◌, ◌<◌, ◌≡◌, refl, ◌⊎◌, true, false, cond, List, [], ◌∷◌, ◌++◌, length, eqb}
-use Rattle.std.proofs.Common.{sym, ◌∙◌, inl, true≢false, eqb-true, eq-eqb, ne_eqb, arith}
-use Rattle.std.proofs.Math.Logic.{inr}
+use Rattle.std.specs.Prelude.{ℕ, zero, suc, ◌≤◌, ◌<◌, ◌≡◌, refl, true, false, cond, List, [], ◌∷◌, ◌++◌, length, eqb, Option, None, Some}
+use Rattle.std.proofs.Common.{sym, ◌∙◌, true≢false, eqb-true, eq-eqb, ne_eqb, arith}
 use Rattle.std.proofs.lemmas.Bool.{false≢true}
 use Rattle.rules.specs.Line.{has, Distinct, Below}
 use Rattle.rules.proofs.Laws.Line.{both}
@@ -12,9 +11,10 @@ use Rattle.thread.specs.Thread.{NONE}
 use Rattle.represents.specs.QueueRead.{walk}
 use Rattle.represents.specs.Linked.{Chain, last, Ends, Linked}
 
--- the links once y has come in behind: y leads nowhere, and whoever it stands behind leads to y
-unfoldable pub link_after : (ℕ → ℕ) → ℕ → ℕ → ℕ → ℕ
-link_after next behind y = cond (eqb behind NONE) (at next y NONE) (at (at next y NONE) behind y)
+-- the links once y has come in behind: y leads nowhere, and whoever it stands behind, if anybody, leads to y
+unfoldable pub link_after : (ℕ → ℕ) → Option ℕ → ℕ → ℕ → ℕ
+link_after next None y = at next y NONE
+link_after next (Some b) y = at (at next y NONE) b y
 
 -- ---- for proofs
 
@@ -74,7 +74,7 @@ last_some h t x l e b = ne_eqb t NONE (λ q. let k : t < NONE = rw e (below_has 
 
 -- ONE COMES IN BEHIND
 pub linked_push : (f : ℕ → ℕ) (h t : ℕ) (l : List ℕ) (y : ℕ) → Linked f h t l → Distinct l → Below NONE l → has y l ≡ false
-    → Linked (link_after f (cond (eqb h NONE) NONE t) y) (cond (eqb h NONE) y h) y (l ++ (y ∷ []))
+    → Linked (link_after f (cond (eqb h NONE) None (Some t)) y) (cond (eqb h NONE) y h) y (l ++ (y ∷ []))
 unfolding Chain Ends last Below link_after at
 linked_push f h t [] y k d b n =
     rw (eq-eqb h NONE k.runs) (record { runs = (refl, rw (eq-eqb y y refl)); ends = refl })
@@ -82,7 +82,7 @@ linked_push f h t (x ∷ l) y k d b n =
     let first : h ≡ x = k.runs.0 in
     let some : eqb h NONE ≡ false = ne_eqb h NONE (λ e. let z : x ≡ NONE = sym first ∙ e in omega (arith, b.0)) in
     let other : eqb y t ≡ false = both (eqb y t) (λ e. absurd (true≢false (sym (last_in x l) ∙ (rw (eqb-true y t e, k.ends) at n)))) (λ e. e) in
-    rw (some, last_some h t x l k.ends b) (record {
+    rw some (record {
       runs = chain_push f (at (at f y NONE) t y) h x l y k.runs d
           (rw (other, eq-eqb y y refl))
           (rw (← k.ends, eq-eqb t t refl))
@@ -92,14 +92,14 @@ linked_push f h t (x ∷ l) y k d b n =
 
 -- who was not in the list, and did not come in, leads where it did
 pub link_alike : (f : ℕ → ℕ) (h t : ℕ) (l : List ℕ) (y : ℕ) → Linked f h t l → Below NONE l → (z : ℕ) → has z l ≡ false → eqb z y ≡ false
-    → link_after f (cond (eqb h NONE) NONE t) y z ≡ f z
+    → link_after f (cond (eqb h NONE) None (Some t)) y z ≡ f z
 unfolding Chain Ends last Below link_after at
 link_alike f h t [] y k b z n e = rw (eq-eqb h NONE k.runs, e)
 link_alike f h t (x ∷ l) y k b z n e =
     let first : h ≡ x = k.runs.0 in
     let some : eqb h NONE ≡ false = ne_eqb h NONE (λ e. let z : x ≡ NONE = sym first ∙ e in omega (arith, b.0)) in
     let other : eqb z t ≡ false = both (eqb z t) (λ q. absurd (true≢false (sym (last_in x l) ∙ (rw (eqb-true z t q, k.ends) at n)))) (λ q. q) in
-    rw (some, last_some h t x l k.ends b, other, e)
+    rw (some, other, e)
 
 -- the first is nobody exactly when nobody is there
 pub linked_none : (f : ℕ → ℕ) (h t : ℕ) (l : List ℕ) → Linked f h t l → Below NONE l → eqb h NONE ≡ empty l
@@ -108,13 +108,14 @@ linked_none f h t [] k b = eq-eqb h NONE k.runs
 linked_none f h t (x ∷ l) k b = ne_eqb h NONE (λ q. let z : x ≡ NONE = sym k.runs.0 ∙ q in omega (arith, b.0))
 
 -- whoever it stands behind, if anybody, is in the list
-abbrev pub BehindIn : ℕ → ℕ → Type 0
-BehindIn n b = (b ≡ NONE) ⊎ (b < n)
+unfoldable pub BehindIn : ℕ → Option ℕ → Type 0
+BehindIn n None = Unit
+BehindIn n (Some b) = b < n
 
-pub behind_in : (n : ℕ) (f : ℕ → ℕ) (h t : ℕ) (l : List ℕ) → Linked f h t l → Below n l → Below NONE l → BehindIn n (cond (eqb h NONE) NONE t)
-unfolding Chain Ends
-behind_in n f h t [] k b c = rw (eq-eqb h NONE k.runs) (inl refl)
-behind_in n f h t (x ∷ l) k b c = rw (linked_none f h t (x ∷ l) k c) (unfold empty in inr (rw k.ends (below_has n (x ∷ l) b (last x l) (last_in x l))))
+pub behind_in : (n : ℕ) (f : ℕ → ℕ) (h t : ℕ) (l : List ℕ) → Linked f h t l → Below n l → Below NONE l → BehindIn n (cond (eqb h NONE) None (Some t))
+unfolding Chain Ends BehindIn
+behind_in n f h t [] k b c = rw (eq-eqb h NONE k.runs) tt
+behind_in n f h t (x ∷ l) k b c = rw (linked_none f h t (x ∷ l) k c) (unfold empty in rw k.ends (below_has n (x ∷ l) b (last x l) (last_in x l)))
 
 -- a walk along the links meets the list
 pub walk_chain : (f : ℕ → ℕ) (k h : ℕ) (l : List ℕ) → Chain f h l → Below NONE l → length l ≤ k → walk f k h ≡ l

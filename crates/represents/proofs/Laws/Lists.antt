@@ -1,6 +1,6 @@
 -- One part of a run queue: the code's first and last threads of each list, and the links, show the buckets.
 use Prim.Native.Nat.{ℕ, zero, suc, ◌+◌, ◌-◌, ◌%◌, ◌≤◌, ◌<◌}
-use Rattle.std.specs.Prelude.{◌≡◌, false, set, replicate, eqb, ltb, Option, None}
+use Rattle.std.specs.Prelude.{◌≡◌, false, set, replicate, eqb, ltb, Option, None, Some}
 use Rattle.std.proofs.Math.Path.{refl, sym, ap}
 use Rattle.std.proofs.Common.{◌∙◌, add-one}
 use Rattle.std.proofs.Math.Bool.{true, cond, true≢false}
@@ -109,7 +109,7 @@ module _ (f : ℕ → ℕ) (l : Lists) (bs : Buckets) (s : ℕ) (w : ListsRep f 
     abbrev end : ℕ
     end = get_or l.tails j 0
 
-    pub push_behind : (push_back l j y).behind ≡ cond (eqb head NONE) NONE end
+    pub push_behind : (push_back l j y).behind ≡ cond (eqb head NONE) None (Some end)
     unfolding push_back
     push_behind = rw (mod-eq_of_lt jn) (both (eqb head NONE) (λ e. rw e) (λ e. rw e))
 

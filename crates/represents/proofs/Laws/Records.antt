@@ -1,8 +1,7 @@
 -- THE RECORDS: what run queues ask of a list of thread records, and that the writes of a put and of a take are those of Readings.antt.
-use Rattle.std.specs.Prelude.{ℕ, ◌<◌, ◌≡◌, refl, cond, List, length, set, ltb}
+use Rattle.std.specs.Prelude.{ℕ, ◌<◌, ◌≡◌, refl, cond, List, length, set, ltb, Option, None, Some}
 use Rattle.std.proofs.Math.Path.{ap}
-use Rattle.std.proofs.Common.{◌∙◌, inl, inr, get_or-set_same, get_or-set_other}
-use Rattle.std.proofs.Math.Bool.{false}
+use Rattle.std.proofs.Common.{◌∙◌, get_or-set_same, get_or-set_other}
 use Rattle.std.proofs.Math.ListN.{length-set}
 use Rattle.std.proofs.Math.Seq.{set_out}
 use Rattle.std.proofs.Math.Dec.{eqb}
@@ -82,35 +81,33 @@ value_at part.Realtime f x v z = both (eqb z x) (λ e. rw (e, eqb-true z x e)) (
 value_at part.Timeshare f x v z = both (eqb z x) (λ e. rw e) (λ e. rw e)
 value_at part.Idle f x v z = both (eqb z x) (λ e. rw (e, eqb-true z x e)) (λ e. rw e)
 
-module _ (ts : List Thread) (x : ℕ) (h : x < length ts) (p : Part) (b : ℕ) where
+module _ (ts : List Thread) (x : ℕ) (h : x < length ts) (p : Part) where
   abbrev written : List Thread
   written = set ts x (put_in_def (record_at ts x) p)
 
-  -- what the link of b leaves as it is
-  past_link {ℓ} : {A : Type ℓ} (f : Thread → A) (z : ℕ) → f (with_next (record_at written b) x) ≡ f (record_at written b) → f (record_at (link_behind written b x) z) ≡ f (record_at written z)
+  -- what the link of whoever it stands behind leaves as it is
+  past_link {ℓ} : {A : Type ℓ} (b : Option ℕ) (f : Thread → A) (z : ℕ) → ((c : ℕ) → b ≡ Some c → f (with_next (record_at written c) x) ≡ f (record_at written c)) → f (record_at (link_behind written b x) z) ≡ f (record_at written z)
   unfolding link_behind
-  past_link f z e = both (eqb b NONE) (λ k. rw k) (λ k. rw k (kept f written b (with_next (record_at written b) x) z e))
+  past_link None f z e = refl
+  past_link (Some b) f z e = kept f written b (with_next (record_at written b) x) z (e b refl)
 
-  pub put_field {ℓ} : {A : Type ℓ} (f : Thread → A) → ((t : Thread) (n : ℕ) → f (with_next t n) ≡ f t) → (z : ℕ)
+  pub put_field {ℓ} : {A : Type ℓ} (b : Option ℕ) (f : Thread → A) → ((t : Thread) (n : ℕ) → f (with_next t n) ≡ f t) → (z : ℕ)
       → f (record_at (link_behind written b x) z) ≡ cond (eqb z x) (f (put_in_def (record_at ts x) p)) (f (record_at ts z))
-  put_field f past z = past_link f z (past (record_at written b) x) ∙ field_set f ts x (put_in_def (record_at ts x) p) z h
+  put_field b f past z = past_link b f z (λ c q. past (record_at written c) x) ∙ field_set f ts x (put_in_def (record_at ts x) p) z h
 
   link_here : (z : ℕ) → (record_at written z).next ≡ at (marks ts).next x NONE z
   unfolding at marks
   link_here z = field_set (λ (u : Thread). u.next) ts x (put_in_def (record_at ts x) p) z h ∙ rw (put_next (record_at ts x) p)
 
-  link_next : (z : ℕ) → BehindIn (length ts) b → (record_at (link_behind written b x) z).next ≡ link_after (marks ts).next b x z
-  unfolding link_behind link_after
-  link_next z k = both (eqb b NONE) (λ e. rw e (link_here z)) (λ e. rw e (behind_next e k))
-    where
-      behind_next : eqb b NONE ≡ false → BehindIn (length ts) b → (record_at (set written b (with_next (record_at written b) x)) z).next ≡ at (at (marks ts).next x NONE) b x z
-      behind_next e (inl n) = absurd (eqb-false b NONE e n)
-      behind_next e (inr l) =
-          rw (read_set written b (with_next (record_at written b) x) z (rw (length-set ts x (put_in_def (record_at ts x) p)) l))
-          (both (eqb z b) (λ q. rw q (unfold at with_next in rw q)) (λ q. rw q (unfold at in rw q (unfold at in link_here z))))
+  link_next : (b : Option ℕ) (z : ℕ) → BehindIn (length ts) b → (record_at (link_behind written b x) z).next ≡ link_after (marks ts).next b x z
+  unfolding link_behind link_after BehindIn
+  link_next None z l = link_here z
+  link_next (Some b) z l =
+      rw (read_set written b (with_next (record_at written b) x) z (rw (length-set ts x (put_in_def (record_at ts x) p)) l))
+      (both (eqb z b) (λ q. rw q (unfold at with_next in rw q)) (λ q. rw q (unfold at in rw q (unfold at in link_here z))))
 
   -- THE WRITES OF A PUT
-  pub marks_put : BehindIn (length ts) b
+  pub marks_put : (b : Option ℕ) → BehindIn (length ts) b
       → marks (link_behind written b x)
       ≡ record {
         next = link_after (marks ts).next b x;
@@ -118,14 +115,15 @@ module _ (ts : List Thread) (x : ℕ) (h : x < length ts) (p : Part) (b : ℕ) w
         value = value_after p (marks ts).value x (effective_priority (reads (record_at ts x))).value;
       }
   unfolding marks
-  marks_put k = λ i. record { next = λ z. link_next z k i; pinned = λ z. pins z i; value = λ z. values z i }
+  marks_put b k = λ i. record { next = λ z. link_next b z k i; pinned = λ z. pins z i; value = λ z. values z i }
     where
       pins : (z : ℕ) → pinned (reads (record_at (link_behind written b x) z)) ≡ pinned (reads (record_at ts z))
-      pins z = put_field (λ (u : Thread). pinned (reads u)) (λ t n. ap pinned (reads_next t n)) z ∙ both (eqb z x) (λ e. rw (e, eqb-true z x e) (put_pinned (record_at ts x) p)) (λ e. rw e)
+      pins z = put_field b (λ (u : Thread). pinned (reads u)) (λ t n. ap pinned (reads_next t n)) z ∙ both (eqb z x) (λ e. rw (e, eqb-true z x e) (put_pinned (record_at ts x) p)) (λ e. rw e)
 
       values : (z : ℕ) → (reads (record_at (link_behind written b x) z)).stable.value ≡ value_after p (λ y. (reads (record_at ts y)).stable.value) x (effective_priority (reads (record_at ts x))).value z
-      values z = put_field (λ (u : Thread). (reads u).stable.value) (λ t n. ap (λ (u : times.Thread). u.stable.value) (reads_next t n)) z ∙ rw (put_value (record_at ts x) p) (value_at p (λ y. (reads (record_at ts y)).stable.value) x _ z)
+      values z = put_field b (λ (u : Thread). (reads u).stable.value) (λ t n. ap (λ (u : times.Thread). u.stable.value) (reads_next t n)) z ∙ rw (put_value (record_at ts x) p) (value_at p (λ y. (reads (record_at ts y)).stable.value) x _ z)
 
-  pub length_put : length (link_behind written b x) ≡ length ts
+  pub length_put : (b : Option ℕ) → length (link_behind written b x) ≡ length ts
   unfolding link_behind
-  length_put = both (eqb b NONE) (λ e. rw e (length-set ts x _)) (λ e. rw e (length-set written b _ ∙ length-set ts x _))
+  length_put None = length-set ts x _
+  length_put (Some b) = length-set written b _ ∙ length-set ts x _

@@ -3,7 +3,7 @@
 -- Any number of CPUs and threads.
 use Rattle.std.specs.Prelude.{ℕ, ◌-◌, ◌^◌, ◌≤◌, ◌<◌, ◌≡◌, Bool, get_or, set, eqb, Option, Some, None}
 use Rattle.std.proofs.Math.Path.{refl}
-use Rattle.std.proofs.Common.{sym, subst, ◌∙◌, inl, inr, length-set, get_or-set_same, eqb-true, arith}
+use Rattle.std.proofs.Common.{sym, subst, ◌∙◌, length-set, get_or-set_same, eqb-true, arith}
 use Rattle.std.proofs.Math.Bool.{false}
 use Rattle.std.proofs.lemmas.Bool.{false≢true, eqb-false}
 use mathlib.Core.List.{List, []}
@@ -67,9 +67,10 @@ length_row : (row : List ℕ) (q : RunQueue) → length (queue_into row q) ≡ l
 unfolding queue_into stored_from
 length_row row q = simp (length_place, length_lists)
 
-behind_more : (n k b : ℕ) → n ≤ k → BehindIn n b → BehindIn k b
-behind_more n k b h (inl e) = inl e
-behind_more n k b h (inr l) = inr (omega arith)
+behind_more : (n k : ℕ) (b : Option ℕ) → n ≤ k → BehindIn n b → BehindIn k b
+unfolding BehindIn
+behind_more n k None h l = tt
+behind_more n k (Some b) h l = omega arith
 
 arrival_value : (t : Thread) (x tick : ℕ) (current : Bool) → (arrival_of t x tick current).priority.value < nr_values
 unfolding arrival_of

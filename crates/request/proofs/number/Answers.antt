@@ -1,5 +1,4 @@
 use Rattle.std.proofs.Common.{◌≡◌, [], ◌∷◌, refl, arith, append-nil}
-use Rattle.std.proofs.lemmas.List.{nil_from_length}
 use Rattle.std.specs.Slice.Iter.{iter_rest}
 use Rattle.std.specs.Iterator.Adapters.{rev_source}
 use Rattle.rules.specs.Requests.{operand}
@@ -29,9 +28,3 @@ loop-byte-preserved c =
     let s = c.loop-byte.invariant.2 in
     let parts = rw c.in-Some.ensures.steps at s.1 in
     (tt, tt, (c.in-Some.byte.now ∷ s.0, parts_more _ _ _ _ _ parts s.2, rw c.from.ensures (value_more _ _ _ _ _ parts s.2)))
-
-pub returns : goal.returns
-returns c =
-    let s = c.loop-byte.invariant.2 in
-    let all : s.0 ≡ c.args.bytes.now = rw (nil_from_length _ c.in-None.ensures.steps.0) at s.1 in
-    rw all at s.2

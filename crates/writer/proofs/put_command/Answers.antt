@@ -1,33 +1,49 @@
-use Rattle.std.proofs.Common.{◌≡◌, refl, rules}
+use Rattle.std.proofs.Common.{◌≡◌, rules, refl, arith, ◌∙◌, ◌∷◌, []}
+use Rattle.std.specs.Iterator.Adapters.{zip_first, zip_second}
+use Rattle.std.specs.Slice.Iter.{iter_rest}
+use Rattle.std.proofs.lemmas.Iterator.{empty_from_Zip}
 use Rattle.rules.specs.Writer.{field_bytes, bytes_of}
 use Rattle.lines.specs.Text.{text, text_of, write}
+use Rattle.lines.proofs.Writing.{then}
 use Rattle.request.specs.Request.{limits_of}
-use Rattle.request.specs.Fields.{list_of, four, row}
-use Rattle.request.proofs.ByWidths.{width_most}
-use Rattle.writer.proofs.Rows.{five_parts, bytes_row}
+use Rattle.request.specs.Fields.{list_of, four}
+use Rattle.writer.proofs.Rows.{Narrow, narrow_row, field_put, bytes_row}
 use Rattle.writer.proofs.put_command.Goals as goal
 
+pub loop-n-init : goal.loop-n-init
+unfolding four list_of
+loop-n-init c =
+    let ws : iter_rest (zip_first c.into_iter-n-iterator.result) ≡ c.widths_of-widths.result = cc in
+    let vs : iter_rest (zip_second c.into_iter-n-iterator.result) ≡ c.from-fields.result = cc in
+    record {
+      alike = rw (ws, vs, c.widths_of-widths.ensures, c.from-fields.ensures);
+      narrow = rw ws (narrow_row _ _ _ _ _ c.widths_of-widths.ensures c.from-fields.ensures);
+      written = refl;
+      same_buffer = search rules;
+    }
+
 pub put_field-requires : goal.put_field-requires
-unfolding four
-put_field-requires c = rw c.widths_of.ensures (width_most _ _ c.ranges.byte.fits 0)
+unfolding Narrow
+put_field-requires c = (rw c.in-Some.ensures.steps.0 at c.loop-n.invariant.narrow).0
 
-pub put_field-requires-2 : goal.put_field-requires-2
-unfolding four
-put_field-requires-2 c = rw c.widths_of.ensures (width_most _ _ c.ranges.byte.fits 1)
-
-pub put_field-requires-3 : goal.put_field-requires-3
-unfolding four
-put_field-requires-3 c = rw c.widths_of.ensures (width_most _ _ c.ranges.byte.fits 2)
-
-pub put_field-requires-4 : goal.put_field-requires-4
-unfolding four
-put_field-requires-4 c = rw c.widths_of.ensures (width_most _ _ c.ranges.byte.fits 3)
+pub loop-n-preserved : goal.loop-n-preserved
+unfolding Narrow
+loop-n-preserved c =
+    let s = c.in-Some.ensures.steps in
+    record {
+      alike = omega (arith, rw (s.0, s.1) at c.loop-n.invariant.alike);
+      narrow = (rw s.0 at c.loop-n.invariant.narrow).1;
+      written = field_put _ _ _ _ _ _ c.put_field.ensures.0 ∙ rw (s.0, s.1) at c.loop-n.invariant.written;
+      same_buffer = c.put_field.ensures.1 ∙ c.loop-n.invariant.same_buffer;
+    }
 
 pub returns : goal.returns
-unfolding list_of four field_bytes
+unfolding field_bytes write
 returns c =
-    let w = c.widths_of.ensures in
-    let all : text_of c.put_field-4.new.text ≡ write (text c.args.buffer.now 0) (bytes_of (limits_of c.args.wide) c.args.byte (list_of c.args.fields)) =
-    rw (← bytes_row c.args.wide c.args.byte _ _ _ _ c.ranges.byte.fits (four (row c.args.wide c.args.byte)) refl)
-    (five_parts _ (text_of c.put.new.self) (text_of c.put_field.new.text) (text_of c.put_field-2.new.text) (text_of c.put_field-3.new.text) _ _ _ _ _ _ c.put.ensures.0 (rw w at c.put_field.ensures.0) (rw w at c.put_field-2.ensures.0) (rw w at c.put_field-3.ensures.0) (rw w at c.put_field-4.ensures.0)) in
+    let ws : iter_rest (zip_first c.into_iter-n-iterator.result) ≡ c.widths_of-widths.result = cc in
+    let vs : iter_rest (zip_second c.into_iter-n-iterator.result) ≡ c.from-fields.result = cc in
+    let none = empty_from_Zip _ c.next.new.self _ c.in-None.is c.next.ensures.steps c.loop-n.invariant.alike in
+    let left : text_of c.loop-n.text ≡ write (text_of c.put.new.self) (field_bytes c.widths_of-widths.result c.from-fields.result) = rw (none.0, ws, vs) at c.loop-n.invariant.written in
+    let all : text_of c.loop-n.text ≡ write (text c.args.buffer.now 0) (bytes_of (limits_of c.args.wide) c.args.command.byte (list_of c.args.command.fields)) =
+    rw (← bytes_row c.args.wide c.args.command.byte c.args.command.fields _ _ c.widths_of-widths.ensures c.from-fields.ensures) (then _ (text_of c.put.new.self) _ (c.args.command.byte ∷ []) (field_bytes c.widths_of-widths.result c.from-fields.result) c.put.ensures.0 left) in
     search rules

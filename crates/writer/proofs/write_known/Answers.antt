@@ -7,6 +7,6 @@ use Rattle.writer.proofs.write_known.Goals as goal
 pub returns : goal.returns
 unfolding written_of known_answer known_buffer
 returns c =
-    let m : no_misfit c.args.wide c.args.byte (list_of c.args.fields) ≡ true = cc in
+    let m : no_misfit c.args.wide c.args.command.byte (list_of c.args.command.fields) ≡ true = cc in
     let t : ltb c.args.n (length c.args.buffer.now) ≡ true = lt-ltb _ _ c.if-buffer-n.false in
     (rw (m, t), rw (m, t) (at_front _ _ _ _ c.put_command.ensures))

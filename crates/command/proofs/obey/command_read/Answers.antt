@@ -8,10 +8,10 @@ pub returns-in-Ok : goal.returns-in-Ok
 returns-in-Ok c =
     let w : Lent = record { threads = c.args.threads.now; cpus = c.args.cpus.now; nodes = c.args.nodes.now } in
     c.obey.ensures
-    ∙ obeyed c.args.state w c.args.reading _ c.thread_named-x.ensures _ c.get-t.ensures c.judged.result c.judged.ensures.refused c.in-Ok.asked c.in-Ok.is c.in-Ok.ensures.asks
+    ∙ obeyed c.args.state w c.args.reading _ c.named-t.ensures c.judged.result c.judged.ensures.refused c.in-Ok.asked c.in-Ok.is c.in-Ok.ensures.asks
 
 pub returns-in-Err : goal.returns-in-Err
 returns-in-Err c =
     let w : Lent = record { threads = c.args.threads.now; cpus = c.args.cpus.now; nodes = c.args.nodes.now } in
     ap (λ (a : Answered). kept w a) c.refuses.ensures
-    ∙ refused c.args.state w c.args.reading _ c.thread_named-x.ensures _ c.get-t.ensures c.judged.result c.judged.ensures.refused c.in-Err.refusal _ c.in-Err.is c.taken.ensures
+    ∙ refused c.args.state w c.args.reading _ c.named-t.ensures c.judged.result c.judged.ensures.refused c.in-Err.refusal _ c.in-Err.is c.taken.ensures

@@ -7,4 +7,4 @@ use Rattle.request.proofs.fields.field_count.Goals as goal
 pub returns : goal.returns
 returns c =
     count_from_yields_List c.filter.result _ c.count.ensures.ran (YieldsList-from_filter _ (nat_lt 0) (YieldsList-from_slice c.widths_of-widths.result cc) c.filter.ensures.closure (λ x r q k. search (rules, tests)))
-    ∙ fields_counted _ _ c.widths_of-widths.ensures (row_plain _ _ c.ranges.byte.fits)
+    ∙ fields_counted _ _ c.widths_of-widths.ensures (row_plain _ _)
