@@ -1,6 +1,5 @@
 pub mod Balance
 pub mod Move
-pub mod Pairs
 pub mod Rebalance
 pub mod Rest
 pub mod Stattick

@@ -17,10 +17,10 @@ use Rattle.rules.specs.State.{at, Limits, Topology}
 use Rattle.rules.specs.Topology.{cpus_of}
 use Rattle.rules.specs.Choice.{pair_at, choose_cpu_balance}
 use Rattle.rules.specs.Schedule as sched
-use Rattle.rules.specs.Schedule.{World, Got, Balancing, with_cpu, with_thread, with_draws, set_rebalance, pinned_in}
+use Rattle.rules.specs.Schedule.{World, Got, Balancing, with_cpu, with_draws, set_rebalance, pinned_in}
 use Rattle.rules.proofs.Laws.Sound.{at_here, at_there, Sound, New, Taken, not_true_is, same_cpu_changed, sound_same, at_keeps}
 use Rattle.rules.specs.Waits.{waits}
-use Rattle.rules.proofs.Laws.Steps.{nobody_but, ok_put}
+use Rattle.rules.proofs.Laws.Steps.{nobody_but, ok_put, PairUnder, choose_in, cpus_in}
 use Rattle.rules.proofs.Laws.Held.{has_head}
 use Rattle.thread.specs.declared.Thread.{Thread}
 use Rattle.thread.specs.Thread.{NONE}
@@ -42,8 +42,9 @@ use Rattle.topology.specs.CpuSet.{Sixteen, sixteen_remove, remove_same, remove_o
 use Rattle.represents.specs.Topology.{TopologyRep}
 use Rattle.choice_laws.proofs.Memory.{balance_memory}
 use Rattle.sched_words.specs.declared.balance.Balancing as step
-use Rattle.sched_words.specs.Balance.{Balanced, passed, stopped, without, moving, hands_out, outcome, pair_step, pair_of_def, chosen_at, balance_step_def}
-use Rattle.records.specs.Left.{Memory, mem, Left}
+use Rattle.sched_words.specs.Balance.{passed, stopped, without, moving, hands_out, outcome, pair_step, pair_of_def, chosen_at, balance_step_def}
+use Rattle.processor.specs.Left.{Words, Left}
+use Rattle.records.specs.Left.{Memory, mem}
 use Rattle.sched_words.specs.declared.context.Context.{Context}
 use Rattle.sched_queues.specs.Queues.{schedule_thread_on_cpu_def, moved_for_def, take_from}
 use Rattle.sched_ticks.specs.Balance.{received, move_made, move_one_def}
@@ -51,8 +52,6 @@ use Rattle.sched_laws.proofs.Frames.{from_wakeups, put_one}
 use Rattle.sched_laws.specs.Hardtick.{context}
 use Rattle.sched_laws.proofs.Queues.{nobody_moved, shows_scheduled, counts_scheduled, from_handed, shows_taken_from}
 use Rattle.balance_laws.specs.Move.{Meets as MeetsAt, Stepped as SteppedAt}
-use Rattle.balance_laws.specs.Pairs.{PairUnder}
-use Rattle.balance_laws.proofs.Pairs.{chosen_in}
 
 -- ---- what a take answers
 
@@ -233,12 +232,12 @@ module _ (limits : Limits) (topology : Topology) (tick us : ℕ) (known : ℕ �
 
   -- ---- one choice
 
-  abbrev Stepped : List Thread → ℕ → Balanced → ℕ → Balancing → Type 0
+  abbrev Stepped : List Thread → ℕ → Left step.Balancing Words → ℕ → Balancing → Type 0
   Stepped ts n s before B = SteppedAt limits topology tick us known numbered small early H us_in active base room ts n s before B
 
-  still : {ts : List Thread} {n : ℕ} (s : Balanced) (before : ℕ) (B : Balancing) → is_some s.balancing.moves ≡ false → Meets ts s.cpus n s.balancing B → Stepped ts n s before B
+  still : {ts : List Thread} {n : ℕ} (s : Left step.Balancing Words) (before : ℕ) (B : Balancing) → is_some s.answer.moves ≡ false → Meets ts s.memory n s.answer B → Stepped ts n s before B
   still {ts} {n} s before B e m = record {
-    meets = subst (λ (u : Left ℕ Memory). Meets u.memory.threads u.memory.cpus u.answer s.balancing B) (sym (move_none ts s.cpus k s.balancing n e)) m;
+    meets = subst (λ (u : Left ℕ Memory). Meets u.memory.threads u.memory.cpus u.answer s.answer B) (sym (move_none ts s.memory k s.answer n e)) m;
     far = λ t. absurd (true≢false (sym t ∙ e));
   }
 
@@ -289,11 +288,11 @@ module _ (limits : Limits) (topology : Topology) (tick us : ℕ) (known : ℕ �
       moved_B = sched.move_one limits topology tick us v B.allowed B.steps donor recipient
 
       -- nobody is handed out
-      move_nobody : got.got ≡ None → Stepped ts n (record { balancing = without b recipient; cpus = marked }) B.steps moved_B
+      move_nobody : got.got ≡ None → Stepped ts n (record { answer = without b recipient; memory = marked }) B.steps moved_B
       unfolding without
       move_nobody e =
           let r : moved_B ≡ record { world = got.world; allowed = at B.allowed recipient false; steps = B.steps + 1; goes_on = true } = rules_none v B.allowed B.steps donor recipient e in
-          still (record { balancing = without b recipient; cpus = marked }) B.steps moved_B stays
+          still (record { answer = without b recipient; memory = marked }) B.steps moved_B stays
           (subst (λ (C : Balancing). Meets ts marked n (without b recipient) C) (sym r) (record {
             shows = none_shows marked_shows marked_safe donor recipient donor_in recipient_in e;
             safe = (taken_safe marked_shows marked_safe donor recipient donor_in recipient_in).sound;
@@ -306,7 +305,7 @@ module _ (limits : Limits) (topology : Topology) (tick us : ℕ) (known : ℕ �
           }))
 
       -- a thread moves
-      move_somebody : (x : ℕ) → got.got ≡ Some x → Stepped ts n (record { balancing = moving b donor recipient; cpus = marked }) B.steps moved_B
+      move_somebody : (x : ℕ) → got.got ≡ Some x → Stepped ts n (record { answer = moving b donor recipient; memory = marked }) B.steps moved_B
       unfolding moving
       move_somebody x e =
           let r : moved_B ≡ record {
@@ -333,7 +332,7 @@ module _ (limits : Limits) (topology : Topology) (tick us : ℕ) (known : ℕ �
             far = λ z. let l : moved_B.steps ≡ B.steps + 11 = ap (λ (C : Balancing). C.steps) r in omega arith;
           }
 
-      move_law : (o : Option ℕ) → got.got ≡ o → Stepped ts n (record { balancing = cond (is_some o) (moving b donor recipient) (without b recipient); cpus = marked }) B.steps moved_B
+      move_law : (o : Option ℕ) → got.got ≡ o → Stepped ts n (record { answer = cond (is_some o) (moving b donor recipient) (without b recipient); memory = marked }) B.steps moved_B
       move_law None e = move_nobody e
       move_law (Some x) e = move_somebody x e
 
@@ -341,13 +340,13 @@ module _ (limits : Limits) (topology : Topology) (tick us : ℕ) (known : ℕ �
       passed_B allowed = record { world = v; allowed = allowed; steps = B.steps + 1; goes_on = true }
 
       kept_going : (b' : step.Balancing) (allowed : ℕ → Bool) → is_some b'.moves ≡ false → b'.steps ≡ sum b.steps 1 → b'.goes_on ≡ true → Sixteen b'.allowed
-          → ((c : ℕ) → c < limits.cpus → cpus.contains b'.allowed c ≡ allowed c) → Stepped ts n (record { balancing = b'; cpus = marked }) B.steps (passed_B allowed)
+          → ((c : ℕ) → c < limits.cpus → cpus.contains b'.allowed c ≡ allowed c) → Stepped ts n (record { answer = b'; memory = marked }) B.steps (passed_B allowed)
       kept_going b' allowed z i o f a =
-          still (record { balancing = b'; cpus = marked }) B.steps (passed_B allowed) z
+          still (record { answer = b'; memory = marked }) B.steps (passed_B allowed) z
           (record { shows = marked_shows; safe = marked_safe; words = f; allowed = a; steps = i ∙ one_more; goes_on = o; counted = m.counted ∙ sym v_counts; few = omega (arith, v_counts, m.few) })
 
       -- nobody waits at the donor: it leaves the allowed set if it has no more than the thread that it runs
-      none_waits : Stepped ts n (record { balancing = cond (eqb (sched.current_load (w.cpus donor)) 1) (without b donor) (passed b); cpus = marked }) B.steps
+      none_waits : Stepped ts n (record { answer = cond (eqb (sched.current_load (w.cpus donor)) 1) (without b donor) (passed b); memory = marked }) B.steps
           (passed_B (cond (eqb (sched.current_load (w.cpus donor)) 1) (at B.allowed donor false) B.allowed))
       unfolding without passed
       none_waits =
@@ -368,24 +367,24 @@ module _ (limits : Limits) (topology : Topology) (tick us : ℕ) (known : ℕ �
           ∙ ap (λ i. outcome b donor recipient (sched.current_load (w.cpus donor)) i (hands_out cs donor recipient)) waiting_at_donor
           ∙ ap (λ (t : Bool). outcome b donor recipient (sched.current_load (w.cpus donor)) (load (w.cpus donor).queue) t) hands_now
 
-      pair_is : pair_step cs b donor recipient
-          ≡ cond (eqb (sched.current_load (w.cpus donor)) 0) (record { balancing = stopped b; cpus = cs })
-          (record { balancing = outcome b donor recipient (sched.current_load (w.cpus donor)) (load (w.cpus donor).queue) (is_some got.got); cpus = marked })
+      pair_is : pair_step b donor recipient cs
+          ≡ cond (eqb (sched.current_load (w.cpus donor)) 0) (record { answer = stopped b; memory = cs })
+          (record { answer = outcome b donor recipient (sched.current_load (w.cpus donor)) (load (w.cpus donor).queue) (is_some got.got); memory = marked })
       unfolding pair_step
       pair_is =
-          ap (λ i. cond (eqb i 0) (record { balancing = stopped b; cpus = cs })
-          (record { balancing = outcome b donor recipient (cpu.current_load cs donor) (word cs donor LOAD) (hands_out cs donor recipient); cpus = marked })) load_at_donor
-          ∙ ap (λ (c : step.Balancing). cond (eqb (sched.current_load (w.cpus donor)) 0) (record { balancing = stopped b; cpus = cs }) (record { balancing = c; cpus = marked })) outcome_is
+          ap (λ i. cond (eqb i 0) (record { answer = stopped b; memory = cs })
+          (record { answer = outcome b donor recipient (cpu.current_load cs donor) (word cs donor LOAD) (hands_out cs donor recipient); memory = marked })) load_at_donor
+          ∙ ap (λ (c : step.Balancing). cond (eqb (sched.current_load (w.cpus donor)) 0) (record { answer = stopped b; memory = cs }) (record { answer = c; memory = marked })) outcome_is
 
       abbrev stopped_B : Balancing
       stopped_B = record { world = w; allowed = B.allowed; steps = B.steps; goes_on = false }
 
-      stop_law : Stepped ts n (record { balancing = stopped b; cpus = cs }) B.steps stopped_B
+      stop_law : Stepped ts n (record { answer = stopped b; memory = cs }) B.steps stopped_B
       unfolding stopped
-      stop_law = still (record { balancing = stopped b; cpus = cs }) B.steps stopped_B stays
+      stop_law = still (record { answer = stopped b; memory = cs }) B.steps stopped_B stays
           (record { shows = m.shows; safe = m.safe; words = m.words; allowed = m.allowed; steps = m.steps; goes_on = refl; counted = m.counted; few = m.few })
 
-      on_law : Stepped ts n (record { balancing = outcome b donor recipient (sched.current_load (w.cpus donor)) (load (w.cpus donor).queue) (is_some got.got); cpus = marked }) B.steps
+      on_law : Stepped ts n (record { answer = outcome b donor recipient (sched.current_load (w.cpus donor)) (load (w.cpus donor).queue) (is_some got.got); memory = marked }) B.steps
           (cond (ltb 0 (load (w.cpus donor).queue)) moved_B (passed_B (cond (eqb (sched.current_load (w.cpus donor)) 1) (at B.allowed donor false) B.allowed)))
       unfolding outcome
       on_law =
@@ -393,16 +392,16 @@ module _ (limits : Limits) (topology : Topology) (tick us : ℕ) (known : ℕ �
           (λ e. rw e (move_law got.got refl))
           (λ e. rw e none_waits)
 
-      donor_law : Stepped ts n (pair_step cs b donor recipient) B.steps (sched.balance_pair limits topology tick us w B.allowed B.steps (pair_at donor recipient))
+      donor_law : Stepped ts n (pair_step b donor recipient cs) B.steps (sched.balance_pair limits topology tick us w B.allowed B.steps (pair_at donor recipient))
       unfolding sched.balance_pair
       donor_law =
-          subst (λ (s : Balanced). Stepped ts n s B.steps (sched.balance_pair limits topology tick us w B.allowed B.steps (pair_at donor recipient))) (sym pair_is)
+          subst (λ (s : Left step.Balancing Words). Stepped ts n s B.steps (sched.balance_pair limits topology tick us w B.allowed B.steps (pair_at donor recipient))) (sym pair_is)
           (both (eqb (sched.current_load (w.cpus donor)) 0) (λ e. rw e stop_law) (λ e. rw e on_law))
 
-    pair_law : (p : Option Pair) → PairUnder limits.cpus p → Stepped ts n (pair_of_def cs b p) B.steps (sched.balance_pair limits topology tick us w B.allowed B.steps p)
+    pair_law : (p : Option Pair) → PairUnder limits.cpus p → Stepped ts n (pair_of_def b p cs) B.steps (sched.balance_pair limits topology tick us w B.allowed B.steps p)
     unfolding pair_of_def passed sched.balance_pair PairUnder
     pair_law None h =
-        still (record { balancing = passed b; cpus = cs }) B.steps (record { world = w; allowed = B.allowed; steps = B.steps + 1; goes_on = true }) stays
+        still (record { answer = passed b; memory = cs }) B.steps (record { world = w; allowed = B.allowed; steps = B.steps + 1; goes_on = true }) stays
         (record { shows = m.shows; safe = m.safe; words = m.words; allowed = m.allowed; steps = one_more; goes_on = on; counted = m.counted; few = omega (arith, m.few) })
     pair_law (Some p) h = donor_law p.donor p.recipient h.0 h.1
 
@@ -424,11 +423,11 @@ module _ (limits : Limits) (topology : Topology) (tick us : ℕ) (known : ℕ �
   module _ (nodes : List (List ℕ)) (tree : TopologyRep limits nodes topology) where
     -- ONE CHOICE AND THE MOVE THAT IT COMES TO ARE ONE STEP OF THE RULES
     pub step_law : {ts : List Thread} {cs : List (List ℕ)} {n : ℕ} {b : step.Balancing} {B : Balancing} → Meets ts cs n b B → is_some b.moves ≡ false → b.goes_on ≡ true → B.steps < 20
-        → Stepped ts n (balance_step_def cs nodes us limits.cpus b) B.steps (sched.balance_step limits topology tick us B)
+        → Stepped ts n (balance_step_def nodes us limits.cpus b cs) B.steps (sched.balance_step limits topology tick us B)
     unfolding balance_step_def chosen_at sched.balance_step
     step_law {ts} {cs} {n} {b} {B} m stays on under =
         let f : Chosen = choose_cpu_balance us B.allowed (λ c. sched.current_load (B.world.cpus c)) (cpus_of limits topology 0) (B.world.cpus us).draw_state in
-        subst (λ (c : Chosen). Stepped ts n (pair_of_def (put_word cs us RAND_STATE c.draws) b c.found) B.steps
+        subst (λ (c : Chosen). Stepped ts n (pair_of_def b c.found (put_word cs us RAND_STATE c.draws)) B.steps
         (sched.balance_pair limits topology tick us (with_cpu B.world us (with_draws (B.world.cpus us) f.draws)) B.allowed B.steps f.found))
         (sym (balance_memory m.shows small us us_in nodes tree (cpus.contains b.allowed) B.allowed m.allowed))
-        (pair_law (drawn_meets m f.draws) stays on under f.found (chosen_in limits topology us B.allowed _ _ (omega arith)))
+        (pair_law (drawn_meets m f.draws) stays on under f.found (choose_in limits.cpus us B.allowed _ _ _ (cpus_in limits topology 0)))

@@ -2,6 +2,7 @@
 use Rattle.std.specs.Prelude.{ℕ, ◌+◌, ◌≤◌, ◌<◌, ◌≡◌, Bool, true, false, ◌&&◌, List, eqb, ltb}
 use Rattle.std.proofs.Math.Path.{refl, sym}
 use Rattle.std.proofs.Common.{subst, ◌∙◌, true≢false}
+use Rattle.std.specs.Cmp.{first_so, second_so}
 use Rattle.rules.proofs.Laws.Line.{both}
 use Rattle.rules.specs.Puts.{PutOrTake}
 use Rattle.rules.specs.State.{Limits, Topology, Cpu}
@@ -9,7 +10,6 @@ use Rattle.rules.specs.Schedule as sched
 use Rattle.rules.specs.Schedule.{World, with_cpu, with_draws, with_rebalance_time}
 use Rattle.rules.proofs.Laws.Sound.{at_keeps, same_cpu_changed, sound_same, Sound}
 use Rattle.rules.proofs.Laws.Steps.{nobody_but}
-use Rattle.rules.proofs.Laws.Effect.{and_left, and_right}
 use Rattle.thread.specs.declared.Thread.{Thread}
 use Rattle.thread.specs.Thread.{NONE}
 use Rattle.represents.specs.World.{Small, WorldRep, most_tick}
@@ -45,7 +45,7 @@ module _ (limits : Limits) (topology : Topology) (tick us : ℕ) (known : ℕ �
 
     balances_now : due ≡ true → sched.maybe_rebalance limits topology tick us w dt ≡ sched.balance limits topology tick us next
     unfolding sched.maybe_rebalance
-    balances_now e = rw (and_left (eqb us 0) _ e, and_right (eqb us 0) _ e)
+    balances_now e = rw (first_so (eqb us 0) _ e, second_so (eqb us 0) _ e)
 
     not_now : due ≡ false → (c : ℕ) → ((sched.maybe_rebalance limits topology tick us w dt).cpus c).running ≡ (w.cpus c).running
     unfolding sched.maybe_rebalance with_cpu with_rebalance_time
@@ -69,15 +69,15 @@ module _ (limits : Limits) (topology : Topology) (tick us : ℕ) (known : ℕ �
     unfolding with_rebalance_time with_draws
     next_sound = sound_same (same_cpu_changed limits w us _ refl refl) safe
 
-    next_leaves : due ≡ true → Leaves limits topology known (balance_def k wakeups ns (mem ts (rebalance_due cs us dt).cpus)) (sched.balance limits topology tick us next)
+    next_leaves : due ≡ true → Leaves limits topology known (balance_def k wakeups ns (mem ts (rebalance_due us dt cs).memory)) (sched.balance limits topology tick us next)
     unfolding with_cpu
-    next_leaves e = balances active ts (rebalance_due cs us dt).cpus next (shows_due limits topology tick us known numbered small early us_in s dt e) next_sound (settled_same w next next_running st) wakeups count few
+    next_leaves e = balances active ts (rebalance_due us dt cs).memory next (shows_due limits topology tick us known numbered small early us_in s dt e) next_sound (settled_same w next next_running st) wakeups count few
 
     pub shows_maybe_rebalance : Leaves limits topology known (maybe_rebalance_def k dt wakeups ns (mem ts cs)) (sched.maybe_rebalance limits topology tick us w dt)
     unfolding maybe_rebalance_def context
     shows_maybe_rebalance =
         both due
-        (λ e. rw (due_shown limits topology tick us known numbered small early us_in s dt ∙ e) (subst (Leaves limits topology known (balance_def k wakeups ns (mem ts (rebalance_due cs us dt).cpus))) (sym (balances_now e)) (next_leaves e)))
+        (λ e. rw (due_shown limits topology tick us known numbered small early us_in s dt ∙ e) (subst (Leaves limits topology known (balance_def k wakeups ns (mem ts (rebalance_due us dt cs).memory))) (sym (balances_now e)) (next_leaves e)))
         (λ e. rw (due_shown limits topology tick us known numbered small early us_in s dt ∙ e) (record {
           ends = record { active = active; shows = shows_not_due limits topology tick us known numbered small early us_in s dt e; settled = settled_same w _ (not_now e) st };
           counted = count ∙ sym (not_now_wakeups e);

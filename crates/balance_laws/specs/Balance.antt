@@ -7,7 +7,8 @@ use Rattle.rules.specs.Schedule.{World}
 use Rattle.rules.proofs.Laws.Sound.{Sound}
 use Rattle.rules.proofs.Laws.Steps.{nobody_but}
 use Rattle.represents.specs.World.{WorldRep}
-use Rattle.records.specs.Left.{Memory, Left}
+use Rattle.processor.specs.Left.{Left}
+use Rattle.records.specs.Left.{Memory}
 
 -- Memory that a function leaves shows what the rules leave, and the wake-ups are the rules'.
 pub record BalanceLeft (limits : Limits) (topology : Topology) (known active : ℕ → Bool) (H : ℕ → List PutOrTake) (m : Left ℕ Memory) (w : World) : Type 0 where

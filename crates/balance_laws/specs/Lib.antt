@@ -1,4 +1,3 @@
 pub mod Balance
 pub mod Move
-pub mod Pairs
 pub mod Turns

@@ -12,7 +12,7 @@ use Rattle.represents.specs.World.{Small, WorldRep, most_tick}
 use Rattle.topology.specs.CpuSet as cpus
 use Rattle.topology.specs.CpuSet.{Sixteen}
 use Rattle.sched_words.specs.declared.balance.Balancing as step
-use Rattle.sched_words.specs.Balance.{Balanced}
+use Rattle.processor.specs.Left.{Words, Left}
 use Rattle.records.specs.Left.{mem}
 use Rattle.sched_words.specs.declared.context.Context.{Context}
 use Rattle.sched_ticks.specs.Balance.{move_one_def}
@@ -36,6 +36,6 @@ module _ (limits : Limits) (topology : Topology) (tick us : ℕ) (known : ℕ �
     pub few : B.world.wakeups * 11 ≤ base * 11 + B.steps
 
   -- after a choice and the move that it comes to; a choice that moves a thread is eleven steps
-  pub record Stepped (ts : List Thread) (n : ℕ) (s : Balanced) (before : ℕ) (B : Balancing) : Type 0 where
-    pub meets : Meets (move_one_def k s.balancing n (mem ts s.cpus)).memory.threads (move_one_def k s.balancing n (mem ts s.cpus)).memory.cpus (move_one_def k s.balancing n (mem ts s.cpus)).answer s.balancing B
-    pub far : is_some s.balancing.moves ≡ true → before + 11 ≤ B.steps
+  pub record Stepped (ts : List Thread) (n : ℕ) (s : Left step.Balancing Words) (before : ℕ) (B : Balancing) : Type 0 where
+    pub meets : Meets (move_one_def k s.answer n (mem ts s.memory)).memory.threads (move_one_def k s.answer n (mem ts s.memory)).memory.cpus (move_one_def k s.answer n (mem ts s.memory)).answer s.answer B
+    pub far : is_some s.answer.moves ≡ true → before + 11 ≤ B.steps

@@ -35,7 +35,8 @@ pub fn lower(found: Option<Best>, score: u64, cpu: u64) -> Option<Best>
     }
 }
 
-// A CPU that is not skipped: one draw, and its score beside the lowest so far.
+// A CPU that is not skipped: one draw, and its score beside the lowest so far. `balance::raise` has the same two lines: a common function would answer a pair,
+// under a clause of its own, to be taken apart in each.
 #[tactic(auto, unfolding(crate::specs::Found::weighed, crate::specs::Reads::weight_at))]
 pub fn weigh(cpus: &[CpuWords], us: u64, c: u64, so_far: Searched) -> Searched
     ensures { result ≡ weighed us (weight_at cpus.now) c so_far }

@@ -14,7 +14,7 @@ use rules::Priority;
 pub fn score(load: u64, state: u64) -> u64
     ensures { result ≡ choice.score (load % 2 ^ 56) (draw state) }
 {
-    let whole = load % 72057594037927936 * 256;
+    let whole = load % (1 << 56) * 256;
     whole.saturating_sub(draw(state) % 128)
 }
 
@@ -26,7 +26,7 @@ pub fn skips(cpus: &[CpuWords], pri: Option<Priority>, c: u64) -> bool
     pri.is_some_and(|p| p < current_priority(cpus, c))
 }
 
-// How many wait in its queue, and how many of them are not pinned.
+// How many wait in the queue of CPU c.
 #[tactic(auto, unfolding(crate::specs::Reads::queue_load_at))]
 pub fn queue_load(cpus: &[CpuWords], c: u64) -> u64
     ensures { result ≡ queue_load_at cpus.now c }
@@ -34,6 +34,7 @@ pub fn queue_load(cpus: &[CpuWords], c: u64) -> u64
     word(cpus, c, LOAD)
 }
 
+// How many of them are not pinned.
 #[tactic(auto, unfolding(crate::specs::Reads::movable_at))]
 pub fn movable(cpus: &[CpuWords], c: u64) -> u64
     ensures { result ≡ movable_at cpus.now c }

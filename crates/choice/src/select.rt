@@ -72,7 +72,7 @@ pub fn search_twice(
     }
 }
 
-// Writes the draw state of CPU `us` and nothing else.
+// Writes the draw state of CPU `us` and nothing else. What it answers and what it leaves are a definition each: the laws take them apart.
 #[tactic(auto, unfolding(crate::specs::Select::select_cpu, crate::specs::Select::after_select))]
 pub fn select_cpu(
     cpus: &mut [CpuWords],

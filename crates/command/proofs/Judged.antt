@@ -13,7 +13,7 @@ use Rattle.lines.specs.declared.Refusal.TheVariants as refusal
 use Rattle.lines.specs.Lines.{question_number, refusal_number}
 use Rattle.questions.specs.declared.state.State.{State}
 use Rattle.questions.specs.Questions.{refusal_in}
-use Rattle.records.specs.Left.{Left}
+use Rattle.processor.specs.Left.{Left}
 use Rattle.outcome.specs.declared.answer.Answered.{Answered}
 use Rattle.outcome.specs.Call.{refusal_back, thread_in, named_record}
 use Rattle.outcome.specs.Answer.{refuses}

@@ -14,7 +14,8 @@ use Rattle.sched_words.specs.declared.context.Scheduled.{Scheduled}
 use Rattle.processor.specs.Words.{put_word}
 use Rattle.processor.specs.Word.{DECLARED, PLACED}
 use Rattle.topology.specs.Node.{add_child, set_cpu}
-use Rattle.records.specs.Left.{Words, Memory, Left}
+use Rattle.processor.specs.Left.{Words, Left}
+use Rattle.records.specs.Left.{Memory}
 use Rattle.sched.specs.Schedule.{schedule_def, schedule_thread_def}
 use Rattle.sched_ticks.specs.Balance.{schedule_stattick_def}
 use Rattle.sched_ticks.specs.Ticks.{schedule_hardtick_def, schedule_resched_def}

@@ -1,7 +1,8 @@
 -- All the lent memory: the thread records, the words of the CPUs and of the nodes.
 use Rattle.std.specs.Prelude.{◌≡◌, List, ℕ}
 use Rattle.thread.specs.declared.Thread.{Thread}
-use Rattle.records.specs.Left.{Words, Memory, Left, Slice}
+use Rattle.processor.specs.Left.{Words, Left, Slice}
+use Rattle.records.specs.Left.{Memory}
 
 pub record Lent : Type 0 where
   pub threads : List Thread

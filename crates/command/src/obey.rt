@@ -2,7 +2,8 @@
 ghost use Rattle.std.specs.Prelude.{◌≡◌, length};
 ghost use Rattle.rules.specs.Lines.{used};
 ghost use Rattle.request.specs.Request.{request_of, reading_of};
-ghost use Rattle.records.specs.Left.{Leaves, LeavesOne, LeavesOver};
+ghost use Rattle.processor.specs.Left.{LeavesOne};
+ghost use Rattle.records.specs.Left.{Leaves, LeavesOver};
 ghost use Rattle.outcome.specs.Call.{named_record, thread_in};
 ghost use Rattle.command.specs.Lent.{LeavesAll};
 ghost use Rattle.command.specs.Command.{declare_thread_command, schedule_thread_command, schedule_command, hardtick_command, stattick_command, resched_command, maybe_preempt_command, donate_command, remove_donation_command, set_critical_command, obey_def, answered_def, command_def};
@@ -92,7 +93,7 @@ pub fn stattick(
     ran(m.cpus(), state, cpu, wakeups, used)
 }
 
-// The records are lent to be read alone.
+// The records are lent to be read alone, as their type says.
 #[tactic(auto, unfolding(crate::specs::Command::resched_command))]
 pub fn resched(
     threads: &[Thread],
@@ -116,7 +117,7 @@ pub fn maybe_preempt(m: &mut Memory<'_>, state: State, cpu: u64, used: usize) ->
     ran(m.cpus(), state, cpu, wakeups, used)
 }
 
-// class and value are the operands as they came in; the words of the CPUs are lent to be read alone.
+// class and value are the operands as they came in; the words of the CPUs are lent to be read alone, as their type says.
 #[tactic(auto, unfolding(crate::specs::Command::donate_command))]
 pub fn donate(
     threads: &mut [Thread],
@@ -158,7 +159,7 @@ pub fn set_critical(
 }
 
 // The case of the command, read from bytes or made of numbers (`Call`). Here and above up to C the three slices stand apart: commands before the seal change
-// the nodes, which a `Memory` reads. Nodes that it could change would be forgotten by the check where it is lent to be read.
+// the nodes, which a `Memory` reads, as its type says.
 #[tactic(auto, unfolding(crate::specs::Command::obey_def, request::specs::Request::request_of))]
 pub fn obey(
     threads: &mut [Thread],
@@ -210,10 +211,7 @@ pub fn obey(
 fn taken(reading: Reading) -> usize
     ensures { result ≡ used (reading_of reading) }
 {
-    match reading {
-        Ok(asked) => asked.used,
-        Err(_) => 0,
-    }
+    reading.map_or(0, |asked| asked.used)
 }
 
 // The record of the thread that is named, blank where there is none.

@@ -4,8 +4,8 @@ use Rattle.std.specs.Prelude.{◌≡◌, ◌≢◌, ◌<◌, false, cond, not, �
 use Rattle.std.proofs.Math.Path.{refl, ap, subst}
 use Rattle.std.proofs.Common.{sym, ◌∙◌, ltb-true, arith}
 use borrow.Author.Tests.{eqb-true, eqb-false}
+use Rattle.std.specs.Cmp.{first_so}
 use Rattle.rules.proofs.Laws.Line.{both}
-use Rattle.rules.proofs.Laws.Effect.{and_left}
 use Rattle.rules.proofs.Laws.Reached.{yes}
 use Rattle.rules.specs.Puts.{PutOrTake}
 use Rattle.rules.specs.State as rules
@@ -35,7 +35,7 @@ use Rattle.command_laws.proofs.Obeyed.{obey_law, obey_obeyed}
 -- ---- there and back: the rules' requests and the declared ones, a refusal and its number
 use Rattle.command_laws.specs.Law.{lent}
 use Rattle.command.specs.Lent.{Lent, kept}
-use Rattle.records.specs.Left.{Left}
+use Rattle.processor.specs.Left.{Left}
 use Rattle.outcome.specs.declared.answer.Answered.{Answered}
 
 request_there : (r : Request) → request_of (request_back r) ≡ r
@@ -170,7 +170,7 @@ module _ {H : ℕ → List PutOrTake} {ts : List Thread} {cs ns : List (List ℕ
   unfolding rules_ask.refusal rules_ask.concerning rules_ask.sealed_now rules_ask.pin_declared rules_ask.cpu_declared rules_ask.declared
   pin_fits x k v used e =
       let y = yes 3 (ltb NONE s.limits.cpus && s.topology.declared NONE) _ (yes 2 _ _ e).1 in
-      let near : NONE < s.limits.cpus = ltb-true _ _ (and_left (ltb NONE s.limits.cpus) (s.topology.declared NONE) y.0) in
+      let near : NONE < s.limits.cpus = ltb-true _ _ (first_so (ltb NONE s.limits.cpus) (s.topology.declared NONE) y.0) in
       omega (arith, near, m.small.cpus)
 
   -- the numbers of a request that is obeyed ask it again

@@ -20,7 +20,7 @@ use Rattle.command_laws.proofs.Call.{read_call, command_read, read_used, read_re
 -- rules answer.
 use Rattle.command_laws.specs.Law.{lent}
 use Rattle.command.specs.Lent.{Lent}
-use Rattle.records.specs.Left.{Left}
+use Rattle.processor.specs.Left.{Left}
 use Rattle.outcome.specs.declared.answer.Answered.{Answered}
 
 pub command_law : {H : ℕ → List PutOrTake} {ts : List Thread} {cs ns : List (List ℕ)} {a : State} {s : rules.State} → StateRep ts cs ns a s → Reachable H s

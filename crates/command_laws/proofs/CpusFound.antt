@@ -1,15 +1,13 @@
 -- THE CPUS THAT ARE FOUND over words: each search finds one below its limit, or none.
-use Rattle.std.specs.Prelude.{ℕ, zero, suc, ◌+◌, ◌-◌, ◌≤◌, ◌<◌, Bool, List, [], ◌∷◌, length, eqb, ltb, Option, None, Some}
+use Rattle.std.specs.Prelude.{ℕ, zero, suc, ◌+◌, ◌-◌, ◌≤◌, ◌<◌, Bool, List, length, Option, None, Some}
 use Rattle.std.proofs.Common.{arith}
-use Rattle.rules.specs.declared.choice.Searched.{Searched}
-use Rattle.rules.specs.declared.choice.Extremes.{Extremes}
 use Rattle.rules.specs.declared.choice.Best.{Best}
 use Rattle.rules.specs.declared.Priority.{Priority}
 use Rattle.rules.proofs.Laws.Line.{both}
 use Rattle.rules.specs.Line.{Below}
-use Rattle.rules.specs.Choice.{lower, find_cpu, first_that, may_steal_from, weigh, extremes, pair_of, choose_cpu_balance}
+use Rattle.rules.specs.Choice.{may_steal_from, choose_cpu_balance}
 use Rattle.rules.specs.Waits.{Under}
-use Rattle.rules.proofs.Laws.Steps.{join_in_all}
+use Rattle.rules.proofs.Laws.Steps.{join_in_all, BestUnder, find_in, first_in, PairUnder, choose_in}
 use Rattle.thread.specs.declared.Thread.{Thread}
 use Rattle.thread.specs.Reads.{cpu_in}
 use Rattle.thread.specs.Time.{preferred_last, preferred_of, preferred_cpu}
@@ -23,7 +21,6 @@ use Rattle.choice.specs.Reads.{load_at, movable_at, draw_word}
 use Rattle.choice.specs.Found.{begun}
 use Rattle.choice.specs.Select.{at_once, cpu_found, accepted, search_from, search_again, search_twice, select_cpu}
 use Rattle.sched_words.specs.Choose.{preferred_of_def, select_for, steal_from_def}
-use Rattle.command_laws.specs.CpusFound.{ExtremesNear, PairNear}
 
 -- ---- the CPUs of the nodes
 
@@ -55,22 +52,14 @@ nearest_near rows limit m = join_in_all limit (cpus_at rows limit) (to_root rows
 
 -- ---- select
 
-lower_near : (n : ℕ) (b : Option Best) (s c : ℕ) → Under n (cpu_found b) → c < n → Under n (cpu_found (lower b s c))
-unfolding lower cpu_found Under
-lower_near n None s c u h = h
-lower_near n (Some b) s c u h = both (ltb s b.score) (λ e. rw e h) (λ e. rw e u)
-
-find_near : (n us : ℕ) (skip : ℕ → Bool) (load : ℕ → ℕ) (l : List ℕ) (f : Searched) → Below n l → Under n (cpu_found f.found) → Under n (cpu_found (find_cpu us skip load l f).found)
-unfolding find_cpu Below
-find_near n us skip load [] f b u = u
-find_near n us skip load (c ∷ l) f b u =
-    both (skip c)
-    (λ e. rw e (find_near n us skip load l f b.1 u))
-    (λ e. rw e (find_near n us skip load l _ b.1 (lower_near n f.found _ c u b.0)))
+found_near : (n : ℕ) (b : Option Best) → BestUnder n b → Under n (cpu_found b)
+unfolding BestUnder cpu_found Under
+found_near n None u = tt
+found_near n (Some b) u = u
 
 search_near : (cs ns : List (List ℕ)) (us limit : ℕ) (p : Option Priority) (draws : ℕ) → Under limit (cpu_found (search_from cs ns us limit p draws).found)
-unfolding search_from begun cpu_found Under
-search_near cs ns us limit p draws = find_near limit us _ _ (visited_at ns limit) _ (visited_near ns limit) tt
+unfolding search_from begun BestUnder
+search_near cs ns us limit p draws = found_near limit _ (find_in limit us _ _ (visited_at ns limit) _ (visited_near ns limit) tt)
 
 twice_near : (cs ns : List (List ℕ)) (us limit : ℕ) (p : Priority) (avoid : Option ℕ) (draws : ℕ) → Under limit (cpu_found (search_twice cs ns us limit p avoid draws).found)
 unfolding search_twice search_again
@@ -99,39 +88,12 @@ selected_near cs ns us limit t avoid p l =
 
 -- ---- steal
 
-first_near : (n : ℕ) (test : ℕ → Bool) (l : List ℕ) → Below n l → Under n (first_that test l)
-unfolding first_that Below Under
-first_near n test [] b = tt
-first_near n test (c ∷ l) b = both (test c) (λ e. rw e b.0) (λ e. rw e (first_near n test l b.1))
-
 pub steal_near : (cs ns : List (List ℕ)) (us limit : ℕ) → Under limit (steal_from_def cs ns us limit)
 unfolding steal_from_def
 steal_near cs ns us limit =
-    (first_near limit (may_steal_from us (load_at cs) (movable_at cs)) (nearest_at ns limit (word cs us PLACED)) (nearest_near ns limit (word cs us PLACED)))
+    (first_in limit (may_steal_from us (load_at cs) (movable_at cs)) (nearest_at ns limit (word cs us PLACED)) (nearest_near ns limit (word cs us PLACED)))
 
-weigh_near : (n : ℕ) (e : Extremes) (s c d : ℕ) → c < n → ExtremesNear n e → ExtremesNear n (weigh e s c d)
-unfolding weigh
-weigh_near n e s c d h k =
-    both (ltb e.highest_score s)
-    (λ t. rw t (record { highest = h; lowest = k.lowest }))
-    (λ t. rw t (record { highest = k.highest; lowest = lower_near n e.lowest s c k.lowest h }))
+-- ---- balance
 
-extremes_near : (n us : ℕ) (allowed : ℕ → Bool) (load : ℕ → ℕ) (l : List ℕ) (e : Extremes) → Below n l → ExtremesNear n e → ExtremesNear n (extremes us allowed load l e)
-unfolding extremes Below
-extremes_near n us allowed load [] e b k = k
-extremes_near n us allowed load (c ∷ l) e b k =
-    both (allowed c)
-    (λ t. rw t (extremes_near n us allowed load l _ b.1 (weigh_near n e _ c _ b.0 k)))
-    (λ t. rw t (extremes_near n us allowed load l e b.1 k))
-
-pair_near : (n h : ℕ) (b : Option Best) → h < n → Under n (cpu_found b) → PairNear n (pair_of h b)
-unfolding pair_of cpu_found Under PairNear
-pair_near n h None l u = tt
-pair_near n h (Some b) l u = both (eqb b.cpu h) (λ e. rw e tt) (λ e. rw e (l, u))
-
-pub choice_near : (us : ℕ) (allowed : ℕ → Bool) (load : ℕ → ℕ) (ns : List (List ℕ)) (limit m draws : ℕ) → 0 < limit
-    → PairNear limit (choose_cpu_balance us allowed load (cpus_at ns limit m) draws).found
-unfolding choose_cpu_balance cpu_found Under
-choice_near us allowed load ns limit m draws h =
-    let k = extremes_near limit us allowed load (cpus_at ns limit m) _ (cpus_near ns limit m) (record { highest = h; lowest = tt }) in
-    pair_near limit _ _ k.highest k.lowest
+pub choice_near : (us : ℕ) (allowed : ℕ → Bool) (load : ℕ → ℕ) (ns : List (List ℕ)) (limit m draws : ℕ) → PairUnder limit (choose_cpu_balance us allowed load (cpus_at ns limit m) draws).found
+choice_near us allowed load ns limit m draws = choose_in limit us allowed load (cpus_at ns limit m) draws (cpus_near ns limit m)

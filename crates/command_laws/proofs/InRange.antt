@@ -1,10 +1,10 @@
 -- THE MEMORY THAT THE SCHEDULER WRITES: records below 1,024, and of the rows below 64 the words of the run queue and the ten words beside it. What
 -- a record or a word is written, what stays, and that every number of a thread or a CPU in the memory then stays small.
-use Rattle.std.specs.Prelude.{ℕ, zero, suc, ◌+◌, ◌-◌, ◌%◌, ◌≤◌, ◌<◌, ◌≡◌, refl, ◌≢◌, ◌⊎◌, Bool, true, false, cond, List, [], length, get_or, set, eqb, ltb}
+use Rattle.std.specs.Prelude.{ℕ, zero, suc, ◌+◌, ◌-◌, ◌%◌, ◌≤◌, ◌<◌, ◌≡◌, refl, ◌≢◌, ◌⊎◌, Bool, cond, List, [], length, get_or, set, eqb, ltb}
 use Rattle.std.proofs.Common.{sym, ap, subst, ◌∙◌, inl, inr, arith, length-set, get_or-set_same, get_or-set_other, eqb-true, ltb-true, ltb-false}
 use Rattle.std.proofs.Math.Seq.{set_out}
 use Rattle.std.proofs.lemmas.Bool.{eqb-false}
-use Rattle.rules.proofs.Laws.Line.{both}
+use Rattle.rules.proofs.Laws.Line.{both, of_either}
 use Rattle.thread.specs.declared.Thread.{Thread}
 use Rattle.thread.specs.Thread.{blank, NONE}
 use Rattle.runqueue.specs.declared.rq.RunQueue.{RunQueue}
@@ -14,7 +14,8 @@ use Rattle.processor.specs.Word.{RUNNING}
 use Rattle.processor.specs.Window.{load_n, place_n, length_place, load_at, place_at}
 use Rattle.processor.specs.Queue.{lists_at, built_of, queue_from, first_eight, last_two, lists_stored_def, stored_from, queue_in_def, queue_into, queue_at, queue_stored}
 use Rattle.processor.proofs.Laws.Queue.{length_lists, queue_after_store, queue_elsewhere, word_after_store, queue_after_put, row_length_store, length_store}
-use Rattle.records.specs.Left.{Memory, mem, Left}
+use Rattle.processor.specs.Left.{Left}
+use Rattle.records.specs.Left.{Memory, mem}
 use Rattle.records.specs.Rq.{record_at}
 use Rattle.command_laws.specs.Links.{Link, QueueInRange}
 use Rattle.command_laws.proofs.Links.{orderly_eights}
@@ -116,12 +117,7 @@ goes_then a b = record { tame = b.tame; as_many = b.as_many ∙ a.as_many; past 
 
 -- one of two
 pub goes_either : {m : Memory} {A : Type 0} (t : Bool) (a b : Left A Memory) → StaysInRange m a.memory → StaysInRange m b.memory → StaysInRange m (cond t a b).memory
-goes_either true a b g h = g
-goes_either false a b g h = h
-
-pub goes_cond : {m : Memory} (t : Bool) (a b : Memory) → StaysInRange m a → StaysInRange m b → StaysInRange m (cond t a b)
-goes_cond true a b g h = g
-goes_cond false a b g h = h
+goes_either {m} {A} t a b g h = of_either (λ (d : Left A Memory). StaysInRange m d.memory) t a b g h
 
 -- A RECORD IS WRITTEN
 pub goes_record : (ts : List Thread) (cs : List (List ℕ)) (x : ℕ) (t : Thread) → InRange (mem ts cs) → Link x → ThreadInRange t → StaysInRange (mem ts cs) (mem (set ts x t) cs)

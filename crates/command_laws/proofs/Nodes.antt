@@ -1,7 +1,6 @@
 -- THE ROWS OF THE NODES: what a command leaves of those that are not made, and of the words that no rule speaks of.
 use Rattle.std.specs.Prelude.{ℕ, zero, suc, ◌+◌, ◌-◌, ◌/◌, ◌%◌, ◌≤◌, ◌<◌, ◌≡◌, refl, ◌≢◌, true, List, [], length, get_or, set, eqb, ltb}
 use Rattle.std.proofs.Common.{sym, subst, ◌∙◌, arith, length-set, get_or-set_same, get_or-set_other, eqb-true, ltb-true, ltb-false, lt-ltb}
-use Rattle.std.proofs.lemmas.List.{get_or-replicate}
 use Rattle.std.proofs.Math.Seq.{set_out}
 use Rattle.std.proofs.lemmas.Bool.{eqb-false}
 use Rattle.rules.specs.Line.{has}
@@ -15,7 +14,7 @@ use Rattle.represents.specs.Topology.{Sized}
 use Rattle.represents.proofs.Laws.Ring.{linked_prev, linked_prev_end}
 use Rattle.represents.specs.Topology.{met_first}
 use Rattle.represents.specs.Topology.{TopologyRep}
-use Rattle.represents.proofs.Laws.Grown.{length_new}
+use Rattle.represents.proofs.Laws.Grown.{length_new, new_past}
 use Rattle.represents.proofs.Laws.Placed.{put_else}
 use Rattle.command_laws.specs.Nodes.{Nodes}
 
@@ -75,13 +74,6 @@ nodes_placed {ns = ns} {limits} {t} n c tree h l k =
     nodes_up (length ns) ns n c h l (λ z a b. rw (tree.parent_is z a b) (omega (arith, tree.sound.parents z a b))) k
 
 -- ---- 02: a node is made
-
-new_past : (type p a b i : ℕ) → 7 ≤ i → i < width → get_or (new_node type p a b) i 0 ≡ 0
-unfolding new_node
-new_past type p a b i h l =
-    let j : ℕ = i - 7 in
-    let e : i ≡ suc (suc (suc (suc (suc (suc (suc j)))))) = omega arith in
-    rw e (get_or-replicate 25 j 0 0 (omega arith))
 
 nodes_made : {found : List (List ℕ)} {count : ℕ} (ns : List (List ℕ)) (type p a b : ℕ) → count < length found → Sized found → Nodes found count ns
     → Nodes found (suc count) (put_node ns count (new_node type p a b))

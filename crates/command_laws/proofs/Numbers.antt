@@ -1,8 +1,8 @@
 -- The numbers of the questions, and the last question: a command that is obeyed was answered yes to all of them.
 use Rattle.std.specs.Prelude.{ℕ, suc, ◌≤◌, ◌<◌, ◌≡◌, refl, Bool, true, ◌&&◌, List, [], ◌∷◌, ◌++◌, leb, None, Some}
 use Rattle.std.proofs.Common.{arith, leb-true, ltb-true}
+use Rattle.std.specs.Cmp.{first_so, second_so}
 use Rattle.rules.proofs.Laws.Line.{both}
-use Rattle.rules.proofs.Laws.Effect.{and_left, and_right}
 use Rattle.rules.specs.State.{State}
 use Rattle.rules.specs.Requests.{Request, declare_cpu, add_node, place_cpu, seal, set_shortest, declare_thread, set_tick, schedule_thread, schedule, hardtick, stattick, resched, maybe_preempt, donate, remove_donation, set_critical, Reading, unknown, cut_short, asks}
 use Rattle.rules.specs.Questions.{Question, question, first_no, refusal, concerning, room, most_accepted, open_yet, sealed_now, cpu_declared, cpu_new, cpu_unplaced, pin_declared, thread_declared, thread_new, thread_blocked, priority_in_range, at_most, shortest_in_range, node_exists, parent_without_cpus, node_fits, node_childless, tick_fits, all_placed}
@@ -33,18 +33,18 @@ last_yes : (l : List Question) (n : ℕ) (b : Bool) → numbered l ≡ true → 
 unfolding numbered first_no
 last_yes [] n b h e = (yes n b [] e).0
 last_yes (q ∷ l) n b h e =
-    let here = and_left (leb 1 q.number && leb q.number 10) (numbered l) h in
-    let positive : 1 ≤ q.number = leb-true 1 q.number (and_left (leb 1 q.number) (leb q.number 10) here) in
-    both q.answer (λ t. last_yes l n b (and_right (leb 1 q.number && leb q.number 10) (numbered l) h) (rw t at e))
+    let here = first_so (leb 1 q.number && leb q.number 10) (numbered l) h in
+    let positive : 1 ≤ q.number = leb-true 1 q.number (first_so (leb 1 q.number) (leb q.number 10) here) in
+    both q.answer (λ t. last_yes l n b (second_so (leb 1 q.number && leb q.number 10) (numbered l) h) (rw t at e))
     (λ t. let z : q.number ≡ 0 = rw t at e in absurd (omega arith))
 
 first_most : (l : List Question) (b : Bool) → numbered l ≡ true → first_no (l ++ (question 10 b ∷ [])) ≤ 10
 unfolding numbered first_no question
 first_most [] b h = both b (λ t. rw t (omega arith)) (λ t. rw t (omega arith))
 first_most (q ∷ l) b h =
-    let here = and_left (leb 1 q.number && leb q.number 10) (numbered l) h in
-    let most : q.number ≤ 10 = leb-true q.number 10 (and_right (leb 1 q.number) (leb q.number 10) here) in
-    both q.answer (λ t. rw t (first_most l b (and_right (leb 1 q.number && leb q.number 10) (numbered l) h))) (λ t. rw t most)
+    let here = first_so (leb 1 q.number && leb q.number 10) (numbered l) h in
+    let most : q.number ≤ 10 = leb-true q.number 10 (second_so (leb 1 q.number) (leb q.number 10) here) in
+    both q.answer (λ t. rw t (first_most l b (second_so (leb 1 q.number && leb q.number 10) (numbered l) h))) (λ t. rw t most)
 
 -- 10: "Have fewer than 4,294,967,295 commands been accepted?"
 pub few_accepted : (s : State) (r : Request) (used : ℕ) → refusal s (asks r used) ≡ 0 → s.accepted < most_accepted

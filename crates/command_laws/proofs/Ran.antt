@@ -61,7 +61,8 @@ use Rattle.command_laws.proofs.Plain.{one_more}
 use Rattle.command_laws.proofs.Running.{running_same, uncut}
 use Rattle.command_laws.specs.Law.{lent}
 use Rattle.command.specs.Lent.{in_memory, in_threads, in_cpus}
-use Rattle.records.specs.Left.{Memory, mem, Left}
+use Rattle.processor.specs.Left.{Left}
+use Rattle.records.specs.Left.{Memory, mem}
 
 module _ {H : ℕ → List PutOrTake} {ts : List Thread} {cs ns : List (List ℕ)} {a : State} {s : rules.State} (m : StateRep ts cs ns a s) (r : Reachable H s) where
   abbrev Soundly : World → Type 0

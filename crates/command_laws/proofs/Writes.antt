@@ -10,10 +10,11 @@ use Rattle.rules.specs.declared.choice.Pair.{Pair}
 use Rattle.rules.specs.declared.Part.{Part}
 use Rattle.rules.specs.declared.Part.TheVariants as part
 use Rattle.rules.specs.declared.Priority.{Priority}
-use Rattle.rules.proofs.Laws.Line.{both}
+use Rattle.rules.proofs.Laws.Line.{both, of_either}
 use Rattle.rules.specs.Priority.{raw, donation_accepted}
 use Rattle.rules.specs.Times.{effective_priority}
 use Rattle.rules.specs.Waits.{Under}
+use Rattle.rules.proofs.Laws.Steps.{PairUnder}
 use Rattle.thread.specs.declared.Thread.{Thread}
 use Rattle.thread.specs.Thread.{NONE, BLOCKED, RUNNING, with_donated, with_stable, with_critical, with_place, with_next, with_last, with_queue, with_deadline, with_timeslice}
 use Rattle.thread.specs.Flags.{has_donated_priority}
@@ -28,7 +29,8 @@ use Rattle.processor.specs.Cpu.{current_load}
 use Rattle.topology.specs.CpuSet as cpuset
 use Rattle.choice.specs.Reads.{weight_at}
 use Rattle.choice.specs.Select.{at_once, after_select}
-use Rattle.records.specs.Left.{Words, Memory, mem, Left}
+use Rattle.processor.specs.Left.{Words, Left}
+use Rattle.records.specs.Left.{Memory, mem}
 use Rattle.records.specs.Rq.{record_at, arrival_of, steady_in, put_in_def, link_behind, put_of_def, insert_def, left_by_def, took_from_def, take_def, clock_def, hardtick_def}
 use Rattle.sched_words.specs.declared.context.Context.{Context}
 use Rattle.sched_words.specs.declared.context.SchedFlags.{SchedFlags}
@@ -38,7 +40,7 @@ use Rattle.sched_words.specs.Running.{running_at, must_rebalance_def, ran_by_def
 use Rattle.sched_words.specs.Time.{moved_to, reset_time_def}
 use Rattle.sched_words.specs.Preempt.{marked, swapped, idle_paid, expires, rescheds}
 use Rattle.sched_words.specs.Rebalance.{time_passed, rebalance_due}
-use Rattle.sched_words.specs.Balance.{begun, moved, passed, stopped, without, moving, is_done, outcome, pair_step, pair_of_def, chosen_at, balance_step_def, find_move, Balanced}
+use Rattle.sched_words.specs.Balance.{begun, moved, passed, stopped, without, moving, is_done, outcome, pair_step, pair_of_def, chosen_at, balance_step_def, find_move}
 use Rattle.sched_queues.specs.Queues.{moved_in, schedule_thread_on_cpu_def, wake_def, block_def, moved_for_def, take_from, try_steal_def}
 use Rattle.sched_queues.specs.Donate.{donate_priority_def, remove_donated, set_critical_def}
 use Rattle.sched.specs.Schedule.{switch_to_def, run_taken_def, idle_unless, run_stolen_def, pick_stolen, pick_taken, pick_next_def, must_move_def, reinserted_def, reset_thread_time_def, then_next_def, reinsert_def, do_schedule_def, schedule_def, scheduled_on_def, schedule_thread_def}
@@ -48,10 +50,9 @@ use Rattle.sched_ticks.specs.Balance.{received, move_made, move_one_def, move_tw
 use Rattle.sched_ticks.specs.Ticks.{paid_by_def, schedule_hardtick_def, schedule_resched_def}
 use Rattle.command_laws.specs.Links.{BehindLink, Link, FrontLink}
 use Rattle.command_laws.proofs.Links.{orderly_insert, orderly_front, orderly_taken, orderly_clock, orderly_hardtick}
-use Rattle.command_laws.specs.CpusFound.{PairNear}
 use Rattle.command_laws.proofs.CpusFound.{selected_near, steal_near, choice_near}
 use Rattle.command_laws.specs.InRange.{ThreadInRange, InRange, StaysInRange}
-use Rattle.command_laws.proofs.InRange.{goes_none, goes_then, goes_either, goes_cond, goes_record, goes_word, goes_queue}
+use Rattle.command_laws.proofs.InRange.{goes_none, goes_then, goes_either, goes_record, goes_word, goes_queue}
 use Rattle.command_laws.specs.Writes.{Took}
 
 -- ---- records
@@ -152,10 +153,6 @@ goes_insert c x n current m k h l =
     let b = goes_behind _ m.cpus (put_of_def c x n current m).behind x a.tame o.1 l in
     goes_then a (goes_then b (goes_queue _ m.cpus c _ b.tame h o.0))
 
-took_either : {m : Memory} (t : Bool) (a b : Left (Option ℕ) Memory) → Took m a → Took m b → Took m (cond t a b)
-took_either true a b g h = g
-took_either false a b g h = h
-
 took_from : (c : ℕ) (f : Option Front) (m : Memory) → InRange m → c < 64 → FrontLink f → Took m (took_from_def c f m)
 unfolding took_from_def FrontLink left_by_def
 took_from c None m k h l = record { goes = goes_none k; link = λ i. refl }
@@ -172,8 +169,8 @@ took_take c stealing m k h = took_from c _ m k h (orderly_front (queue_at m.cpus
 
 took_moved : {m : Memory} (d : ℕ) (g : Left (Option ℕ) Memory) → Took m g → Took m (moved_for_def d g)
 unfolding moved_for_def
-took_moved d g t =
-    took_either (is_none g.answer) g _ t
+took_moved {m} d g t =
+    of_either (Took m) (is_none g.answer) g _ t
     (record { goes = goes_then t.goes (goes_record _ g.memory.cpus (unwrap_or g.answer NONE) _ t.goes.tame t.link (tidy_queue _ d (t.goes.tame.records _))); link = t.link })
 
 took_for : (c d : ℕ) (m : Memory) → InRange m → c < 64 → Took m (take_from c d m)
@@ -218,8 +215,8 @@ module _ (k : Context) (near : k.us < 64) (limit : k.limit ≡ 64) where
 
   goes_stolen : {m : Memory} (cur : ℕ) (g : Left (Option ℕ) Memory) → Took m g → StaysInRange m (pick_stolen k cur g)
   unfolding pick_stolen run_stolen_def
-  goes_stolen cur g t =
-      goes_cond (is_none g.answer) _ _ (goes_then t.goes (goes_unless cur g.memory t.goes.tame))
+  goes_stolen {m} cur g t =
+      of_either (StaysInRange m) (is_none g.answer) _ _ (goes_then t.goes (goes_unless cur g.memory t.goes.tame))
       (goes_then t.goes (goes_switch (unwrap_or g.answer NONE) g.memory t.goes.tame t.link))
 
   took_stolen : (m : Memory) (s : Option ℕ) → InRange m → Under 64 s → Took m (cond (is_none s) (record { answer = None; memory = m }) (take_from (unwrap_or s NONE) k.us m))
@@ -236,8 +233,8 @@ module _ (k : Context) (near : k.us < 64) (limit : k.limit ≡ 64) where
   goes_next cur ns m t =
       let g = took_take k.us false m t near in
       let s = took_steal ns _ g.goes.tame in
-      goes_cond (is_none (take_def k.us false m).answer) _ _ (goes_then g.goes (goes_stolen cur _ s))
-      (goes_cond (eqb (unwrap_or (take_def k.us false m).answer NONE) cur) _ _ g.goes (goes_then g.goes (goes_switch _ _ g.goes.tame g.link)))
+      of_either (StaysInRange m) (is_none (take_def k.us false m).answer) _ _ (goes_then g.goes (goes_stolen cur _ s))
+      (of_either (StaysInRange m) (eqb (unwrap_or (take_def k.us false m).answer NONE) cur) _ _ g.goes (goes_then g.goes (goes_switch _ _ g.goes.tame g.link)))
 
   -- ---- the CPU selected
 
@@ -255,8 +252,8 @@ module _ (k : Context) (near : k.us < 64) (limit : k.limit ≡ 64) where
       (selected_near cs ns k.us k.limit t avoid (subst (λ (n : ℕ). Under n (cpu_in t.pinned_cpu)) (sym limit) d.pin) (subst (λ (n : ℕ). Under n (cpu_in t.last_cpu)) (sym limit) d.last))
 
   record Reinserts (ns : Words) (t : Thread) (m : Memory) : Type 0 where
-    goes : StaysInRange m (mem m.threads (reinsert_at_def m.cpus ns k.us k.limit t).cpus)
-    near_chosen : Under 64 ((reinsert_at_def m.cpus ns k.us k.limit t).chosen)
+    goes : StaysInRange m (mem m.threads (reinsert_at_def ns k.us k.limit t m.cpus).memory)
+    near_chosen : Under 64 ((reinsert_at_def ns k.us k.limit t m.cpus).answer)
 
   reinserts : (ns : Words) (t : Thread) (m : Memory) → InRange m → ThreadInRange t → Reinserts ns t m
   reinserts ns t m d r = unfold reinsert_at_def Under in
@@ -324,7 +321,7 @@ module _ (k : Context) (near : k.us < 64) (limit : k.limit ≡ 64) where
   goes_paid cur h m t l g =
       let a = goes_plain m.threads h.memory k.us 81 _ g.tame near (omega arith) (omega arith) in
       let b = goes_record m.threads h.memory cur _ g.tame l (tidy_paid (record_at m.threads cur) _ _ (t.records cur)) in
-      goes_cond (eqb cur NONE) _ _ (goes_then g (goes_then a (goes_marked m.threads _ k.us _ a.tame near)))
+      of_either (StaysInRange m) (eqb cur NONE) _ _ (goes_then g (goes_then a (goes_marked m.threads _ k.us _ a.tame near)))
       (goes_then g (goes_then b (goes_marked _ h.memory k.us _ b.tame near)))
 
   pub goes_hardtick : (m : Memory) → InRange m → StaysInRange m (schedule_hardtick_def k m)
@@ -336,42 +333,42 @@ module _ (k : Context) (near : k.us < 64) (limit : k.limit ≡ 64) where
 
   -- the CPUs between which a thread moves are below 64
   abbrev Aimed : Balancing → Type 0
-  Aimed b = PairNear 64 b.moves
+  Aimed b = PairUnder 64 b.moves
 
   aimed_begun : Aimed begun
-  unfolding begun PairNear
+  unfolding begun PairUnder
   aimed_begun = tt
 
   aimed_moved : (b : Balancing) → Aimed b → Aimed (moved b)
-  unfolding moved PairNear
+  unfolding moved PairUnder
   aimed_moved b a = tt
 
   aimed_outcome : (b : Balancing) (donor recipient load waiting : ℕ) (hands : Bool) → Aimed b → donor < 64 → recipient < 64 → Aimed (outcome b donor recipient load waiting hands)
-  unfolding outcome moving without passed PairNear
+  unfolding outcome moving without passed PairUnder
   aimed_outcome b donor recipient load waiting hands a d r =
       both (ltb 0 waiting)
       (λ e. rw e (both hands (λ h. rw h (d, r)) (λ h. rw h a)))
       (λ e. rw e (both (eqb load 1) (λ h. rw h a) (λ h. rw h a)))
 
-  record Finds (ts : List Thread) (cs : Words) (d : Balanced) : Type 0 where
-    goes : StaysInRange (mem ts cs) (mem ts d.cpus)
-    aimed : Aimed d.balancing
+  record Finds (ts : List Thread) (cs : Words) (d : Left Balancing Words) : Type 0 where
+    goes : StaysInRange (mem ts cs) (mem ts d.memory)
+    aimed : Aimed d.answer
 
-  finds_pair : (ts : List Thread) (cs : Words) (b : Balancing) (p : Option Pair) → InRange (mem ts cs) → Aimed b → PairNear 64 p → Finds ts cs (pair_of_def cs b p)
-  unfolding pair_of_def pair_step passed stopped PairNear
+  finds_pair : (ts : List Thread) (cs : Words) (b : Balancing) (p : Option Pair) → InRange (mem ts cs) → Aimed b → PairUnder 64 p → Finds ts cs (pair_of_def b p cs)
+  unfolding pair_of_def pair_step passed stopped PairUnder
   finds_pair ts cs b None t a n = record { goes = goes_none t; aimed = a }
   finds_pair ts cs b (Some p) t a n =
       both (eqb (current_load cs p.donor) 0) (λ e. rw e (record { goes = goes_none t; aimed = a }))
       (λ e. rw e (record { goes = goes_plain ts cs p.donor 77 1 t n.0 (omega arith) (omega arith); aimed = aimed_outcome b p.donor p.recipient _ _ _ a n.0 n.1 }))
 
-  finds_step : (ts : List Thread) (cs ns : Words) (b : Balancing) → InRange (mem ts cs) → Aimed b → Finds ts cs (balance_step_def cs ns k.us k.limit b)
+  finds_step : (ts : List Thread) (cs ns : Words) (b : Balancing) → InRange (mem ts cs) → Aimed b → Finds ts cs (balance_step_def ns k.us k.limit b cs)
   unfolding balance_step_def chosen_at
   finds_step ts cs ns b t a =
       let g = goes_plain ts cs k.us 79 (chosen_at cs ns k.us k.limit b).draws t near (omega arith) (omega arith) in
-      let p = finds_pair ts _ b _ g.tame a (subst (λ (n : ℕ). PairNear n (chosen_at cs ns k.us k.limit b).found) limit (choice_near k.us (cpuset.contains b.allowed) (weight_at cs) ns k.limit 0 (word cs k.us at.RAND_STATE) (omega arith))) in
+      let p = finds_pair ts _ b _ g.tame a (subst (λ (n : ℕ). PairUnder n (chosen_at cs ns k.us k.limit b).found) limit (choice_near k.us (cpuset.contains b.allowed) (weight_at cs) ns k.limit 0 (word cs k.us at.RAND_STATE))) in
       record { goes = goes_then g p.goes; aimed = p.aimed }
 
-  finds_move : (n : ℕ) (ts : List Thread) (cs ns : Words) (b : Balancing) → InRange (mem ts cs) → Aimed b → Finds ts cs (find_move n cs ns k.us k.limit b)
+  finds_move : (n : ℕ) (ts : List Thread) (cs ns : Words) (b : Balancing) → InRange (mem ts cs) → Aimed b → Finds ts cs (find_move n ns k.us k.limit b cs)
   unfolding find_move
   finds_move zero ts cs ns b t a = record { goes = goes_none t; aimed = a }
   finds_move (suc n) ts cs ns b t a =
@@ -384,8 +381,8 @@ module _ (k : Context) (near : k.us < 64) (limit : k.limit ≡ 64) where
   goes_received recipient wakeups g t h =
       goes_either (is_none g.answer) _ _ t.goes (goes_then t.goes (goes_on_cpu k recipient (unwrap_or g.answer NONE) wakeups g.memory t.goes.tame h t.link))
 
-  goes_made : (o : Option Pair) (wakeups : ℕ) (m : Memory) → InRange m → PairNear 64 o → StaysInRange m (move_made k o wakeups m).memory
-  unfolding move_made PairNear
+  goes_made : (o : Option Pair) (wakeups : ℕ) (m : Memory) → InRange m → PairUnder 64 o → StaysInRange m (move_made k o wakeups m).memory
+  unfolding move_made PairUnder
   goes_made None wakeups m t a = goes_none t
   goes_made (Some p) wakeups m t a = goes_received p.recipient wakeups _ (took_for p.donor p.recipient m t a.0) a.1
 
@@ -396,10 +393,10 @@ module _ (k : Context) (near : k.us < 64) (limit : k.limit ≡ 64) where
   unfolding balance_def move_two
   goes_balance wakeups ns m t =
       let f = finds_move 20 m.threads m.cpus ns (moved begun) t (aimed_moved begun aimed_begun) in
-      let g = goes_move (tick.found k begun ns m.cpus).balancing wakeups _ f.goes.tame f.aimed in
-      let s = finds_move 20 _ _ ns (moved (tick.found k begun ns m.cpus).balancing) g.tame (aimed_moved _ f.aimed) in
-      let first = (tick.found k begun ns m.cpus).balancing in
-      let second = (tick.found k first ns (tick.move_one_def k first wakeups (tick.found_in k begun ns m)).memory.cpus).balancing in
+      let g = goes_move (tick.found k begun ns m.cpus).answer wakeups _ f.goes.tame f.aimed in
+      let s = finds_move 20 _ _ ns (moved (tick.found k begun ns m.cpus).answer) g.tame (aimed_moved _ f.aimed) in
+      let first = (tick.found k begun ns m.cpus).answer in
+      let second = (tick.found k first ns (tick.move_one_def k first wakeups (tick.found_in k begun ns m)).memory.cpus).answer in
       goes_then f.goes (goes_then g (goes_then s.goes (goes_move second _ _ s.goes.tame s.aimed)))
 
   goes_due : (dt : ℕ) (m : Memory) → InRange m → StaysInRange m (due_in k dt m)
@@ -415,5 +412,5 @@ module _ (k : Context) (near : k.us < 64) (limit : k.limit ≡ 64) where
   unfolding schedule_stattick_def clocked maybe_rebalance_def clock_def
   goes_stattick dt wakeups ns m t =
       let d = goes_due dt m t in
-      let g = goes_either (rebalance_due m.cpus k.us dt).mark _ _ (goes_then d (goes_balance wakeups ns _ d.tame)) d in
+      let g = goes_either (rebalance_due k.us dt m.cpus).answer _ _ (goes_then d (goes_balance wakeups ns _ d.tame)) d in
       goes_then g (goes_queue _ _ k.us _ g.tame near (orderly_clock (queue_at (maybe_rebalance_def k dt wakeups ns m).memory.cpus k.us) (g.tame.queues k.us near)))

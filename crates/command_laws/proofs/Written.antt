@@ -7,9 +7,9 @@ use Rattle.std.proofs.Common.{◌∙◌, arith}
 use Rattle.std.proofs.Math.Bool.{not}
 use Rattle.std.proofs.Math.ListN.{length}
 use borrow.Author.Tests.{eqb-true, ltb-true}
+use Rattle.std.specs.Cmp.{first_so}
 use Rattle.rules.specs.declared.Priority.{Priority}
 use Rattle.rules.proofs.Laws.Line.{both}
-use Rattle.rules.proofs.Laws.Effect.{and_left}
 use Rattle.rules.proofs.Laws.Limits.{SameButShortest}
 use Rattle.rules.specs.Puts.{PutOrTake}
 use Rattle.rules.specs.State as rules
@@ -35,6 +35,7 @@ use Rattle.outcome.specs.Answer.{accepted, refuses, changed, ran}
 use Rattle.outcome.specs.Call.{refusal_back, thread_in, context_of, ticked, sealed_now as sealing, with_shortest, one_node_more}
 use Rattle.command.specs.Command.{declare_thread_command, schedule_thread_command, schedule_command, hardtick_command, stattick_command, resched_command, maybe_preempt_command, donate_command, remove_donation_command, set_critical_command, obey_def, command_def}
 use Rattle.represents.specs.State.{StateRep, limits_in}
+use Rattle.represents.proofs.Laws.State.{threads_are}
 use Rattle.question_laws.proofs.Refusals.{refusal_same}
 use Rattle.command_laws.specs.Law.{lent, Reachable}
 use Rattle.command_laws.proofs.Numbers.{refusal_most}
@@ -64,15 +65,11 @@ module _ {H : ℕ → List PutOrTake} {ts : List Thread} {cs ns : List (List ℕ
   unfolding base_limits rules.with_shortest
   cpus_64 = ap (λ (l : rules.Limits). l.cpus) base
 
-  threads_1024 : s.limits.threads ≡ 1024
-  unfolding base_limits rules.with_shortest
-  threads_1024 = ap (λ (l : rules.Limits). l.threads) base
-
   near : (c : ℕ) → c < s.limits.cpus → c < 64
   near c h = subst (λ (n : ℕ). c < n) cpus_64 h
 
   link : (x : ℕ) → x < s.limits.threads → Link x
-  link x h i = absurd (omega (arith, threads_1024))
+  link x h i = absurd (omega (arith, threads_are m))
 
   known_link : (x : ℕ) → s.known x ≡ true → Link x
   known_link x e = link x (r.reached.numbered x e)
@@ -89,7 +86,7 @@ module _ {H : ℕ → List PutOrTake} {ts : List Thread} {cs ns : List (List ℕ
   unfolding refusal concerning open_yet cpu_new obey_def changed accepted
   keeps_declare_cpu c used e =
       let new_one = yes 3 (ltb c s.limits.cpus && not (s.topology.declared c)) _ (yes 2 (not s.sealed) _ e).1 in
-      let h : c < s.limits.cpus = ltb-true c s.limits.cpus (and_left (ltb c s.limits.cpus) _ new_one.0) in
+      let h : c < s.limits.cpus = ltb-true c s.limits.cpus (first_so (ltb c s.limits.cpus) _ new_one.0) in
       record { memory = goes_word ts cs c 72 1 t (near c h) (omega arith) (omega arith) (λ q. absurd (omega arith)); nodes = k }
 
   keeps_add_node : (p type : ℕ) → Keeps (add_node p type)
@@ -111,7 +108,7 @@ module _ {H : ℕ → List PutOrTake} {ts : List Thread} {cs ns : List (List ℕ
   keeps_place_cpu n c used e =
       let unplaced = yes 3 _ _ (yes 2 _ _ e).1 in
       let there = yes 5 _ _ unplaced.1 in
-      let h : c < 64 = near c (declared_in s c (and_left (declared s c) _ unplaced.0)) in
+      let h : c < 64 = near c (declared_in s c (first_so (declared s c) _ unplaced.0)) in
       let count : a.node_count ≡ length s.topology.nodes = m.node_count in
       record {
         memory = goes_word ts cs c 73 n t h (omega arith) (omega arith) (λ q. absurd (omega arith));
@@ -132,7 +129,7 @@ module _ {H : ℕ → List PutOrTake} {ts : List Thread} {cs ns : List (List ℕ
   keeps_declare_thread x class v pin used e =
       let pinned = pin_in s pin _ (yes 2 _ _ e).1 in
       let new_one = yes 4 _ _ pinned.1 in
-      let h : x < s.limits.threads = ltb-true x s.limits.threads (and_left (ltb x s.limits.threads) _ new_one.0) in
+      let h : x < s.limits.threads = ltb-true x s.limits.threads (first_so (ltb x s.limits.threads) _ new_one.0) in
       record { memory = goes_record ts cs x _ t (link x h) (tidy_new _ pin (subst (λ (n : ℕ). Under n pin) cpus_64 pinned.0)); nodes = k }
 
   keeps_set_tick : (n : ℕ) → Keeps (set_tick n)

@@ -9,7 +9,7 @@ use Rattle.sched_laws.specs.Sealed.{Sealed}
 use Rattle.sched_laws.specs.TickBound.{TickBound}
 use Rattle.represents.specs.State.{StateRep}
 use Rattle.command.specs.Lent.{Lent}
-use Rattle.records.specs.Left.{Left}
+use Rattle.processor.specs.Left.{Left}
 use Rattle.outcome.specs.declared.answer.Answered.{Answered}
 use Rattle.thread.specs.declared.Thread.{Thread}
 

@@ -1,5 +1,4 @@
 pub mod Asked
-pub mod CpusFound
 pub mod InRange
 pub mod Law
 pub mod Links

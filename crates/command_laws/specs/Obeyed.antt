@@ -2,7 +2,7 @@
 use Rattle.std.specs.Prelude.{ℕ, ◌≡◌}
 use Rattle.lines.specs.Lines.{refusal_number}
 use Rattle.command.specs.Lent.{Lent}
-use Rattle.records.specs.Left.{Left}
+use Rattle.processor.specs.Left.{Left}
 use Rattle.outcome.specs.declared.answer.Answered.{Answered}
 
 -- ---- of any memory: it is answered as obeyed, and takes n bytes

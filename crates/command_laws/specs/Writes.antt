@@ -2,7 +2,8 @@
 -- rows below 64.
 use Rattle.std.specs.Prelude.{ℕ, Option, unwrap_or}
 use Rattle.thread.specs.Thread.{NONE}
-use Rattle.records.specs.Left.{Memory, Left}
+use Rattle.processor.specs.Left.{Left}
+use Rattle.records.specs.Left.{Memory}
 use Rattle.command_laws.specs.Links.{Link}
 use Rattle.command_laws.specs.InRange.{StaysInRange}
 

@@ -3,7 +3,8 @@
 use Prim.Native.Nat.{ℕ}
 use Rattle.std.specs.Prelude.{List}
 use Rattle.thread.specs.declared.Thread.{Thread}
-use Rattle.records.specs.Left.{mem, Left}
+use Rattle.processor.specs.Left.{Left}
+use Rattle.records.specs.Left.{mem}
 use Rattle.outcome.specs.declared.answer.Answered.{Answered}
 use Rattle.command.specs.Lent.{Lent, memory_of}
 use Rattle.command_laws.specs.InRange.{StaysInRange}

@@ -1,6 +1,6 @@
 // Why a run ends before its input does, and what standard error says of it.
 use lines::{Refusal, Text};
-use names::put_field_name;
+use names::field_name;
 use parse::name::byte_named;
 use parse::words::word_at;
 use std::io;
@@ -41,19 +41,27 @@ fn put_word(text: &mut Text<'_>, word: &[u8]) {
     }
 }
 
-// Field number i of the command that the line names, which is word number i + 1: missing, no fit, or one too many.
-fn put_field(text: &mut Text<'_>, line: &[u8], i: usize, word: &[u8]) {
-    let byte = byte_named(word_at(line, 0)).unwrap_or(0);
-    let before = text.at;
-    put_field_name(text, byte, i);
-    if text.at == before {
-        text.put_bytes(b"too many words: ");
-        put_word(text, word);
-    } else if word.is_empty() {
+// What is wrong with a field: it is missing, or the word is no fit.
+fn put_fault(text: &mut Text<'_>, word: &[u8]) {
+    if word.is_empty() {
         text.put_bytes(b" missing");
     } else {
         text.put(b' ');
         put_word(text, word);
+    }
+}
+
+// Field number i of the command that the line names, which is word number i + 1: missing, no fit, or one too many.
+fn put_field(text: &mut Text<'_>, line: &[u8], i: usize, word: &[u8]) {
+    match byte_named(word_at(line, 0)).and_then(|byte| field_name(byte, i)) {
+        None => {
+            text.put_bytes(b"too many words: ");
+            put_word(text, word);
+        }
+        Some(name) => {
+            text.put_bytes(name.as_bytes());
+            put_fault(text, word);
+        }
     }
 }
 

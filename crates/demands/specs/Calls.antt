@@ -16,7 +16,7 @@ use Rattle.represents.specs.QueueRead.{marks}
 use Rattle.represents.specs.Topology.{Sized}
 use Rattle.lines.specs.declared.Answer.{Answer}
 use Rattle.questions.specs.declared.state.State.{State}
-use Rattle.records.specs.Left.{Left}
+use Rattle.processor.specs.Left.{Left}
 use Rattle.outcome.specs.declared.answer.Answered.{Answered}
 use Rattle.command.specs.Lent.{Lent}
 use Rattle.command_laws.specs.Law.{lent}

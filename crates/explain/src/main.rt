@@ -19,19 +19,20 @@ fn list_block<W: Print>(
     offset: u64,
     output: &mut Output<'_, W>,
 ) -> Result<usize, Failure> {
-    // A number and no shrinking slice, since a message names the place in the stream.
-    let mut at = 0;
-    while at < block.len() {
-        let byte = block[at];
+    // No range says how often: a command has as many bytes as its first one says.
+    let mut rest = block;
+    while let [byte, behind @ ..] = rest {
+        let byte = *byte;
         let Some(count) = operand_bytes(byte, false) else {
+            let at = block.len() - rest.len();
             let offset = offset.wrapping_add(at as u64);
             return Err(Failure::Unknown { offset, byte });
         };
-        if block.len() - at <= count {
-            return Ok(at);
+        if behind.len() < count {
+            break;
         }
         output.make_room(LINE).map_err(|_| Failure::Output)?;
-        let fields = operands(block, at + 1, byte, false);
+        let fields = operands(behind, 0, byte, false);
         let mut text = Text {
             buffer: &mut output.bytes[output.done..],
             at: 0,
@@ -39,9 +40,9 @@ fn list_block<W: Print>(
         list_command(&mut text, Command { byte, fields }, false);
         let n = text.at;
         output.add(n);
-        at += 1 + count;
+        rest = &behind[count..];
     }
-    Ok(at)
+    Ok(block.len() - rest.len())
 }
 
 // The whole stream, shown block by block; no input has as many blocks as the loop has turns.

@@ -20,6 +20,7 @@ pub struct Filled {
 pub fn fill(file: &mut impl Read, input: &mut [u8], kept: usize) -> io::Result<Filled>
     ensures { IfOk result (λ f. f.bytes ≤ length input.new) }
 {
+    // By index: `get_mut(kept..)` gives an empty slice at the end, so it would need a test for that beside it.
     if kept < input.len() {
         let count = file.read(&mut input[kept..])?;
         return Ok(Filled {

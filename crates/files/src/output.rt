@@ -35,7 +35,8 @@ impl<'a, W: Print> Output<'a, W> {
         self.file.write_all(&self.bytes[..done])
     }
 
-    // Where fewer than n bytes are free, those that wait are shown first.
+    // Where fewer than n bytes are free, those that wait are shown first. Then a program writes behind them, and adds what it wrote: a method over a closure would
+    // ask that it can be called, and what `compose` writes may be refused, while what `explain` writes may not.
     pub fn make_room(&mut self, n: usize) -> io::Result<()>
         ensures { OnOk result (n ≤ 32768 → self.new.done + n ≤ 32768) }
     {

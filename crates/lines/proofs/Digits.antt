@@ -89,9 +89,24 @@ decimal_more n h l =
     rw (four_rest n, two_more 18 n (omega arith), two_more 16 (n / 100) (omega arith), e, digits_alike 19 15 (n / 10000) (omega arith) (omega arith), append_assoc)
 
 -- below 10 to the power of k there are at most k
-pub digits_length : (m k n : ℕ) → n < 10 ^ suc k → length (digits m n) ≤ suc k
+digits_length : (m k n : ℕ) → n < 10 ^ suc k → length (digits m n) ≤ suc k
 digits_length zero k n h = rw (digits_none n) (omega arith)
 digits_length (suc m) zero n h = rw (digits_of m n, lt-ltb n 10 h) (omega arith)
 digits_length (suc m) (suc k) n h = both (ltb n 10)
     (λ e. rw (digits_of m n, e) (omega arith))
     (λ e. rw (digits_of m n, e, length-append) (omega (arith, digits_length m k (n / 10) (omega (arith, pow-succ' 10 (suc k))))))
+
+-- at most as many as are asked for
+digits_most : (m n : ℕ) → length (digits m n) ≤ m
+digits_most zero n = rw (digits_none n) (omega arith)
+digits_most (suc m) n = both (ltb n 10)
+    (λ e. rw (digits_of m n, e) (omega arith))
+    (λ e. rw (digits_of m n, e, length-append) (omega (arith, digits_most m (n / 10))))
+
+pub decimal_most : (n : ℕ) → length (decimal n) ≤ 20
+unfolding decimal
+decimal_most n = digits_most 20 n
+
+pub decimal_length : (k n : ℕ) → n < 10 ^ suc k → length (decimal n) ≤ suc k
+unfolding decimal
+decimal_length k n h = digits_length 20 k n h

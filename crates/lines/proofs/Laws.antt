@@ -11,15 +11,12 @@ use native.Mathlib.Nat.{min-eq_left}
 use Rattle.rules.specs.declared.Running.{Running}
 use Rattle.rules.specs.declared.Running.TheVariants as running
 use Rattle.rules.specs.Commands.{Answer}
-use Rattle.rules.specs.Lines.{decimal, space, line_feed, dash, idle_word, number_or_dash, running_or_dash, line}
+use Rattle.rules.specs.Lines.{space, line_feed, dash, idle_word, number_or_dash, running_or_dash, line}
+use Rattle.rules.specs.Waits.{Under}
 use Rattle.lines.specs.Lines.{room, rendered, buffer_with}
-use Rattle.lines.proofs.Digits.{digits_length}
+use Rattle.lines.proofs.Digits.{decimal_length}
 
 -- ---- the largest numbers of a line
-
-unfoldable pub Below : ℕ → Option ℕ → Type 0
-Below limit None = Unit
-Below limit (Some n) = n < limit
 
 unfoldable pub RunsBelow : ℕ → Option Running → Type 0
 RunsBelow limit None = Unit
@@ -30,25 +27,21 @@ RunsBelow limit (Some (running.Thread x)) = x < limit
 pub record Shows (number : ℕ) (a : Answer) : Type 0 where
   pub number_below : number < 2 ^ 32
   pub refused_below : a.refused ≤ 16
-  pub cpu_below : Below 1024 a.cpu
+  pub cpu_below : Under 1024 a.cpu
   pub running_below : RunsBelow 1024 a.running
-  pub load_below : Below 1025 a.load
-  pub wakeups_below : Below 10000 a.wakeups
+  pub load_below : Under 1025 a.load
+  pub wakeups_below : Under 10000 a.wakeups
 
-decimal_length : (k n : ℕ) → n < 10 ^ suc k → length (decimal n) ≤ suc k
-unfolding decimal
-decimal_length k n h = digits_length 20 k n h
+pub number_length : (k limit : ℕ) (o : Option ℕ) → limit ≤ 10 ^ suc k → Under limit o → length (number_or_dash o) ≤ suc k
+unfolding number_or_dash dash Under
+number_length k limit None l h = omega arith
+number_length k limit (Some n) l h = decimal_length k n (omega arith)
 
-number_length : (limit : ℕ) (o : Option ℕ) → limit ≤ 10000 → Below limit o → length (number_or_dash o) ≤ 4
-unfolding number_or_dash dash Below
-number_length limit None l h = omega arith
-number_length limit (Some n) l h = decimal_length 3 n (omega arith)
-
-running_length : (o : Option Running) → RunsBelow 1024 o → length (running_or_dash o) ≤ 4
+pub running_length : (limit : ℕ) (o : Option Running) → limit ≤ 10000 → RunsBelow limit o → length (running_or_dash o) ≤ 4
 unfolding running_or_dash dash idle_word RunsBelow
-running_length None h = omega arith
-running_length (Some running.Idle) h = omega arith
-running_length (Some (running.Thread x)) h = decimal_length 3 x (omega arith)
+running_length limit None l h = omega arith
+running_length limit (Some running.Idle) l h = omega arith
+running_length limit (Some (running.Thread x)) l h = decimal_length 3 x (omega arith)
 
 pub line_length : (number : ℕ) (a : Answer) → Shows number a → length (line number a) ≤ 48
 unfolding line space line_feed
@@ -58,10 +51,10 @@ line_length number a s =
       arith,
       decimal_length 9 number (omega (arith, s.number_below)),
       decimal_length 1 a.refused (omega (arith, s.refused_below)),
-      number_length 1024 a.cpu (omega arith) s.cpu_below,
-      running_length a.running s.running_below,
-      number_length 1025 a.load (omega arith) s.load_below,
-      number_length 10000 a.wakeups (omega arith) s.wakeups_below,
+      number_length 3 1024 a.cpu (omega arith) s.cpu_below,
+      running_length 1024 a.running (omega arith) s.running_below,
+      number_length 3 1025 a.load (omega arith) s.load_below,
+      number_length 3 10000 a.wakeups (omega arith) s.wakeups_below,
     ))
 
 -- ---- a line that fits: all of it stands from `at` on, and every other byte is kept

@@ -98,20 +98,21 @@ room_left b at = both (leb 48 (length b - at))
     (λ e. e ∙ sym (le-leb (at + 48) (length b) (omega (arith, leb-true 48 (length b - at) e))))
     (λ e. e ∙ sym (lt-leb (at + 48) (length b) (omega (arith, leb-false 48 (length b - at) e))))
 
-module _ (b : List ℕ) (at : ℕ) (l : List ℕ) (fits : room b at ≡ true) (b' : List ℕ) (next : ℕ) (is : text b' next ≡ write (text b at) l) where
-  now_at : text b' next ≡ text (sets b at l) (at + min (length l) (length b - at))
+module _ (b : List ℕ) (at : ℕ) (l b' : List ℕ) (next : ℕ) (is : text b' next ≡ write (text b at) l) where
+  pub now_at : text b' next ≡ text (sets b at l) (at + min (length l) (length b - at))
   now_at = is ∙ write_sets l b at
 
   next_is : next ≡ at + min (length l) (length b - at)
   next_is = ap (λ (t : Text). t.at) now_at
 
+module _ (b : List ℕ) (at : ℕ) (l : List ℕ) (fits : room b at ≡ true) (b' : List ℕ) (next : ℕ) (is : text b' next ≡ write (text b at) l) where
   pub rendered_is : Ok (next - at) ≡ rendered b at l
   unfolding rendered
-  rendered_is = rw fits (ap Ok (omega (arith, next_is)))
+  rendered_is = rw fits (ap Ok (omega (arith, next_is b at l b' next is)))
 
   pub buffer_is : b' ≡ buffer_with b at l
   unfolding buffer_with
-  buffer_is = rw fits (ap (λ (t : Text). t.bytes) now_at)
+  buffer_is = rw fits (ap (λ (t : Text). t.bytes) (now_at b at l b' next is))
 
 -- refused: nothing is changed
 module _ (b : List ℕ) (at : ℕ) (l : List ℕ) (small : room b at ≡ false) where

@@ -1,10 +1,12 @@
 -- Writing byte after byte into a buffer: where the next byte goes, and the parts of a line.
-use Rattle.std.specs.Prelude.{◌≡◌, ℕ, ◌+◌, ◌/◌, ◌%◌, cond, List, [], ◌∷◌, ◌++◌, ltb, length, set, Option}
+use Rattle.std.specs.Prelude.{◌≡◌, ℕ, ◌+◌, ◌/◌, ◌%◌, cond, List, [], ◌∷◌, ◌++◌, ltb, length, set, Option, Result}
 use Rattle.std.specs.Borrow.{MutBor}
 use denote.Triple.Both.{Both}
 use Rattle.rules.specs.declared.Running.{Running}
 use Rattle.rules.specs.Lines.{decimal, space, line_feed, number_or_dash, running_or_dash}
 use Rattle.lines.specs.declared.Text as lent
+use Rattle.lines.specs.declared.Refusal.{Refusal}
+use Rattle.lines.specs.Lines.{rendered, buffer_with}
 
 -- a buffer, and where the next byte goes
 pub record Text : Type 0 where
@@ -37,6 +39,10 @@ Writes t l = Wrote t.entry.now l t.exit.now
 -- the same of a closure, of which `leaves` says what it leaves
 abbrev pub Puts : (lent.Text → Unit {0} → lent.Text → Type 0) → List ℕ → Type 0
 Puts leaves l = (t u : lent.Text) → leaves t tt u → Wrote t l u
+
+-- a function that is lent a buffer renders this line into it, from `at` on, and answers r
+abbrev pub Renders : Both (MutBor (List ℕ)) (MutBor (List ℕ)) → ℕ → List ℕ → Result ℕ Refusal → Type 0
+Renders buffer at l r = (r ≡ rendered buffer.entry.now at l) × (buffer.exit.now ≡ buffer_with buffer.entry.now at l)
 
 -- the last two digits of a number, and the last four, zeros too
 unfoldable pub two_digits : ℕ → List ℕ

@@ -4,8 +4,8 @@
 ghost use Rattle.std.specs.Prelude.{◌≡◌, ℕ, List, [], ◌∷◌, ◌+◌, ◌%◌};
 ghost use Rattle.std.specs.Fn.{FnOnceReturnsAtMut};
 ghost use Rattle.rules.specs.Lines.{digits, decimal, number_or_dash, running_or_dash, line, header, end_line};
-ghost use Rattle.lines.specs.Lines.{question_number, refusal_number, answer_of, room, rendered, buffer_with};
-ghost use Rattle.lines.specs.Text.{Writes, Puts, text, write, two_digits, four_digits, counts_part, cpu_part, numbers_part};
+ghost use Rattle.lines.specs.Lines.{question_number, refusal_number, answer_of, room};
+ghost use Rattle.lines.specs.Text.{Writes, Puts, Renders, text, write, two_digits, four_digits, counts_part, cpu_part, numbers_part};
 
 use rules::Running;
 
@@ -129,7 +129,6 @@ fn put_long(buffer: &mut [u8], at: usize, n: u64) -> usize
     put_four(buffer, next, n % 10000)
 }
 
-// By hand: `write!` promises its bytes only where it answers `Ok`, and a line here can't fail.
 impl Text<'_> {
     // One byte; nothing past the end.
     pub fn put(&mut self, byte: u8)
@@ -160,6 +159,7 @@ impl Text<'_> {
         }
     }
 
+    // Tried `write!` from here on: it promises its bytes only where it answers `Ok`, and a line cannot fail.
     #[tactic(auto, unfolding(rules::specs::Lines::number_or_dash, rules::specs::Lines::dash))]
     fn put_shown(&mut self, shown: Option<u64>)
         ensures { Writes self (number_or_dash shown) }
@@ -250,7 +250,7 @@ fn render_with<F: FnOnce(&mut Text<'_>)>(
     put: F,
 ) -> Result<usize, Refusal>
     requires { F.IsAlwaysCallable put }
-    ensures { (l : List ℕ) → Puts (FnOnceReturnsAtMut F.FnOnce put) l → (result ≡ rendered buffer.old at l) × (buffer.new ≡ buffer_with buffer.old at l) }
+    ensures { (l : List ℕ) → Puts (FnOnceReturnsAtMut F.FnOnce put) l → Renders buffer at l result }
 {
     if !has_room(buffer, at) {
         return Err(Refusal::SmallBuffer);
@@ -267,7 +267,7 @@ pub fn render_at(
     number: u64,
     answer: Answer,
 ) -> Result<usize, Refusal>
-    ensures { (result ≡ rendered buffer.old at (line number (answer_of answer))) × (buffer.new ≡ buffer_with buffer.old at (line number (answer_of answer))) }
+    ensures { Renders buffer at (line number (answer_of answer)) result }
 {
     render_with(
         buffer,
@@ -276,10 +276,10 @@ pub fn render_at(
     )
 }
 
-// The first line, from `at` on.
+// The first line, from `at` on; buffer and place stand apart, as for `render_at`.
 #[tactic(auto, unfolding(rules::specs::Lines::header))]
 pub fn render_header(buffer: &mut [u8], at: usize) -> Result<usize, Refusal>
-    ensures { (result ≡ rendered buffer.old at header) × (buffer.new ≡ buffer_with buffer.old at header) }
+    ensures { Renders buffer at header result }
 {
     render_with(
         buffer,
@@ -288,14 +288,14 @@ pub fn render_header(buffer: &mut [u8], at: usize) -> Result<usize, Refusal>
     )
 }
 
-// The last line, from `at` on.
+// The last line, from `at` on; buffer and place stand apart, as for `render_at`.
 pub fn render_end(
     buffer: &mut [u8],
     at: usize,
     commands: u64,
     refused: u64,
 ) -> Result<usize, Refusal>
-    ensures { (result ≡ rendered buffer.old at (end_line commands refused)) × (buffer.new ≡ buffer_with buffer.old at (end_line commands refused)) }
+    ensures { Renders buffer at (end_line commands refused) result }
 {
     render_with(
         buffer,
@@ -306,7 +306,7 @@ pub fn render_end(
 
 // The line of one command.
 pub fn render(buffer: &mut [u8], number: u64, answer: Answer) -> Result<usize, Refusal>
-    ensures { (result ≡ rendered buffer.old 0 (line number (answer_of answer))) × (buffer.new ≡ buffer_with buffer.old 0 (line number (answer_of answer))) }
+    ensures { Renders buffer 0 (line number (answer_of answer)) result }
 {
     render_at(buffer, 0, number, answer)
 }

@@ -1,30 +1,20 @@
 -- How long a line is at most.
-use Prim.Native.Nat.{ℕ, zero, suc, ◌*◌, ◌/◌, ◌≤◌}
+use Prim.Native.Nat.{ℕ, zero, suc, ◌*◌, ◌≤◌}
 use mathlib.Core.Path.{◌≡◌, refl}
 use mathlib.Core.Bool.{Bool, true, cond, ◌&&◌}
 use mathlib.Core.List.{List, [], ◌∷◌}
-use lib.Dec.{eqb, ltb, leb}
+use lib.Dec.{eqb, leb}
 use lib.ListN.{length, take, length-append}
 use native.Mathlib.Omega.{arith}
 use borrow.Author.Tests.{leb-true}
+use Rattle.std.specs.Cmp.{first_so, second_so}
 use Rattle.rules.proofs.Laws.Line.{both}
-use Rattle.rules.proofs.Laws.Writer.{and_left, and_right}
-use Rattle.rules.specs.Lines.{digits, decimal, space, line_feed}
+use Rattle.rules.specs.Lines.{space, line_feed}
+use Rattle.lines.proofs.Digits.{decimal_most}
 use Rattle.names.specs.Names.{Naming, naming, namings, naming_among, name_of, ascii}
 use Rattle.request.specs.declared.fields.Fields.{Fields}
 use Rattle.request.specs.Fields.{list_of, row}
 use Rattle.listing.specs.Listing.{numbers, no_pin, shown_fields, listed}
-
-digits_most : (k n : ℕ) → length (digits k n) ≤ k
-unfolding digits
-digits_most zero n = omega arith
-digits_most (suc k) n = both (ltb n 10)
-    (λ e. rw (e, length-append) (omega arith))
-    (λ e. rw (e, length-append) (omega (arith, digits_most k (n / 10))))
-
-decimal_most : (n : ℕ) → length (decimal n) ≤ 20
-unfolding decimal
-decimal_most n = digits_most 20 n
 
 -- every name of the rows has at most eight bytes
 unfoldable short : List Naming → Bool
@@ -35,8 +25,8 @@ short_among : (byte : ℕ) (ns : List Naming) → short ns ≡ true → length (
 unfolding short naming_among naming ascii
 short_among byte [] h = omega arith
 short_among byte (n ∷ ns) h = both (eqb byte n.byte)
-    (λ e. rw e (leb-true _ _ (and_left (leb (length (ascii n.name)) 8) (short ns) h)))
-    (λ e. rw e (short_among byte ns (and_right (leb (length (ascii n.name)) 8) (short ns) h)))
+    (λ e. rw e (leb-true _ _ (first_so (leb (length (ascii n.name)) 8) (short ns) h)))
+    (λ e. rw e (short_among byte ns (second_so (leb (length (ascii n.name)) 8) (short ns) h)))
 
 all_short : short namings ≡ true
 unfolding short namings naming ascii

@@ -7,19 +7,19 @@ ghost use Rattle.lines.specs.Text.{Writes};
 ghost use Rattle.listing.specs.Listing.{numbers, no_pin, listed};
 
 use lines::Text;
-use names::put_name;
+use names::{DECLARE_THREAD, put_name};
 use request::all_ones;
 use request::fields::{Command, Fields, field_count};
 
 // A line has at most so many bytes.
 pub const LINE: usize = 93;
 
-// Is it a thread whose pin is none? By the byte of the table, as in `names`: a command here is any byte.
+// Is it a thread whose pin is none?
 #[tactic(auto, unfolding(crate::specs::Listing::no_pin, request::specs::Fields::list_of, rules::specs::Requests::nth))]
 fn no_pin(command: Command, wide: bool) -> bool
     ensures { result ≡ no_pin wide command.byte (list_of command.fields) }
 {
-    command.byte == 0x10 && command.fields.fourth == all_ones(wide)
+    command.byte == DECLARE_THREAD && command.fields.fourth == all_ones(wide)
 }
 
 // How many fields its line shows.

@@ -17,7 +17,7 @@ use thread::priority::class_at;
 use topology::cpuset::MAX_CPU_ID;
 use topology::words::NodeWords;
 
-// What the bytes from `at` to below n ask. The length is beside them as C gives it (`scheduler_feed`), also past their end.
+// What the bytes from `at` to below n ask. Place and length are beside them as C gives them (`scheduler_feed`), also past their end.
 #[tactic(auto, using(crate::specs::Call::reading_again, std::proofs::lemmas::List::take_min))]
 pub fn asked(bytes: &[u8], n: usize, at: usize, wide: bool) -> Reading
     ensures { result ≡ asked_def bytes.now n at wide }
@@ -25,8 +25,8 @@ pub fn asked(bytes: &[u8], n: usize, at: usize, wide: bool) -> Reading
     read(&bytes[..n.min(bytes.len())], at, wide)
 }
 
-// What was read, unless a question is answered no; t is the record of the thread that it names. It is `refusal_of` with the number made a refusal again, as the
-// rules of a command have it.
+// What was read, unless a question is answered no; t is the record of the thread that it names. It is `refusal_of` under the
+// clause that a command's definitions use.
 #[tactic(auto, using(crate::specs::Call::judged_again))]
 pub fn judged(
     cpus: &[CpuWords],

@@ -49,7 +49,7 @@ pub fn place_cpu(
     changed(state, used)
 }
 
-// Each CPU runs its idle thread and is marked idle from the start.
+// The state alone is changed: from the start each CPU runs its idle thread and is marked idle.
 pub fn seal(state: State, used: usize) -> Answered
     ensures { result ≡ changed (sealed_now state) used }
 {

@@ -10,6 +10,7 @@ ghost use Rattle.request.specs.Fields.{list_of, four, row};
 ghost use Rattle.parse.specs.Meaning.{is_pin, no_pin, pin, field, ended, fields_from, text_meaning, meaning, meaning_of};
 
 use name::byte_named;
+use names::DECLARE_THREAD;
 use number::number_of;
 use request::all_ones;
 pub use request::fields::Command;
@@ -25,12 +26,12 @@ pub enum Misfit {
     Unfit(usize),
 }
 
-// Is it the pin of a thread, by the byte of the table and the number of the field?
+// Is it the pin of a thread, its last field?
 #[tactic(auto, unfolding(crate::specs::Meaning::is_pin))]
 fn is_pin(byte: u8, i: usize) -> bool
     ensures { result ≡ is_pin byte i }
 {
-    byte == 0x10 && i == 3
+    byte == DECLARE_THREAD && i == 3
 }
 
 #[tactic(auto, unfolding(crate::specs::Meaning::no_pin, names::specs::Names::ascii))]

@@ -5,7 +5,8 @@ ghost use Rattle.std.specs.Option.{option_map};
 ghost use Rattle.std.specs.Str.{bytes_eq};
 ghost use Rattle.parse.specs.Meaning.{byte_named};
 
-// A command's name and its byte, beside `names`'s jump on the byte: with one `static` of rows for both, `explain` took 7 to 11 % more time.
+// A command's name and its byte, by place, so that a row is one line. A table beside `names`'s jump on the byte: searching that byte by byte, `compose` takes 32 %
+// more instructions and 20 % more time.
 #[derive(Clone, Copy)]
 struct Row(&'static [u8], u8);
 

@@ -15,6 +15,7 @@ fn digit(byte: u8) -> Option<u64>
     }
 }
 
+// Hexadecimal or decimal, as the definitions say it: given the base itself, each clause here would ask which of the two it is.
 #[tactic(auto, unfolding(crate::specs::Numbers::base))]
 fn base(hexadecimal: bool) -> u64
     ensures { result ≡ base hexadecimal }

@@ -6,8 +6,7 @@ ghost use Rattle.parse.specs.Words.{before_comment, blank, blanks, letters, skip
 fn comment_begin(line: &[u8]) -> usize
     ensures { result ≡ length (before_comment line.now) }
 {
-    let begin = line.iter().position(|byte| *byte == b'#');
-    begin.unwrap_or(line.len())
+    line.iter().take_while(|byte| **byte != b'#').count()
 }
 
 // The line without its comment.
@@ -29,16 +28,14 @@ fn is_blank(byte: u8) -> bool
 fn blanks(text: &[u8]) -> usize
     ensures { result ≡ blanks text.now }
 {
-    let end = text.iter().position(|byte| !is_blank(*byte));
-    end.unwrap_or(text.len())
+    text.iter().take_while(|byte| is_blank(**byte)).count()
 }
 
 // How many are not.
 fn letters(text: &[u8]) -> usize
     ensures { result ≡ letters text.now }
 {
-    let end = text.iter().position(|byte| is_blank(*byte));
-    end.unwrap_or(text.len())
+    text.iter().take_while(|byte| !is_blank(**byte)).count()
 }
 
 // The text without the blanks at its front.
@@ -64,7 +61,7 @@ pub fn word_at(line: &[u8], i: usize) -> &[u8]
     ensures { result.now ≡ word (from_word i (before_comment line.now)) }
 {
     let mut text = before_comment(line);
-    for passed in 0..i {
+    for _i in 0..i {
         let (_, rest) = split_word(skip_blanks(text));
         text = rest;
     }

@@ -10,7 +10,7 @@ fn table(stdout: &impl Print) -> io::Result<()> {
     println!(stdout;
         "// Two numbers for each value from 0 to 127: its realtime bucket, then its timeshare offset. The program priority_table prints this file."
     )?;
-    println!(stdout; "pub static TABLE: [u64; 256] = [")?;
+    println!(stdout; "pub const TABLE: [u64; 256] = [")?;
     for value in 0..128 {
         let bucket = realtime_bucket(value);
         let offset = offset(value);

@@ -1,4 +1,5 @@
 pub mod Cpu
+pub mod Left
 pub mod Parts
 pub mod Queue
 pub mod Random

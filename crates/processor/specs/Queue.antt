@@ -1,7 +1,11 @@
 -- A run queue in the first 72 words of a CPU: a load after a store gives the queue again, and neither another word nor another CPU is touched.
-use Rattle.std.specs.Prelude.{ℕ, ◌+◌, List, [], ◌∷◌, slice_index, slice_index_or, slice_set}
+use Rattle.std.specs.Prelude.{ℕ, ◌+◌, List, [], ◌∷◌, slice_index, slice_index_or, slice_set, Option}
+use Rattle.rules.specs.declared.Part.{Part}
 use Rattle.queue.specs.declared.lists.Lists.{Lists}
+use Rattle.runqueue.specs.declared.rq.Arrival.{Arrival}
 use Rattle.runqueue.specs.declared.rq.RunQueue.{RunQueue}
+use Rattle.runqueue.specs.RunQueue.{rq_insert_into}
+use Rattle.processor.specs.Left.{Words, Left}
 use Rattle.processor.specs.Window.{load_n, place_n}
 
 unfoldable pub lists_at : List ℕ → ℕ → Lists
@@ -49,3 +53,10 @@ queue_at cs c = queue_in_def (slice_index_or cs c [])
 
 unfoldable pub queue_stored : List (List ℕ) → ℕ → RunQueue → List (List ℕ)
 queue_stored cs c q = slice_set cs c (queue_into (slice_index_or cs c []) q)
+
+-- a thread goes into this part of the queue of CPU c: whose link is set to it, if anybody's
+unfoldable pub inserted_def : Part → ℕ → Arrival → Words → Left (Option ℕ) Words
+inserted_def p c a cs = record {
+  answer = (rq_insert_into p (queue_at cs c) a).behind;
+  memory = queue_stored cs c (rq_insert_into p (queue_at cs c) a).queue;
+}

@@ -1,7 +1,8 @@
 // The draw (`quick_random`, utils.rs): 32 bits of state to a CPU.
 ghost use Rattle.std.specs.Prelude.{◌≡◌};
 ghost use Rattle.rules.specs.Draw.{seed, next_state, draw};
-ghost use Rattle.processor.specs.Words.{word, put_word};
+ghost use Rattle.processor.specs.Left.{LeavesOne};
+ghost use Rattle.processor.specs.Random.{quick_random_def};
 
 use crate::words::{CpuWords, RAND_STATE, put_word, word};
 
@@ -31,9 +32,9 @@ pub fn draw(state: u64) -> u64
 }
 
 // One draw of CPU c.
+#[tactic(auto, unfolding(crate::specs::Random::quick_random_def))]
 pub fn quick_random(cpus: &mut [CpuWords], c: u64) -> u64
-    ensures answer { result ≡ draw (next_state c (word cpus.old c 79)) }
-    ensures state { cpus.new ≡ put_word cpus.old c 79 (next_state c (word cpus.old c 79)) }
+    ensures { LeavesOne (quick_random_def c) result cpus }
 {
     let state = next_state(c, word(cpus, c, RAND_STATE));
     put_word(cpus, c, RAND_STATE, state);

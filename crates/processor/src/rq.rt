@@ -2,44 +2,45 @@
 // the numbers are stored, since no other part has changed.
 ghost use Rattle.std.specs.Prelude.{◌≡◌, ◌+◌, ◌≤◌};
 ghost use Rattle.thread.specs.Thread.{NONE};
-ghost use Rattle.runqueue.specs.RunQueue.{rq_insert_into, rq_front_realtime, rq_front, rq_taken_from, rq_taken};
+ghost use Rattle.runqueue.specs.RunQueue.{rq_front_realtime, rq_front, rq_taken_from, rq_taken};
+ghost use Rattle.processor.specs.Left.{LeavesOne};
+ghost use Rattle.processor.specs.Words.{width};
 ghost use Rattle.processor.specs.Window.{load_n, place_n};
-ghost use Rattle.processor.specs.Queue.{lists_at, lists_stored_def, first_eight, last_two, queue_in_def, queue_into, queue_at, queue_stored};
+ghost use Rattle.processor.specs.Queue.{lists_at, lists_stored_def, first_eight, last_two, queue_in_def, queue_into, queue_at, queue_stored, inserted_def};
 ghost use Rattle.processor.specs.Parts.{numbers_into, part_into, numbers_stored, part_stored};
 
-use crate::words::CpuWords;
+use crate::words::{CpuWords, WORDS};
 use queue::lists::Lists;
 use queue::pq::PriorityQueue;
 use queue::timeshare::TimeshareQueue;
 use rules::Part;
-use runqueue::rq::{Arrival, Front, RunQueue};
+use runqueue::rq::{Arrival, Departure, Front, RunQueue};
 use std::array;
 use thread::NONE;
 
-// Eight words of a row. Their place is a number at each call, where its bound is seen; a type of its own would carry the same bound.
+// Eight words of a row. Their place is a number at each call, or the parameter of `load_lists` and `store_lists`, where its bound is seen; a type of its own would
+// carry the same bound.
 #[tactic(auto, unfolding(crate::specs::Window::load_n))]
 fn load(row: &CpuWords, at: usize) -> [u64; 8]
-    requires { at + 8 ≤ 96 }
+    requires { at + 8 ≤ width }
     ensures { result ≡ load_n row.now at 8 8 }
 {
     array::from_fn(|i| row[at + i])
 }
 
-// Word by word: with `copy_from_slice`, tried, the goal does not close, and a put and a take cost a tenth more instructions.
-#[tactic(auto, unfolding(crate::specs::Window::place_n))]
+// Eight words stored.
+#[tactic(auto, using(crate::proofs::Copied::copied))]
 fn store(row: &mut CpuWords, at: usize, v: [u64; 8])
-    requires { at + 8 ≤ 96 }
+    requires { at + 8 ≤ width }
     ensures { row.new ≡ place_n row.old at v 8 }
 {
-    for i in 0usize..8 {
-        row[at + i] = v[i];
-    }
+    row[at..at + 8].copy_from_slice(&v);
 }
 
 // First and last threads, sixteen words.
 #[tactic(auto, unfolding(crate::specs::Queue::lists_at))]
 fn load_lists(row: &CpuWords, at: usize) -> Lists
-    requires { at + 16 ≤ 96 }
+    requires { at + 16 ≤ width }
     ensures { result ≡ lists_at row.now at }
 {
     Lists {
@@ -50,7 +51,7 @@ fn load_lists(row: &CpuWords, at: usize) -> Lists
 
 #[tactic(auto, unfolding(crate::specs::Queue::lists_stored_def))]
 fn store_lists(row: &mut CpuWords, at: usize, l: Lists)
-    requires { at + 16 ≤ 96 }
+    requires { at + 16 ≤ width }
     ensures { row.new ≡ lists_stored_def row.old at l }
 {
     store(row, at, l.heads);
@@ -159,7 +160,7 @@ pub fn load_queue(cpus: &[CpuWords], c: u64) -> RunQueue
     ensures { result ≡ queue_at cpus.now c }
 {
     let row = cpus.get(c as usize);
-    row.map_or_else(|| queue_in(&[0; 96]), queue_in)
+    row.map_or_else(|| queue_in(&[0; WORDS]), queue_in)
 }
 
 #[tactic(auto, using(crate::proofs::Laws::Queue::stored_out), unfolding(crate::specs::Queue::queue_stored))]
@@ -196,10 +197,9 @@ fn store_part(cpus: &mut [CpuWords], c: u64, part: Part, q: RunQueue)
 }
 
 #[inline(always)]
-#[tactic(auto, using(crate::proofs::Parts::put_stored))]
+#[tactic(auto, using(crate::proofs::Parts::put_stored), unfolding(crate::specs::Queue::inserted_def))]
 fn insert_part(cpus: &mut [CpuWords], c: u64, a: Arrival, part: Part) -> Option<u64>
-    ensures { (result ≡ (rq_insert_into part (queue_at cpus.old c) a).behind)
-        × (cpus.new ≡ queue_stored cpus.old c (rq_insert_into part (queue_at cpus.old c) a).queue) }
+    ensures { LeavesOne (inserted_def part c a) result cpus }
 {
     let q = load_queue(cpus, c);
     let put = q.insert_into(part, a);
@@ -208,10 +208,9 @@ fn insert_part(cpus: &mut [CpuWords], c: u64, a: Arrival, part: Part) -> Option<
 }
 
 // A thread goes into this part of the queue of CPU c: whose link the caller must set to it, if anybody's. Each arm names its part, a constant to the compiler,
-// which then loads and stores no other part: with one call for all parts, `replay` took 7 % more instructions.
+// which then loads and stores no other part: with one call for all parts, `replay` took 6 to 9 % more instructions.
 pub fn insert_into(cpus: &mut [CpuWords], c: u64, a: Arrival, part: Part) -> Option<u64>
-    ensures { (result ≡ (rq_insert_into part (queue_at cpus.old c) a).behind)
-        × (cpus.new ≡ queue_stored cpus.old c (rq_insert_into part (queue_at cpus.old c) a).queue) }
+    ensures { LeavesOne (inserted_def part c a) result cpus }
 {
     match part {
         Part::Realtime => insert_part(cpus, c, a, Part::Realtime),
@@ -244,23 +243,14 @@ pub fn front(cpus: &[CpuWords], c: u64, stealing: bool) -> Option<Front>
     }
 }
 
-// A thread has left this bucket of this part. Bucket, links, value and pin are parameters of their own: this function, `taken_front` and `RunQueue::taken_from`
-// each take other ones of them.
+// A thread has left this bucket of this part.
 #[inline(always)]
 #[tactic(auto, using(crate::proofs::Parts::left_stored))]
-fn taken_part(
-    cpus: &mut [CpuWords],
-    c: u64,
-    part: Part,
-    bucket: u64,
-    next: u64,
-    value: u64,
-    pinned: bool,
-)
-    ensures { cpus.new ≡ queue_stored cpus.old c (rq_taken_from part (queue_at cpus.old c) bucket NONE next value pinned) }
+fn taken_part(cpus: &mut [CpuWords], c: u64, part: Part, bucket: u64, d: Departure)
+    ensures { cpus.new ≡ queue_stored cpus.old c (rq_taken_from part (queue_at cpus.old c) bucket NONE d.next d.value d.pinned) }
 {
     let q = load_queue(cpus, c);
-    let left = q.taken_from(part, bucket, NONE, next, value, pinned);
+    let left = q.taken_from(part, bucket, NONE, d);
     store_part(cpus, c, part, left);
 }
 
@@ -273,26 +263,18 @@ fn taken_none(cpus: &mut [CpuWords], c: u64)
     store_numbers(cpus, c, q);
 }
 
-// The thread that `front` answered, the first of its list, has left: its link was `next`, its value when it was put in `value`. Each arm names its part, as in
-// `insert_into`.
+// The thread that `front` answered, the first of its list, has left. Each arm names its part, as in `insert_into`.
 #[tactic(auto, using(crate::proofs::Parts::took_stored), unfolding(runqueue::specs::RunQueue::rq_taken))]
-pub fn taken_front(
-    cpus: &mut [CpuWords],
-    c: u64,
-    front: Option<Front>,
-    next: u64,
-    value: u64,
-    pinned: bool,
-)
-    ensures { cpus.new ≡ queue_stored cpus.old c (rq_taken (queue_at cpus.old c) front NONE next value pinned) }
+pub fn taken_front(cpus: &mut [CpuWords], c: u64, front: Option<Front>, d: Departure)
+    ensures { cpus.new ≡ queue_stored cpus.old c (rq_taken (queue_at cpus.old c) front NONE d.next d.value d.pinned) }
 {
     let Some(Front { part, bucket, .. }) = front else {
         taken_none(cpus, c);
         return;
     };
     match part {
-        Part::Realtime => taken_part(cpus, c, Part::Realtime, bucket, next, value, pinned),
-        Part::Timeshare => taken_part(cpus, c, Part::Timeshare, bucket, next, value, pinned),
-        Part::Idle => taken_part(cpus, c, Part::Idle, bucket, next, value, pinned),
+        Part::Realtime => taken_part(cpus, c, Part::Realtime, bucket, d),
+        Part::Timeshare => taken_part(cpus, c, Part::Timeshare, bucket, d),
+        Part::Idle => taken_part(cpus, c, Part::Idle, bucket, d),
     }
 }

@@ -1,17 +1,22 @@
-// The words of all CPUs, 96 to a CPU. Past the last CPU a word is 0, and a store does nothing. C lends them, so NONE stands in a word for none. The words
-// of nodes have functions of their own (topology), of the same four lines under definitions that the laws of each cite: common ones, of any number of words,
-// would ask that it be not 0.
+// The words of all CPUs, WORDS to a CPU. Past the last CPU a word is 0, and a store does nothing. C lends them, so NONE stands in a word for none. The words
+// of nodes have functions of their own (topology), of the same four lines under definitions that the laws of each cite: common ones, of any number of words, would
+// answer by `checked_rem` a `None` that cannot come, in a crate of their own below both.
+// Words and CPU are two parameters throughout: a function asks one CPU of the lent words, so a struct of both would be made at each call, and clauses would name
+// both its fields.
 ghost use Rattle.std.specs.Prelude.{◌≡◌};
 ghost use Rattle.processor.specs.Words.{word, put_word};
 
+pub const WORDS: usize = 96;
+
 // The words of one CPU.
-pub type CpuWords = [u64; 96];
+pub type CpuWords = [u64; WORDS];
 
 // The words of the run queue are the first 72. Of them are read by themselves:
 pub const CURRENT_PRIORITY: usize = 61;
 
 pub const LOAD: usize = 62;
 
+// Named in C's header too, and asked by nothing here.
 pub const TIMESHARE_LOAD: usize = 63;
 
 pub const MOVABLE: usize = 64;
@@ -49,7 +54,7 @@ pub const IDLE_TIMESLICE: usize = 81;
 pub fn word(cpus: &[CpuWords], c: u64, w: usize) -> u64
     ensures { result ≡ word cpus.now c w }
 {
-    cpus.get(c as usize).map_or(0, |row| row[w % 96])
+    cpus.get(c as usize).map_or(0, |row| row[w % WORDS])
 }
 
 #[tactic(auto, using(crate::proofs::Laws::Words::put_out), unfolding(crate::specs::Words::put_word))]
@@ -59,6 +64,6 @@ pub fn put_word(cpus: &mut [CpuWords], c: u64, w: usize, v: u64)
     // The length is asked, since `get_mut` does not say what the slice becomes.
     let i = c as usize;
     if i < cpus.len() {
-        cpus[i][w % 96] = v;
+        cpus[i][w % WORDS] = v;
     }
 }

@@ -8,6 +8,7 @@ use native.Mathlib.Omega.{arith}
 use Rattle.std.proofs.Math.ListN.{length, length-append}
 use Rattle.std.proofs.Math.Dec.{leb}
 use borrow.Author.Tests.{eqb-true, eqb-false, leb-true, ltb-true, not-true}
+use Rattle.std.specs.Cmp.{first_so, second_so}
 use Rattle.rules.proofs.Laws.Line.{both}
 use Rattle.rules.specs.Priority.{nr_values, priority, class_at}
 use Rattle.rules.specs.Times as times
@@ -20,7 +21,6 @@ use Rattle.rules.specs.Schedule.{World, with_thread}
 use Rattle.rules.specs.Requests.{declare_cpu, add_node, place_cpu, seal, set_shortest, declare_thread, set_tick, remove_donation, set_critical, asks}
 use Rattle.rules.specs.Questions.{Question, first_no, refusal, concerning, open_yet, sealed_now, declared, cpu_declared, cpu_new, cpu_unplaced, pin_declared, thread_declared, thread_new, priority_in_range, at_most, least_shortest, most_shortest, shortest_in_range, node_exists, parent_without_cpus, node_fits, node_childless, tick_fits}
 use Rattle.rules.specs.Commands.{no_log, changed, world_of, shortened, with_cpu_declared, with_node, with_placed, obeys}
-use Rattle.rules.proofs.Laws.Effect.{and_left, and_right}
 use Rattle.rules.specs.Waits.{Under, Free, waits}
 use Rattle.rules.proofs.Laws.Sound.{at_here, at_there}
 use Rattle.rules.proofs.Laws.Reached.{Reached, yes}
@@ -42,7 +42,7 @@ use Rattle.represents.specs.World.{number_or_none, mark_in, WordsRep, place_at, 
 use Rattle.represents.proofs.Laws.Frames.{beside_put, word_here, in_records, in_rows, words_same, words_alike, written_none, shows_words, shows_removed, shows_critical, shows_record, places_moved}
 use Rattle.represents.proofs.Laws.NumberLists.{any_none}
 use Rattle.represents.specs.Topology.{TopologyRep}
-use Rattle.represents.proofs.Laws.Topology.{number_is}
+use Rattle.rules.proofs.Laws.Places.{is_some_number}
 use Rattle.represents.proofs.Laws.Grown.{tree_child}
 use Rattle.represents.proofs.Laws.Placed.{tree_declared, tree_placed}
 use Rattle.questions.specs.declared.state.State.{State}
@@ -142,7 +142,7 @@ module _ {H : ℕ → List PutOrTake} {ts : List Thread} {cs ns : List (List ℕ
   unfolding obeys refusal concerning open_yet cpu_new with_cpu_declared
   stands_declare_cpu c used b n e =
       let new = yes 3 _ _ (yes 2 _ _ e).1 in
-      let near : c < s.limits.cpus = ltb-true _ _ (and_left (ltb c s.limits.cpus) (not (s.topology.declared c)) new.0) in
+      let near : c < s.limits.cpus = ltb-true _ _ (first_so (ltb c s.limits.cpus) (not (s.topology.declared c)) new.0) in
       stands_changed m ts (put_word cs c DECLARED 1) ns b (with_cpu_declared s.topology c) s.sealed s.tick s.known s.threads n
       (tree_declared s.limits ns s.topology c m.tree) m.rows (shows_declared shows_now c near) m.nodes_fit m.tick_fits
 
@@ -175,10 +175,10 @@ module _ {H : ℕ → List PutOrTake} {ts : List Thread} {cs ns : List (List ℕ
       let exists = yes 5 _ _ free.1 in
       let childless = yes 5 _ _ exists.1 in
       let there : n < length s.topology.nodes = ltb-true _ _ exists.0 in
-      let named : (ltb c s.limits.cpus && s.topology.declared c) ≡ true = and_left _ (not (is_some (s.topology.placed c))) free.0 in
-      let near : c < s.limits.cpus = ltb-true _ _ (and_left (ltb c s.limits.cpus) (s.topology.declared c) named) in
+      let named : (ltb c s.limits.cpus && s.topology.declared c) ≡ true = first_so _ (not (is_some (s.topology.placed c))) free.0 in
+      let near : c < s.limits.cpus = ltb-true _ _ (first_so (ltb c s.limits.cpus) (s.topology.declared c) named) in
       let unplaced : s.topology.placed c ≡ None =
-      no_some (s.topology.placed c) (not-true _ (and_right (ltb c s.limits.cpus && s.topology.declared c) (not (is_some (s.topology.placed c))) free.0)) in
+      no_some (s.topology.placed c) (not-true _ (second_so (ltb c s.limits.cpus && s.topology.declared c) (not (is_some (s.topology.placed c))) free.0)) in
       stands_changed m ts (put_word cs c PLACED n) (set_cpu ns n c) b (with_placed s.topology n c) s.sealed s.tick s.known s.threads k
       (tree_placed s.limits ns s.topology m.tree n c there childless.0 near unplaced) (rw (length_placed (length ns) ns n c) m.rows) (shows_placed shows_now c near n) m.nodes_fit m.tick_fits
 
@@ -193,7 +193,7 @@ module _ {H : ℕ → List PutOrTake} {ts : List Thread} {cs ns : List (List ℕ
   unfolding obeys refusal concerning open_yet shortest_in_range with_shortest limits_in rules.with_shortest world_of shortened
   stands_set_shortest n used b k e =
       let in_range = yes 5 (leb least_shortest n && leb n most_shortest) _ (yes 2 _ _ e).1 in
-      let most : n ≤ most_shortest = leb-true _ _ (and_right (leb least_shortest n) (leb n most_shortest) in_range.0) in
+      let most : n ≤ most_shortest = leb-true _ _ (second_so (leb least_shortest n) (leb n most_shortest) in_range.0) in
       let now : StateRep ts cs ns (with_shortest a n) (shortened s n) = stands_shortened m (with_shortest a n) n most refl refl refl refl refl in
       stands_changed now ts cs ns b s.topology s.sealed s.tick s.known s.threads k now.tree now.rows now.shows now.nodes_fit now.tick_fits
 
@@ -203,7 +203,7 @@ module _ {H : ℕ → List PutOrTake} {ts : List Thread} {cs ns : List (List ℕ
   unfolding obeys refusal concerning sealed_now tick_fits
   stands_set_tick t used b n e =
       let fits = yes 7 _ _ (yes 2 _ _ e).1 in
-      let most : t ≤ 2 ^ 62 = leb-true _ _ (and_right (leb s.tick t) (leb t (2 ^ 62)) fits.0) in
+      let most : t ≤ 2 ^ 62 = leb-true _ _ (second_so (leb s.tick t) (leb t (2 ^ 62)) fits.0) in
       stands_changed m ts cs ns b s.topology s.sealed t s.known s.threads n m.tree m.rows shows_now m.nodes_fit most
 
   -- the record of one thread
@@ -242,14 +242,14 @@ module _ {H : ℕ → List PutOrTake} {ts : List Thread} {cs ns : List (List ℕ
   unfolding runs runs_on world_of
   unknown_runs x e =
       any_none s.limits.cpus (λ c. is_number x (s.cpus c).running)
-      (λ c h. both (is_number x (s.cpus c).running) (λ t. absurd (true≢false (sym (reached.sound.runs c x (number_is x (s.cpus c).running t)).1 ∙ e))) (λ t. t))
+      (λ c h. both (is_number x (s.cpus c).running) (λ t. absurd (true≢false (sym (reached.sound.runs c x (is_some_number x (s.cpus c).running t)).1 ∙ e))) (λ t. t))
 
   pin_yes : (pin : Option ℕ) (l : List Question) → first_no (pin_declared s pin ∷ l) ≡ 0 → ((cpu_in (field_of (pin_number pin))) ≡ pin) × (first_no l ≡ 0)
   unfolding pin_declared cpu_declared declared pin_number
   pin_yes None l e = (named_none NONE (omega arith), (yes 3 true l e).1)
   pin_yes (Some c) l e =
       let y = yes 3 (ltb c s.limits.cpus && s.topology.declared c) l e in
-      let near : c < s.limits.cpus = ltb-true _ _ (and_left (ltb c s.limits.cpus) (s.topology.declared c) y.0) in
+      let near : c < s.limits.cpus = ltb-true _ _ (first_so (ltb c s.limits.cpus) (s.topology.declared c) y.0) in
       (named_field c (omega (arith, m.small.cpus)), y.1)
 
   -- 10
@@ -260,9 +260,9 @@ module _ {H : ℕ → List PutOrTake} {ts : List Thread} {cs ns : List (List ℕ
       let pinning = pin_yes pin _ (yes 2 _ _ e).1 in
       let fresh = yes 4 _ _ pinning.1 in
       let range = yes 5 _ _ fresh.1 in
-      let h : x < s.limits.threads = ltb-true _ _ (and_left (ltb x s.limits.threads) (not (s.known x)) fresh.0) in
-      let unknown : s.known x ≡ false = not-true _ (and_right (ltb x s.limits.threads) (not (s.known x)) fresh.0) in
-      let low : v ≤ 127 = leb-true _ _ (and_right (leb k 3) (leb v 127) range.0) in
+      let h : x < s.limits.threads = ltb-true _ _ (first_so (ltb x s.limits.threads) (not (s.known x)) fresh.0) in
+      let unknown : s.known x ≡ false = not-true _ (second_so (ltb x s.limits.threads) (not (s.known x)) fresh.0) in
+      let low : v ≤ 127 = leb-true _ _ (second_so (leb k 3) (leb v 127) range.0) in
       let t : Thread = new (priority (class_at k) v) (pin_number pin) in
       let u : times.Thread = new_thread (priority (class_at k) v) pin in
       let r : reads t ≡ u = reads_new (priority (class_at k) v) (pin_number pin) (omega arith) ∙ ap (new_thread (priority (class_at k) v)) pinning.0 in

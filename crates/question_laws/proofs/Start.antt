@@ -118,7 +118,7 @@ module _ (limits : Limits) (cs : List (List ℕ)) (n : ℕ) (m : n ≤ length cs
 
 -- ---- the start stands
 
-blank_at : (n x : ℕ) → record_at (replicate n blank) x ≡ blank
+pub blank_at : (n x : ℕ) → record_at (replicate n blank) x ≡ blank
 blank_at n x =
     both (ltb x n) (λ e. get_or-replicate n x blank blank (ltb-true _ _ e))
     (λ e. get_or-eq_default (replicate n blank) blank {n = x} (rw (length-replicate n blank) (ltb-false _ _ e)))

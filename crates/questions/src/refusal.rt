@@ -1,4 +1,7 @@
 // The questions put to each command, in document 01's order: the first that is answered no gives the refusal.
+// Each clause is a list of questions: the proofs open them, and go by whether each is answered yes or no.
+#![tactic(auto, using(crate::proofs::Asking::no, crate::proofs::Asking::pin_number, crate::proofs::Asking::yes), unfolding(crate::specs::Questions::answer_number, lines::specs::Lines::question_number, rules::specs::Questions::question, crate::specs::Questions::open_yet, crate::specs::Questions::cpu_new, crate::specs::Questions::node_exists, crate::specs::Questions::parent_without_cpus, crate::specs::Questions::node_fits, crate::specs::Questions::cpu_unplaced, crate::specs::Questions::node_childless, crate::specs::Questions::all_placed, crate::specs::Questions::thread_new, crate::specs::Questions::sealed_now, crate::specs::Questions::tick_fits, crate::specs::Questions::cpu_declared, crate::specs::Questions::thread_declared, crate::specs::Questions::thread_blocked))]
+
 ghost use Rattle.std.specs.Prelude.{◌≡◌, cond, IfOk, Ok, Err, [], ◌∷◌};
 ghost use Rattle.rules.specs.Questions.{question, first_no};
 ghost use Rattle.request.specs.Request.{request_of, reading_of};
@@ -8,7 +11,7 @@ use crate::cpu::{all_placed, declared, new, pin_declared, unplaced};
 use crate::state::State;
 use lines::Refusal;
 use processor::words::CpuWords;
-use request::{Asked, Reading, Request, Unread, in_range};
+use request::{Asked, Reading, Request, Unread};
 use thread::Thread;
 use topology::node::{has_children, has_cpus};
 use topology::words::NodeWords;
@@ -30,7 +33,6 @@ fn room_left(state: State) -> Result<(), Refusal>
     must(state.room(), Refusal::TooMany)
 }
 
-#[tactic(auto, using(crate::proofs::Asking::no, crate::proofs::Asking::yes), unfolding(crate::specs::Questions::answer_number, lines::specs::Lines::question_number, rules::specs::Questions::question, crate::specs::Questions::open_yet, crate::specs::Questions::cpu_new))]
 fn declare_cpu(cpus: &[CpuWords], state: State, c: u64) -> Result<(), Refusal>
     ensures { answer_number result ≡ first_no (open_yet state ∷ cpu_new cpus.now state c ∷ room state ∷ []) }
 {
@@ -40,7 +42,6 @@ fn declare_cpu(cpus: &[CpuWords], state: State, c: u64) -> Result<(), Refusal>
 }
 
 // Of a new child node, whose type is in range or not.
-#[tactic(auto, using(crate::proofs::Asking::no, crate::proofs::Asking::yes), unfolding(crate::specs::Questions::answer_number, lines::specs::Lines::question_number, rules::specs::Questions::question, crate::specs::Questions::open_yet, crate::specs::Questions::node_exists, crate::specs::Questions::parent_without_cpus, crate::specs::Questions::node_fits))]
 fn add_node(nodes: &[NodeWords], state: State, p: u64, ranges: bool) -> Result<(), Refusal>
     ensures { answer_number result ≡ first_no (open_yet state ∷ question 6 ranges ∷ node_exists state p ∷ parent_without_cpus nodes.now p ∷ node_fits state ∷ room state ∷ []) }
 {
@@ -52,7 +53,6 @@ fn add_node(nodes: &[NodeWords], state: State, p: u64, ranges: bool) -> Result<(
     room_left(state)
 }
 
-#[tactic(auto, using(crate::proofs::Asking::no, crate::proofs::Asking::yes), unfolding(crate::specs::Questions::answer_number, lines::specs::Lines::question_number, rules::specs::Questions::question, crate::specs::Questions::open_yet, crate::specs::Questions::cpu_unplaced, crate::specs::Questions::node_exists, crate::specs::Questions::node_childless))]
 fn place_cpu(
     cpus: &[CpuWords],
     nodes: &[NodeWords],
@@ -69,7 +69,6 @@ fn place_cpu(
     room_left(state)
 }
 
-#[tactic(auto, using(crate::proofs::Asking::no, crate::proofs::Asking::yes), unfolding(crate::specs::Questions::answer_number, lines::specs::Lines::question_number, rules::specs::Questions::question, crate::specs::Questions::open_yet, crate::specs::Questions::all_placed))]
 fn seal(cpus: &[CpuWords], state: State) -> Result<(), Refusal>
     ensures { answer_number result ≡ first_no (open_yet state ∷ all_placed cpus.now state ∷ room state ∷ []) }
 {
@@ -79,7 +78,6 @@ fn seal(cpus: &[CpuWords], state: State) -> Result<(), Refusal>
 }
 
 // Of a setting, which is in range or not.
-#[tactic(auto, using(crate::proofs::Asking::no, crate::proofs::Asking::yes), unfolding(crate::specs::Questions::answer_number, lines::specs::Lines::question_number, rules::specs::Questions::question, crate::specs::Questions::open_yet))]
 fn setting(state: State, ranges: bool) -> Result<(), Refusal>
     ensures { answer_number result ≡ first_no (open_yet state ∷ question 6 ranges ∷ room state ∷ []) }
 {
@@ -89,14 +87,12 @@ fn setting(state: State, ranges: bool) -> Result<(), Refusal>
 }
 
 // Is thread x new, whose record is t?
-#[tactic(auto, unfolding(crate::specs::Questions::thread_new, rules::specs::Questions::question))]
 fn thread_new(x: u64, t: Thread) -> bool
     ensures { result ≡ (thread_new x t).answer }
 {
     x < MAX_THREADS && !t.is_declared()
 }
 
-#[tactic(auto, using(crate::proofs::Asking::no, crate::proofs::Asking::pin_number, crate::proofs::Asking::yes), unfolding(crate::specs::Questions::answer_number, lines::specs::Lines::question_number, rules::specs::Questions::question, crate::specs::Questions::sealed_now, crate::specs::Questions::thread_new))]
 fn declare_thread(
     cpus: &[CpuWords],
     state: State,
@@ -114,7 +110,6 @@ fn declare_thread(
     room_left(state)
 }
 
-#[tactic(auto, using(crate::proofs::Asking::no, crate::proofs::Asking::yes), unfolding(crate::specs::Questions::answer_number, lines::specs::Lines::question_number, rules::specs::Questions::question, crate::specs::Questions::sealed_now, crate::specs::Questions::tick_fits))]
 fn set_tick(state: State, tick: u64) -> Result<(), Refusal>
     ensures { answer_number result ≡ first_no (sealed_now state ∷ tick_fits state tick ∷ room state ∷ []) }
 {
@@ -123,7 +118,6 @@ fn set_tick(state: State, tick: u64) -> Result<(), Refusal>
     room_left(state)
 }
 
-#[tactic(auto, using(crate::proofs::Asking::no, crate::proofs::Asking::yes), unfolding(crate::specs::Questions::answer_number, lines::specs::Lines::question_number, rules::specs::Questions::question, crate::specs::Questions::sealed_now, crate::specs::Questions::cpu_declared, crate::specs::Questions::thread_declared, crate::specs::Questions::thread_blocked))]
 fn schedule_thread(cpus: &[CpuWords], state: State, t: Thread, c: u64) -> Result<(), Refusal>
     ensures { answer_number result ≡ first_no (sealed_now state ∷ cpu_declared cpus.now state c ∷ thread_declared t ∷ thread_blocked t ∷ room state ∷ []) }
 {
@@ -135,7 +129,6 @@ fn schedule_thread(cpus: &[CpuWords], state: State, t: Thread, c: u64) -> Result
 }
 
 // Of a command that CPU c runs, whose other operands are in range or not.
-#[tactic(auto, using(crate::proofs::Asking::no, crate::proofs::Asking::yes), unfolding(crate::specs::Questions::answer_number, lines::specs::Lines::question_number, rules::specs::Questions::question, crate::specs::Questions::sealed_now, crate::specs::Questions::cpu_declared))]
 fn on_cpu(cpus: &[CpuWords], state: State, c: u64, ranges: bool) -> Result<(), Refusal>
     ensures { answer_number result ≡ first_no (sealed_now state ∷ cpu_declared cpus.now state c ∷ question 6 ranges ∷ room state ∷ []) }
 {
@@ -145,7 +138,6 @@ fn on_cpu(cpus: &[CpuWords], state: State, c: u64, ranges: bool) -> Result<(), R
     room_left(state)
 }
 
-#[tactic(auto, using(crate::proofs::Asking::no, crate::proofs::Asking::yes), unfolding(crate::specs::Questions::answer_number, lines::specs::Lines::question_number, rules::specs::Questions::question, crate::specs::Questions::sealed_now, crate::specs::Questions::cpu_declared, crate::specs::Questions::thread_declared))]
 fn donate(cpus: &[CpuWords], state: State, t: Thread, c: u64, ranges: bool) -> Result<(), Refusal>
     ensures { answer_number result ≡ first_no (sealed_now state ∷ cpu_declared cpus.now state c ∷ thread_declared t ∷ question 6 ranges ∷ room state ∷ []) }
 {
@@ -157,7 +149,6 @@ fn donate(cpus: &[CpuWords], state: State, t: Thread, c: u64, ranges: bool) -> R
 }
 
 // Of a command on a thread after the seal.
-#[tactic(auto, using(crate::proofs::Asking::no, crate::proofs::Asking::yes), unfolding(crate::specs::Questions::answer_number, lines::specs::Lines::question_number, rules::specs::Questions::question, crate::specs::Questions::sealed_now, crate::specs::Questions::thread_declared))]
 fn of_thread(state: State, t: Thread, ranges: bool) -> Result<(), Refusal>
     ensures { answer_number result ≡ first_no (sealed_now state ∷ thread_declared t ∷ question 6 ranges ∷ room state ∷ []) }
 {
@@ -178,7 +169,7 @@ fn asked(
 ) -> Result<(), Refusal>
     ensures { answer_number result ≡ asked_of cpus.now nodes.now state t (request_of request) }
 {
-    let ranges = in_range(request);
+    let ranges = request.in_range();
     match request {
         Request::DeclareCpu { cpu } => declare_cpu(cpus, state, cpu),
         Request::AddNode { parent, .. } => add_node(nodes, state, parent, ranges),

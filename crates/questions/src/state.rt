@@ -18,10 +18,10 @@ pub struct State {
 }
 
 // A tick is at most 2^62.
-pub const MOST_TICK: u64 = 4611686018427387904;
+pub const MOST_TICK: u64 = 1 << 62;
 
-// Fewer commands have been accepted.
-pub const MOST_ACCEPTED: u64 = 4294967295;
+// Fewer than 4,294,967,295 commands have been accepted.
+pub const MOST_ACCEPTED: u64 = u32::MAX as u64;
 
 impl State {
     #[tactic(auto, unfolding(crate::specs::Questions::node_exists, rules::specs::Questions::question))]

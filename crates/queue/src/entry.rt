@@ -4,7 +4,8 @@
 ghost use Rattle.std.specs.Prelude.{◌≡◌};
 ghost use Rattle.queue.specs.Table.{table, entry};
 
-use crate::table::TABLE;
+// A static, so that it stands once in memory and is not made where it is read.
+static TABLE: [u64; 256] = crate::table::TABLE;
 
 // The whole table.
 pub fn table() -> [u64; 256]

@@ -1,4 +1,5 @@
-// The realtime and the idle part (rq.rs, `PriorityQueue`). It shares no trait with the timeshare part: a put and a take there are told of more.
+// The realtime and the idle part (rq.rs, `PriorityQueue`). It shares no trait with the timeshare part: a put there is told whether the
+// thread is current, not its class, and a take is told its value.
 ghost use Rattle.std.specs.Prelude.{◌≡◌};
 ghost use Rattle.rules.specs.Queue.{realtime_bucket, class_bucket};
 ghost use Rattle.queue.specs.PriorityQueue.{no_priority, pq_empty, pq_highest, pq_insert, pq_front, pq_taken};

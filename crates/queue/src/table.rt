@@ -1,5 +1,5 @@
 // Two numbers for each value from 0 to 127: its realtime bucket, then its timeshare offset. The program priority_table prints this file.
-pub static TABLE: [u64; 256] = [
+pub const TABLE: [u64; 256] = [
     0, // bucket of value 0
     7, // offset of value 0
     0, // bucket of value 1

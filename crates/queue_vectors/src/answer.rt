@@ -1,5 +1,5 @@
 // An answer in its bytes: the number answered, and the state of the operation's queue just after it.
-use crate::operation::{Kind, Operation};
+use crate::operation::Action;
 use queue::lists::Lists;
 use rules::Part;
 use runqueue::rq::RunQueue;
@@ -38,18 +38,14 @@ fn low_byte(n: u64) -> u8 {
 
 // What is wider than its place is cut. An insert answers whether the thread came in above the idle part; the place of any other is 255. A part is 0 realtime, 1
 // timeshare, 2 idle.
-pub fn answer(q: RunQueue, op: Operation, number: u64) -> [u8; 48] {
-    let inserted = op.kind == Kind::Insert;
-    let place = if inserted {
-        place_of(q, op.thread)
-    } else {
-        None
-    };
-    let above_idle = place.is_some_and(|place| !matches!(place.part, Part::Idle));
-    let number = if inserted {
-        u64::from(above_idle)
-    } else {
-        number
+pub fn answer(q: RunQueue, action: Action, number: u64) -> [u8; 48] {
+    let (place, number) = match action {
+        Action::Insert(put) => {
+            let place = place_of(q, put.thread);
+            let above_idle = place.is_some_and(|place| !matches!(place.part, Part::Idle));
+            (place, u64::from(above_idle))
+        }
+        _ => (None, number),
     };
     let [part, bucket] = place.map_or([255, 255], |place| [place.part as u8, place.bucket]);
     let mut out = [0u8; 48];

@@ -7,38 +7,47 @@ mod operation;
 
 use answer::answer;
 use files::read_full;
-use operation::{Kind, Operation, prepared};
+use operation::{Action, Operation, prepared};
 use processor::rq::{load_queue, store_queue};
 use records::memory::Memory;
-use records::record::set;
 use records::rq::{clock, hardtick, insert, take};
 use runqueue::rq::RunQueue;
 use std::io::Read;
 use thread::{NONE, blank};
 
-// What an operation answers.
-fn act(m: &mut Memory<'_>, op: Operation, tick: &mut u64) -> u64 {
-    match op.kind {
-        Kind::Insert => {
-            let t = m.thread(op.thread);
-            set(m.threads, op.thread, prepared(t, op));
-            insert(m, op.queue, op.thread, *tick, op.current);
+const THREADS: usize = 96;
+
+const QUEUES: usize = 4;
+
+// What an operation on a queue answers.
+fn act(m: &mut Memory<'_>, queue: u64, action: Action, tick: &mut u64) -> u64 {
+    match action {
+        Action::Insert(put) => {
+            let t = m.thread(put.thread);
+            m.set_thread(put.thread, prepared(t, put));
+            insert(m, queue, put.thread, *tick, put.current);
             0
         }
-        Kind::Take => take(m, op.queue, false).unwrap_or(NONE),
-        Kind::Steal => take(m, op.queue, true).unwrap_or(NONE),
-        Kind::Clock => {
-            clock(m.cpus, op.queue);
+        Action::Take => take(m, queue, false).unwrap_or(NONE),
+        Action::Steal => take(m, queue, true).unwrap_or(NONE),
+        Action::Clock => {
+            clock(m.cpus, queue);
             0
         }
-        Kind::Tick => {
-            *tick = op.number;
+        Action::Tick(now) => {
+            *tick = now;
             0
         }
-        Kind::Hardtick => hardtick(m.cpus, op.queue, *tick),
-        Kind::Timeslice => load_queue(m.cpus(), op.queue).timeslice(op.number, op.class),
-        Kind::Deadline => load_queue(m.cpus(), op.queue).deadline(op.number, op.class),
-        Kind::Other => 0,
+        Action::Hardtick => hardtick(m.cpus, queue, *tick),
+        Action::Timeslice(class, shortest) => {
+            let q = load_queue(m.cpus(), queue);
+            q.timeslice(shortest, class)
+        }
+        Action::Deadline(class, shortest) => {
+            let q = load_queue(m.cpus(), queue);
+            q.deadline(shortest, class)
+        }
+        Action::Other => 0,
     }
 }
 
@@ -50,17 +59,17 @@ fn drive(stdin: &mut impl Read, stdout: &impl Print, m: &mut Memory<'_>) {
         if read_full(stdin, &mut line) < line.len() {
             return;
         }
-        let op = Operation::from(line);
-        let number = act(m, op, &mut tick);
-        let bytes = answer(load_queue(m.cpus(), op.queue), op, number);
+        let Operation { queue, action } = Operation::from(line);
+        let number = act(m, queue, action, &mut tick);
+        let bytes = answer(load_queue(m.cpus(), queue), action, number);
         let _ = stdout.write_all(&bytes);
     }
 }
 
 fn main(rt: HostRuntime) {
-    let mut threads = [blank(); 96];
-    let mut cpus = [[0u64; 96]; 4];
-    for queue in 0..4 {
+    let mut threads = [blank(); THREADS];
+    let mut cpus = [[0u64; processor::words::WORDS]; QUEUES];
+    for queue in 0..QUEUES as u64 {
         store_queue(&mut cpus, queue, RunQueue::new());
     }
     let mut m = Memory {

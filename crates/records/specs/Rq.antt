@@ -15,7 +15,8 @@ use Rattle.runqueue.specs.declared.rq.RunQueue.{RunQueue}
 use Rattle.runqueue.specs.declared.rq.Front.{Front}
 use Rattle.runqueue.specs.RunQueue.{rq_insert, rq_front, rq_taken, rq_clock, rq_hardtick}
 use Rattle.processor.specs.Queue.{queue_at, queue_stored}
-use Rattle.records.specs.Left.{Words, Memory, Left}
+use Rattle.processor.specs.Left.{Words, Left}
+use Rattle.records.specs.Left.{Memory}
 
 -- the record of thread x
 abbrev pub record_at : List Thread → ℕ → Thread

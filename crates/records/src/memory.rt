@@ -1,15 +1,16 @@
 // The memory that the caller lends.
-ghost use Rattle.std.specs.Prelude.{◌≡◌, get_or};
+ghost use Rattle.std.specs.Prelude.{◌≡◌, get_or, set};
 ghost use Rattle.thread.specs.Thread.{blank};
+ghost use Rattle.records.specs.Left.{Becomes, on_threads};
 
-use crate::record::get;
+use crate::record::{get, set};
 use processor::words::CpuWords;
 use thread::Thread;
 use topology::words::NodeWords;
 
-// The thread records and the words of the CPUs, which the scheduler changes, and the words of the nodes, which it reads. Threads and CPUs are
-// read by methods: where such a field is lent to be read, the check forgets all of it but its length. The nodes need no method, and none could lend them while the
-// CPUs are lent to be changed.
+// The thread records and the words of the CPUs, which the scheduler changes, and the words of the nodes, which it reads. Threads and CPUs are read by
+// methods: of such a field that is passed to be read the check keeps the length alone, unless a line before lends it anew (`let cpus = &mut *m.cpus;`). The nodes
+// need no method, and none could lend them while the CPUs are lent to be changed.
 #[derive(Drop)]
 pub struct Memory<'a> {
     pub threads: &'a mut [Thread],
@@ -23,6 +24,13 @@ impl Memory<'_> {
         ensures { result ≡ get_or self.now.threads.now x blank }
     {
         get(self.threads, x)
+    }
+
+    // The record of thread x becomes t.
+    pub fn set_thread(&mut self, x: u64, t: Thread)
+        ensures { Becomes (on_threads (λ cs ts. set ts x t)) self }
+    {
+        set(self.threads, x, t);
     }
 
     pub fn cpus(&self) -> &[CpuWords]

@@ -7,12 +7,10 @@ use thread::{Thread, blank};
 pub fn get(threads: &[Thread], i: u64) -> Thread
     ensures { result ≡ get_or threads.now i blank }
 {
-    match threads.get(i as usize) {
-        Some(t) => *t,
-        None => blank(),
-    }
+    threads.get(i as usize).map_or_else(blank, |t| *t)
 }
 
+// A record is changed by a read and this write: a function that takes the change as a closure would have a `requires` on it and a longer clause.
 // By index: the contract of a slice's `get_mut` does not say what a write through it leaves of the slice.
 pub fn set(threads: &mut [Thread], i: u64, t: Thread)
     ensures { threads.new ≡ set threads.old i t }

@@ -4,7 +4,8 @@ ghost use Rattle.std.specs.Prelude.{◌≡◌};
 ghost use Rattle.rules.specs.Times.{pinned};
 ghost use Rattle.thread.specs.Reads.{reads};
 ghost use Rattle.processor.specs.Queue.{queue_at, queue_stored};
-ghost use Rattle.records.specs.Left.{Leaves, LeavesOne, Becomes, BecomesOne};
+ghost use Rattle.processor.specs.Left.{LeavesOne, BecomesOne};
+ghost use Rattle.records.specs.Left.{Leaves, Becomes};
 ghost use Rattle.records.specs.Rq.{arrival_of, put_in_def, link_behind, insert_def, left_by_def, take_def, clock_def, hardtick_def};
 
 use crate::memory::Memory;
@@ -12,7 +13,7 @@ use crate::record::{get, set};
 use processor::rq::{front, insert_into, load_queue, store_numbers, taken_front};
 use processor::words::CpuWords;
 use rules::Part;
-use runqueue::rq::{Arrival, Front};
+use runqueue::rq::{Arrival, Departure, Front};
 use thread::place::Place;
 use thread::{NONE, Thread};
 
@@ -61,7 +62,7 @@ fn link_behind(threads: &mut [Thread], behind: Option<u64>, x: u64)
 }
 
 // Thread x goes into the queue of CPU c. current: it comes in as the current thread.
-#[tactic(auto, using(crate::proofs::Exits::put_part), unfolding(crate::specs::Rq::insert_def, runqueue::specs::RunQueue::rq_insert))]
+#[tactic(auto, using(crate::proofs::Exits::put_part), unfolding(crate::specs::Rq::insert_def, processor::specs::Queue::inserted_def, runqueue::specs::RunQueue::rq_insert))]
 pub fn insert(m: &mut Memory<'_>, c: u64, x: u64, tick: u64, current: bool)
     ensures { Becomes (insert_def c x tick current) m }
 {
@@ -69,7 +70,7 @@ pub fn insert(m: &mut Memory<'_>, c: u64, x: u64, tick: u64, current: bool)
     let a = arrival(t, x, tick, current);
     let part = a.part();
     let behind = insert_into(m.cpus, c, a, part);
-    set(m.threads, x, put_in(t, part));
+    m.set_thread(x, put_in(t, part));
     link_behind(m.threads, behind, x);
 }
 
@@ -78,8 +79,12 @@ pub fn insert(m: &mut Memory<'_>, c: u64, x: u64, tick: u64, current: bool)
 fn leave(cpus: &mut [CpuWords], c: u64, front: Front, t: Thread)
     ensures { cpus.new ≡ queue_stored cpus.old c (left_by_def (queue_at cpus.old c) (Some front) t) }
 {
-    let stable = t.get_stable_effective_priority();
-    taken_front(cpus, c, Some(front), t.next, stable.value, is_pinned(t));
+    let d = Departure {
+        next: t.next,
+        value: t.get_stable_effective_priority().value,
+        pinned: is_pinned(t),
+    };
+    taken_front(cpus, c, Some(front), d);
 }
 
 // A thread is asked of the queue of CPU c: by the CPU itself, or by another that steals.
@@ -91,7 +96,7 @@ pub fn take(m: &mut Memory<'_>, c: u64, stealing: bool) -> Option<u64>
     let x = found.thread;
     let t = m.thread(x);
     leave(m.cpus, c, found, t);
-    set(m.threads, x, t.with_place(Place::Running));
+    m.set_thread(x, t.with_place(Place::Running));
     Some(x)
 }
 

@@ -5,12 +5,12 @@ use blocks::keep;
 use files::Filled;
 use lines::has_room;
 use processor::words::CpuWords;
+use questions::refusal::MAX_THREADS;
 use std::io::Read;
 use std::{fmt, io};
-use stream::block::{is_ended, is_last};
 use stream::feed::feed;
-use stream::progress::{Progress, begin};
-use stream::start::start;
+use stream::progress::Progress;
+use stream::start::{MAX_CPUS, MAX_NODES, start};
 use thread::{Thread, blank};
 use topology::words::NodeWords;
 
@@ -45,11 +45,7 @@ fn fill(
             last: false,
         });
     }
-    let got = files::fill(stdin, input, left)?;
-    Ok(Filled {
-        bytes: got.bytes,
-        last: is_last(left, got.bytes),
-    })
+    files::fill(stdin, input, left)
 }
 
 // Each turn but the last takes a command, and a run has fewer than 2^32. The slices stand as `feed` takes them.
@@ -73,7 +69,7 @@ fn serve(
         stdout
             .write_all(&output[..done])
             .map_err(|_| Failure::Output)?;
-        if is_ended(fed) {
+        if fed.is_ended() {
             return Ok(());
         }
         left = keep(&mut input, fed.at, n);
@@ -83,9 +79,9 @@ fn serve(
 
 // The memory that is lent is large enough for every start.
 fn main(rt: HostRuntime) {
-    let mut threads = [blank(); 1024];
-    let mut cpus = [[0u64; 96]; 64];
-    let mut nodes = [[0u64; 32]; 128];
+    let mut threads = [blank(); MAX_THREADS as usize];
+    let mut cpus = [[0u64; processor::words::WORDS]; MAX_CPUS as usize];
+    let mut nodes = [[0u64; topology::words::WORDS]; MAX_NODES as usize];
     let Some(state) = start(&mut threads, &mut cpus, &mut nodes) else {
         return;
     };
@@ -95,7 +91,7 @@ fn main(rt: HostRuntime) {
         &mut threads,
         &mut cpus,
         &mut nodes,
-        begin(state),
+        Progress::begin(state),
     );
     if let Err(failure) = served {
         let stderr = rt.stderr();

@@ -4,12 +4,12 @@ use native.Mathlib.Omega.{arith}
 use borrow.Author.Tests.{lt-ltb, leb-true}
 use Rattle.std.specs.Prelude.{nat_lt}
 use Rattle.std.specs.List.{filter}
-use Rattle.rules.proofs.Laws.Writer.{and_left, and_right}
 use mathlib.Core.Path.{◌≡◌, refl, sym, ap}
 use mathlib.Core.Bool.{Bool, true, false, ◌&&◌, ◌||◌}
 use mathlib.Core.List.{List, [], ◌∷◌, ◌++◌, map}
 use lib.Dec.{eqb, leb}
 use lib.ListN.{length, replicate}
+use Rattle.std.specs.Cmp.{first_so, second_so}
 use Rattle.rules.proofs.Laws.Line.{both}
 use Rattle.rules.specs.State.{Limits}
 use Rattle.rules.specs.Requests.{Request, operand, past, operands, nth, widths, widths_or}
@@ -17,7 +17,8 @@ use Rattle.rules.specs.Questions.{at_most, in_range}
 use Rattle.rules.specs.Writer.{row as rules_row, ranges}
 use Rattle.request.specs.Request.{width, limits_of}
 use Rattle.request.specs.Fields.{four, row}
-use Rattle.request.proofs.Table.{Apart, all_bytes, but_last, last_request, no_row, same_unless}
+use Rattle.rules.proofs.Laws.Apart.{Apart, all_bytes, but_last, same_unless}
+use Rattle.request.proofs.Table.{last_request, no_row}
 
 -- a width that an operand can have
 unfoldable pub plain : ℕ → Bool
@@ -66,8 +67,8 @@ row_most false byte = of_each_row false most_row byte refl refl
 nth_most : (ns : List ℕ) (i : ℕ) → most_row ns ≡ true → nth i ns ≤ 8
 unfolding most_row nth
 nth_most [] i h = omega arith
-nth_most (n ∷ ns) zero h = leb-true n 8 (and_left (leb n 8) (most_row ns) h)
-nth_most (n ∷ ns) (suc i) h = nth_most ns i (and_right (leb n 8) (most_row ns) h)
+nth_most (n ∷ ns) zero h = leb-true n 8 (first_so (leb n 8) (most_row ns) h)
+nth_most (n ∷ ns) (suc i) h = nth_most ns i (second_so (leb n 8) (most_row ns) h)
 
 pub width_most : (wide : Bool) (byte i : ℕ) → nth i (row wide byte) ≤ 8
 width_most wide byte i = nth_most (row wide byte) i (row_most wide byte)

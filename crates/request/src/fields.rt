@@ -43,7 +43,7 @@ impl From<[u64; 4]> for Fields {
     }
 }
 
-// Any byte, since C gives any, and any fields.
+// Any byte, in the table or not, as `widths_of` takes it, and any fields: an enum of commands would ask more of callers.
 #[derive(Clone, Copy)]
 pub struct Command {
     pub byte: u8,
@@ -51,7 +51,7 @@ pub struct Command {
 }
 
 // How many bytes each operand of a command has; 0 where there is none, and for a byte that is not in the table.
-#[tactic(auto, using(crate::proofs::Table::no_row), unfolding(crate::specs::Fields::row, rules::specs::Writer::row, rules::specs::Requests::widths, rules::specs::Requests::widths_or, crate::specs::Request::limits_of, crate::specs::Fields::four, rules::specs::Requests::nth, crate::proofs::Table::Apart))]
+#[tactic(auto, using(crate::proofs::Table::no_row), unfolding(crate::specs::Fields::row, rules::specs::Writer::row, rules::specs::Requests::widths, rules::specs::Requests::widths_or, crate::specs::Request::limits_of, crate::specs::Fields::four, rules::specs::Requests::nth, rules::proofs::Laws::Apart::Apart))]
 pub fn widths_of(byte: u8, wide: bool) -> [usize; 4]
     ensures { result ≡ four (row wide byte) }
 {
@@ -89,7 +89,7 @@ pub fn field_count(byte: u8) -> usize
 impl Command {
     // Question 6 as far as it needs no state, of fields that no request holds yet; a byte that is not in the table is asked as hex 1A. A row for each byte, at
     // which the proof computes.
-    #[tactic(auto, using(crate::proofs::ByWidths::last_ranges), unfolding(rules::specs::Writer::ranges, rules::specs::Requests::request, crate::specs::Fields::list_of, rules::specs::Requests::nth, rules::specs::Questions::question, rules::specs::Questions::at_most, crate::proofs::Table::Apart))]
+    #[tactic(auto, using(crate::proofs::ByWidths::last_ranges), unfolding(rules::specs::Writer::ranges, rules::specs::Requests::request, crate::specs::Fields::list_of, rules::specs::Requests::nth, rules::specs::Questions::question, rules::specs::Questions::at_most, rules::proofs::Laws::Apart::Apart))]
     pub fn ranges(self, wide: bool) -> bool
         ensures { result ≡ ranges (limits_of wide) self.byte (list_of self.fields) }
     {
@@ -115,7 +115,8 @@ impl Command {
     }
 }
 
-// The operands that begin at `at`, which may lie past the end, as for `read`; bytes that are not there count as 0.
+// The operands that begin at `at`, which may lie past the end, as for `read`; bytes that are not there count as 0. Tried as a `map` of the
+// widths: its closure needs the clauses of `next` once more, and a goal stays open.
 #[tactic(auto, using(crate::proofs::ByWidths::width_most, crate::proofs::ByWidths::four_read, crate::proofs::Bytes::drop_min, std::proofs::lemmas::List::take_rest), unfolding(crate::specs::Fields::list_of, crate::specs::Fields::four))]
 pub fn operands(bytes: &[u8], at: usize, byte: u8, wide: bool) -> Fields
     ensures { list_of result ≡ four (operands (row wide byte) (drop at bytes.now)) }

@@ -1,3 +1,5 @@
+pub mod Answered
+pub mod Apart
 pub mod Below
 pub mod Bound
 pub mod Buckets

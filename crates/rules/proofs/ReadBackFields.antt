@@ -5,6 +5,7 @@ use Rattle.std.proofs.Common.{ne_eqb}
 use mathlib.Core.List.{List, ◌++◌}
 use Rattle.std.proofs.Math.Seq.{sets-eq}
 use Rattle.std.proofs.Math.Nat.{zero-add}
+use Rattle.std.specs.Cmp.{first_so}
 use Rattle.rules.specs.State.{Limits}
 use Rattle.rules.specs.Requests.{asks, read, operands, widths, request}
 use Rattle.rules.specs.Writer.{field_bytes, row, bytes_of, fits, write_refusal, buffer_with}
@@ -14,7 +15,7 @@ use Rattle.rules.proofs.ReadBack.{accepted_exactly}
 module _ (l : Limits) (byte : ℕ) (fields : List ℕ) (room : ℕ) where
   module _ (accepted : write_refusal l byte fields room ≡ 0) where
     fit : fits (row l byte) fields ≡ true
-    fit = laws.and_left _ _ ((accepted_exactly l byte fields room).0 accepted).1
+    fit = first_so _ _ ((accepted_exactly l byte fields room).0 accepted).1
 
     -- the operands read off, with zeros behind them, are the fields
     pub fields_read_off : (rest : List ℕ) → operands (row l byte) (field_bytes (row l byte) fields ++ rest) ++ replicate (length fields - length (row l byte)) 0 ≡ fields

@@ -37,6 +37,14 @@ pub struct Arrival {
     pub pinned: bool,
 }
 
+// What a take is told of the thread: its link, its value when it was put in, and whether it is pinned.
+#[derive(Clone, Copy)]
+pub struct Departure {
+    pub next: u64,
+    pub value: u64,
+    pub pinned: bool,
+}
+
 // behind: whose link the caller must set to the thread that came in, if anybody's. part: where it came in; the Rust answers whether that is not idle. Not
 // `queue::lists::Put` beside a part, nor `Found` in `Front`: clauses and callers would name one field more.
 #[derive(Clone, Copy)]
@@ -285,20 +293,17 @@ impl RunQueue {
         self
     }
 
-    // A thread has left this bucket of this part from behind `previous`; its link was `next`, its value when it was put in `value`.
+    // A thread has left this bucket of this part from behind `previous`.
     #[inline(always)]
     #[tactic(auto, unfolding(crate::specs::RunQueue::rq_taken_from, crate::specs::RunQueue::rq_taken_realtime, crate::specs::RunQueue::rq_taken_timeshare, crate::specs::RunQueue::rq_taken_idle, crate::specs::RunQueue::advertising, crate::specs::RunQueue::with_realtime, crate::specs::RunQueue::with_timeshare, crate::specs::RunQueue::with_idle, crate::specs::RunQueue::uncounted, queue::specs::Num::difference))]
-    pub fn taken_from(
-        self,
-        part: Part,
-        bucket: u64,
-        previous: u64,
-        next: u64,
-        value: u64,
-        pinned: bool,
-    ) -> Self
-        ensures { result ≡ rq_taken_from part self bucket previous next value pinned }
+    pub fn taken_from(self, part: Part, bucket: u64, previous: u64, d: Departure) -> Self
+        ensures { result ≡ rq_taken_from part self bucket previous d.next d.value d.pinned }
     {
+        let Departure {
+            next,
+            value,
+            pinned,
+        } = d;
         let mut queue = self.uncounted(pinned);
         match part {
             Part::Realtime => {

@@ -4,7 +4,8 @@ use Rattle.thread.specs.declared.Thread.{Thread}
 use Rattle.thread.specs.Thread.{NONE}
 use Rattle.thread.specs.Reads.{critical_in}
 use Rattle.thread.specs.Time.{moving_to_active}
-use Rattle.records.specs.Left.{Words, Memory, Left}
+use Rattle.processor.specs.Left.{Words, Left}
+use Rattle.records.specs.Left.{Memory}
 use Rattle.records.specs.Rq.{record_at, take_def}
 use Rattle.sched_words.specs.Choose.{select_for, selected_for, reinsert_at_def}
 use Rattle.sched_words.specs.Preempt.{rq_has_higher}
@@ -65,8 +66,8 @@ unfoldable pub reinsert_def : Context → ℕ → SchedFlags → ℕ → Words �
 reinsert_def k cur f wakeups ns m =
     cond (must_move_def m.cpus k.us (record_at m.threads cur) f)
     (then_next_def k cur ns
-    (reinserted_def k (reinsert_at_def m.cpus ns k.us k.limit (record_at m.threads cur)).chosen cur wakeups
-    (record { threads = m.threads; cpus = (reinsert_at_def m.cpus ns k.us k.limit (record_at m.threads cur)).cpus })))
+    (reinserted_def k (reinsert_at_def ns k.us k.limit (record_at m.threads cur) m.cpus).answer cur wakeups
+    (record { threads = m.threads; cpus = (reinsert_at_def ns k.us k.limit (record_at m.threads cur) m.cpus).memory })))
     (cond f.yields (then_next_def k cur ns (schedule_thread_on_cpu_def k k.us cur wakeups m))
     (record { answer = wakeups; memory = record { threads = reset_thread_time_def k cur m.cpus m.threads; cpus = m.cpus } }))
 

@@ -1,22 +1,23 @@
 // `switch_to`, `do_schedule` and `schedule`, and the command that schedules a blocked thread.
-ghost use Rattle.std.specs.Prelude.{◌≡◌, eqb};
-ghost use Rattle.records.specs.Left.{Becomes, BecomesOne, BecomesOver, Leaves, LeavesOver};
-ghost use Rattle.thread.specs.Thread.{NONE};
+ghost use Rattle.std.specs.Prelude.{◌≡◌};
+ghost use Rattle.processor.specs.Left.{BecomesOne};
+ghost use Rattle.records.specs.Left.{Becomes, BecomesOver, Leaves, LeavesOver};
 ghost use Rattle.sched.specs.Schedule.{switch_to_def, run_taken_def, idle_unless, run_stolen_def, pick_next_def, must_move_def, reinserted_def, reset_thread_time_def, reinsert_def, do_schedule_def, schedule_def, scheduled, schedule_thread_def};
 
 use processor::words::CpuWords;
 use records::memory::Memory;
 use records::record::{get, set};
 use records::rq::take;
-use sched_queues::queues::{block, is_idle, schedule_thread_on_cpu, try_steal, wake};
+use sched_queues::queues::{block, schedule_thread_on_cpu, try_steal, wake};
 use sched_words::choose::{reinsert_at, select_for};
 use sched_words::context::{Context, SchedFlags, Scheduled};
 use sched_words::preempt::rq_has_higher;
-use sched_words::running::{must_rebalance, run_idle, run_thread, running};
+use sched_words::running::{is_idle, must_rebalance, run_idle, run_thread, running};
 use sched_words::time::reset_time;
-use thread::{NONE, Thread};
+use thread::Thread;
 
 // The lent memory m, the context k and the wake-ups so far stand apart: m alone is changed, k is the same throughout, and the wake-ups are what is answered.
+// cur is the thread running as the word of its CPU says it, NONE for the idle thread: past the records, so that its record is read as a blank one, without a test.
 
 // Thread x runs on CPU us.
 #[tactic(auto, unfolding(crate::specs::Schedule::switch_to_def))]
@@ -24,7 +25,7 @@ pub fn switch_to(m: &mut Memory<'_>, us: u64, x: u64)
     ensures { Becomes (switch_to_def us x) m }
 {
     let u = m.thread(x).moving_to_active(us);
-    set(m.threads, x, u);
+    m.set_thread(x, u);
     run_thread(m.cpus, us, x, u);
 }
 
@@ -54,9 +55,10 @@ pub fn run_stolen(m: &mut Memory<'_>, us: u64, cur: u64, stolen: Option<u64>)
 pub fn idle_unless(cpus: &mut [CpuWords], us: u64, cur: u64)
     ensures { BecomesOne (idle_unless us cur) cpus }
 {
-    if cur != NONE {
-        run_idle(cpus, us);
+    if is_idle(cur) {
+        return;
     }
+    run_idle(cpus, us);
 }
 
 // The next thread of the own queue, else one that is stolen, else the idle thread.
@@ -91,8 +93,7 @@ pub fn reinserted(m: &mut Memory<'_>, k: Context, chosen: Option<u64>, x: u64, w
     }
 }
 
-// The deadline of thread x is set anew on CPU us, of slices lent apart. `reinsert` does the same in lines of its own: `cpus()` would lend the whole of its `Memory`, and of a
-// field that is lent to be read the check forgets the content.
+// The deadline of thread x is set anew on CPU us. Two slices, not a `Memory`: the type of `cpus` says that they stay.
 #[tactic(auto, unfolding(crate::specs::Schedule::reset_thread_time_def))]
 pub fn reset_thread_time(threads: &mut [Thread], cpus: &[CpuWords], k: Context, x: u64)
     ensures { BecomesOne (reset_thread_time_def k x cpus.now) threads }
@@ -113,8 +114,9 @@ pub fn reinsert(m: &mut Memory<'_>, k: Context, cur: u64, flags: SchedFlags, wak
     } else if flags.yields {
         schedule_thread_on_cpu(m, k, k.us, cur, wakeups)
     } else {
-        let u = reset_time(m.cpus(), k, k.us, t);
-        set(m.threads, cur, u);
+        // Not `m.cpus()`, which would lend the whole of `m` beside its threads.
+        let cpus = &mut *m.cpus;
+        reset_thread_time(m.threads, cpus, k, cur);
         return wakeups;
     };
     pick_next(m, k, cur);

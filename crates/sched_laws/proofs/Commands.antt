@@ -18,7 +18,7 @@ use Rattle.records.specs.Left.{mem}
 use Rattle.records.specs.Rq.{record_at}
 use Rattle.represents.specs.World.{Small, WorldRep, most_tick}
 use Rattle.represents.specs.Topology.{TopologyRep}
-use Rattle.represents.proofs.Laws.Topology.{number_is}
+use Rattle.rules.proofs.Laws.Places.{is_some_number}
 use Rattle.represents.proofs.Laws.NumberLists.{any_at}
 use Rattle.sched_words.specs.Choose.{select_for, selected_for}
 use Rattle.sched_words.specs.Preempt.{swapped}
@@ -36,7 +36,7 @@ use Rattle.sched_laws.proofs.Queues.{shows_scheduled, counts_scheduled}
 use Rattle.sched_laws.specs.Switch.{Settled, no_one, Ends}
 use Rattle.sched_laws.proofs.DoSchedule.{select_finds, select_shown, shows_selected}
 use Rattle.sched_laws.specs.Schedule.{flags_in, Leaves}
-use Rattle.sched_laws.proofs.Schedule.{shows_schedule}
+use Rattle.sched_laws.proofs.Schedule.{runs_known, shows_schedule}
 use Rattle.sched_laws.proofs.Frames.{select_wakeups, put_running, resched_running, hardtick_running}
 use Rattle.sched_laws.specs.Commands.{runs_somewhere}
 
@@ -67,14 +67,14 @@ pub settled_is : (limits : Limits) (active : ℕ → Bool) (w : World) → ((c x
 unfolding runs_somewhere
 settled_is limits active w near s x =
     both (any_below limits.cpus (λ c. is_number x (w.cpus c).running))
-    (λ e. e ∙ sym (any_at limits.cpus _ e (λ c h t. s.runs c x refl (number_is x (w.cpus c).running t))))
+    (λ e. e ∙ sym (any_at limits.cpus _ e (λ c h t. s.runs c x refl (is_some_number x (w.cpus c).running t))))
     (λ e. e ∙ sym (s.others x (λ c b r. true≢false (sym (is_number_of x (w.cpus c).running r) ∙ any_not limits.cpus _ e c (near c x r)))))
 
 pub settled_runs : (limits : Limits) (w : World) → ((c x : ℕ) → (w.cpus c).running ≡ Some x → c < limits.cpus) → Settled no_one (runs_somewhere limits w) w
 unfolding runs_somewhere
 settled_runs limits w near = record {
   runs = λ c x b r. both (any_below limits.cpus (λ d. is_number x (w.cpus d).running)) (λ e. e) (λ e. absurd (true≢false (sym (is_number_of x (w.cpus c).running r) ∙ any_not limits.cpus _ e c (near c x r))));
-  others = λ x h. both (any_below limits.cpus (λ d. is_number x (w.cpus d).running)) (λ e. absurd (any_at limits.cpus _ e (λ c l t. h c refl (number_is x (w.cpus c).running t)))) (λ e. e);
+  others = λ x h. both (any_below limits.cpus (λ d. is_number x (w.cpus d).running)) (λ e. absurd (any_at limits.cpus _ e (λ c l t. h c refl (is_some_number x (w.cpus c).running t)))) (λ e. e);
 }
 
 -- WHAT A COMMAND LEFT, with those active that run
@@ -93,7 +93,7 @@ module _ (limits : Limits) (topology : Topology) (tick us : ℕ) (known : ℕ �
     abbrev cleared : World
     cleared = with_cpu w us (with_preempt (w.cpus us) false)
 
-    obeyed : (w.cpus us).preempt ≡ true → Leaves limits topology known (schedule_def k preempting wakeups ns (mem ts (swapped cs us).cpus)) (sched.schedule limits topology tick us cleared (record { yield = false; preempt = true; again = true }))
+    obeyed : (w.cpus us).preempt ≡ true → Leaves limits topology known (schedule_def k preempting wakeups ns (mem ts (swapped us cs).memory)) (sched.schedule limits topology tick us cleared (record { yield = false; preempt = true; again = true }))
     unfolding flags_in with_cpu with_preempt
     obeyed e =
         shows_schedule limits topology tick us known numbered small early us_in H ns tree node put_on (shows_swapped limits topology tick us known numbered small early s us_in e)
@@ -109,14 +109,11 @@ module _ (limits : Limits) (topology : Topology) (tick us : ℕ) (known : ℕ �
         (record { ends = record { active = active; shows = s; settled = st }; counted = count }))
 
     -- 16: `schedule_resched`
-    runs_known : (x : ℕ) → (w.cpus us).running ≡ Some x → known x ≡ true
-    runs_known x e = (safe.runs us x e).1
-
     pub ends_resched : Ends limits topology known ts (schedule_resched_def us ts cs) (sched.schedule_resched limits topology tick us w)
     unfolding schedule_resched_def sched.schedule_resched
     ends_resched = record {
       active = active;
-      shows = unfold sched.schedule_resched in shows_resched limits topology tick us known numbered small early us_in s runs_known;
+      shows = unfold sched.schedule_resched in shows_resched limits topology tick us known numbered small early us_in s (runs_known safe us);
       settled = settled_same w _ (resched_running limits topology tick us w) st;
     }
 
@@ -124,7 +121,7 @@ module _ (limits : Limits) (topology : Topology) (tick us : ℕ) (known : ℕ �
     pub ends_hardtick : (w.cpus us).last_tick ≤ tick → Ends limits topology known (schedule_hardtick_def k (mem ts cs)).threads (schedule_hardtick_def k (mem ts cs)).cpus (sched.schedule_hardtick limits topology tick us w)
     ends_hardtick late = record {
       active = active;
-      shows = shows_schedule_hardtick limits topology tick us known numbered small early us_in s runs_known late;
+      shows = shows_schedule_hardtick limits topology tick us known numbered small early us_in s (runs_known safe us) late;
       settled = settled_same w _ (hardtick_running limits topology tick us w) st;
     }
 

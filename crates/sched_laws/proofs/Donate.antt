@@ -1,12 +1,12 @@
 -- DONATION (hex 18) over records and words; its removal (19) and the critical mark (1A) are in represents' Laws/Frames.antt.
 use Prim.Native.Nat.{ℕ, ◌≤◌, ◌<◌}
-use Rattle.std.specs.Prelude.{◌≡◌, refl, Bool, true, false, ◌&&◌, List, set, eqb, Option, None, Some}
+use Rattle.std.specs.Prelude.{◌≡◌, refl, Bool, true, ◌&&◌, List, set, eqb, Option, None, Some}
 use Rattle.std.proofs.Math.Path.{sym, ap, subst}
 use Rattle.std.proofs.Common.{◌∙◌}
 use Rattle.std.proofs.Math.Bool.{cond, not}
 use Rattle.rules.specs.declared.Priority.{Priority}
-use Rattle.rules.proofs.Laws.Line.{both}
-use Rattle.rules.specs.Priority.{nr_values, from_raw, less, donation_accepted}
+use Rattle.rules.proofs.Laws.Line.{both, of_either}
+use Rattle.rules.specs.Priority.{nr_values, from_raw, raw, less, donation_accepted}
 use Rattle.rules.specs.Times as times
 use Rattle.rules.specs.Times.{effective_priority, pinned, donated_to}
 use Rattle.rules.specs.State.{Limits, Topology}
@@ -15,6 +15,8 @@ use Rattle.rules.specs.Schedule.{World, with_thread, wakeup, is_empty}
 use Rattle.rules.proofs.Laws.Sound.{at_here}
 use Rattle.rules.specs.Waits.{Under}
 use Rattle.thread.specs.declared.Thread.{Thread}
+use Rattle.thread.specs.declared.priority.Donation.{Donation}
+use Rattle.thread.specs.Flags.{set_donated_priority}
 use Rattle.thread.specs.Thread.{NONE, with_donated}
 use Rattle.thread.specs.Reads.{reads, donated_in, cpu_in}
 use Rattle.thread.specs.Priority.{donate_priority, reads_donated}
@@ -31,17 +33,9 @@ use Rattle.sched_laws.proofs.Words.{shows_wakeup, signal_counts, same_at_work}
 -- ---- what a donation leaves of a record as it was
 
 module _ (t : Thread) (p : Priority) where
-  donated_next : (donate_priority t p).thread.next ≡ t.next
-  unfolding donate_priority with_donated
-  donated_next = both (donation_accepted (donated_in t) p) (λ e. rw e) (λ e. rw e)
-
-  donated_place : (donate_priority t p).thread.place ≡ t.place
-  unfolding donate_priority with_donated
-  donated_place = both (donation_accepted (donated_in t) p) (λ e. rw e) (λ e. rw e)
-
-  donated_queue : (donate_priority t p).thread.current_processor_queue ≡ t.current_processor_queue
-  unfolding donate_priority with_donated
-  donated_queue = both (donation_accepted (donated_in t) p) (λ e. rw e) (λ e. rw e)
+  donated_keeps : {A : Type 0} (f : Thread → A) → f (with_donated t (raw p) (set_donated_priority t.flags)) ≡ f t → f (donate_priority t p).thread ≡ f t
+  unfolding donate_priority
+  donated_keeps f e = of_either (λ (d : Donation). f d.thread ≡ f t) (donation_accepted (donated_in t) p) _ _ e refl
 
   -- it is accepted, and raises the thread
   donated_resched : (donate_priority t p).needs_resched ≡ (donation_accepted (reads t).donated p && less (effective_priority (reads t)) p)
@@ -51,10 +45,6 @@ module _ (t : Thread) (p : Priority) where
 queue_reads : (t : Thread) → (cpu_in t.current_processor_queue) ≡ (reads t).queue_cpu
 unfolding reads
 queue_reads t = refl
-
-cond_same : {A : Type 0} {B : Type 0} (f : A → B) (b : Bool) (a c : A) (d : B) → f a ≡ d → f c ≡ d → f (cond b a c) ≡ d
-cond_same f true a c d e g = e
-cond_same f false a c d e g = g
 
 module _ (limits : Limits) (topology : Topology) (tick us : ℕ) (known : ℕ → Bool) (numbered : (x : ℕ) → known x ≡ true → x < limits.threads) (small : Small limits)
     (early : tick ≤ most_tick) (us_in : us < limits.cpus) where
@@ -78,10 +68,10 @@ module _ (limits : Limits) (topology : Topology) (tick us : ℕ) (known : ℕ �
 
       first : WorldRep limits topology known active (set ts x (donate_priority r p).thread) cs (with_thread w x after)
       first =
-          shows_fields s x (donate_priority r p).thread after below donated_reads (donated_next r p) (donated_place r p)
-          (cond_same pinned accepted (donated_to u (Some p)) u (pinned u) (unfold donated_to pinned in refl) refl)
-          (cond_same (λ (t : times.Thread). t.stable.value) accepted (donated_to u (Some p)) u u.stable.value (unfold donated_to in refl) refl)
-          (subst (Under limits.cpus) (sym (cond_same (λ (t : times.Thread). t.queue_cpu) accepted (donated_to u (Some p)) u u.queue_cpu (unfold donated_to in refl) refl)) (s.queue_cpus x below))
+          shows_fields s x (donate_priority r p).thread after below donated_reads (donated_keeps r p (λ (q : Thread). q.next) (unfold with_donated in refl)) (donated_keeps r p (λ (q : Thread). q.place) (unfold with_donated in refl))
+          (of_either (λ (t : times.Thread). pinned t ≡ pinned u) accepted (donated_to u (Some p)) u (unfold donated_to pinned in refl) refl)
+          (of_either (λ (t : times.Thread). t.stable.value ≡ u.stable.value) accepted (donated_to u (Some p)) u (unfold donated_to in refl) refl)
+          (of_either (λ (t : times.Thread). Under limits.cpus t.queue_cpu) accepted (donated_to u (Some p)) u (unfold donated_to in s.queue_cpus x below) (s.queue_cpus x below))
 
       abbrev v : World
       v = with_thread w x (donated_to u (Some p))
@@ -131,7 +121,7 @@ module _ (limits : Limits) (topology : Topology) (tick us : ℕ) (known : ℕ �
         woken None None e h = count
 
         queue_is : (cpu_in t.current_processor_queue) ≡ u.queue_cpu
-        queue_is = ap (λ z. (cpu_in z)) (donated_queue r p) ∙ queue_reads r ∙ ap (λ (z : times.Thread). z.queue_cpu) (s.threads x below)
+        queue_is = donated_keeps r p (λ (q : Thread). cpu_in q.current_processor_queue) (unfold with_donated in refl) ∙ queue_reads r ∙ ap (λ (z : times.Thread). z.queue_cpu) (s.threads x below)
 
         raised : cond (less (effective_priority u) p) (cond (sched.same_cpu x (w.cpus us).running) wakeups (maybe_reschedule cs us t wakeups (cpu_in t.current_processor_queue))) wakeups
             ≡ (cond raises (sched.maybe_wakeup limits topology tick us v x u.queue_cpu) v).wakeups

@@ -43,10 +43,10 @@ module _ (limits : Limits) (topology : Topology) (tick us : ℕ) (known : ℕ �
     pays None e =
         let i : eqb (running_at cs us) NONE ≡ true = idle_at_work limits topology tick us known numbered small early s us us_in runs ∙ ap (λ (o : Option ℕ). not (is_some o)) e ∙ refl in
         rw i
-        (subst (λ (b : Bool). WorldRep limits topology known active ts (marked (idle_paid (hardtick_def us tick cs).memory us limits.shortest (hardtick_def us tick cs).answer).cpus us b)
+        (subst (λ (b : Bool). WorldRep limits topology known active ts (marked (idle_paid us limits.shortest (hardtick_def us tick cs).answer (hardtick_def us tick cs).memory).memory us b)
         (sched.mark_preempt limits topology tick us (sched.paid_by limits topology tick us w None (pay limits topology tick us known numbered small early us_in s runs late None).timeslice)
         (sched.needs_reschedule limits topology tick us w true || (pay limits topology tick us known numbered small early us_in s runs late None).expired)))
-        (sym (ap (λ (b : Bool). b || (idle_paid (hardtick_def us tick cs).memory us limits.shortest (hardtick_def us tick cs).answer).mark) needs
+        (sym (ap (λ (b : Bool). b || (idle_paid us limits.shortest (hardtick_def us tick cs).answer (hardtick_def us tick cs).memory).answer) needs
         ∙ ap (λ (b : Bool). sched.needs_reschedule limits topology tick us w true || b) (idle_expired limits topology tick us known numbered small early us_in s runs late)))
         (shows_marked limits topology tick us known numbered small early (shows_idle_paid limits topology tick us known numbered small early us_in s runs late) us_in _))
     pays (Some x) e =

@@ -1,22 +1,21 @@
 -- THREADS GO INTO QUEUES AND COME OUT OF THEM: puts on a CPU, takes for a CPU, steals.
-use Rattle.std.specs.Prelude.{ℕ, ◌≤◌, ◌<◌, refl, Bool, true, false, cond, not, List, [], ◌∷◌, set, eqb, Option, None, Some, is_none, unwrap_or}
+use Rattle.std.specs.Prelude.{ℕ, ◌≤◌, ◌<◌, refl, Bool, true, false, cond, not, List, set, eqb, Option, None, Some, is_none, unwrap_or}
 use Rattle.std.proofs.Math.Path.{◌≡◌, subst}
 use Rattle.std.proofs.Common.{sym, ap, arith}
-use Rattle.rules.proofs.Laws.Line.{both}
 use Rattle.rules.specs.Line.{Below}
 use Rattle.rules.specs.Times as times
 use Rattle.rules.specs.Puts.{PutOrTake}
 use Rattle.rules.specs.State.{at, Limits, Topology}
-use Rattle.rules.proofs.Laws.Steps.{join_in_all, cpus_in}
+use Rattle.rules.proofs.Laws.Steps.{join_in_all, cpus_in, first_in}
 use Rattle.rules.specs.Topology.{cpus_of, nearest, nearest_from}
-use Rattle.rules.specs.Choice.{first_that}
 use Rattle.rules.specs.Schedule as sched
 use Rattle.rules.specs.Schedule.{World, Got, with_thread}
 use Rattle.rules.specs.Waits.{Under}
 use Rattle.rules.proofs.Laws.Sound.{alike_queue, Same, same_thread_changed, sound_same, New, Sound, Taken, take_taken}
 use Rattle.thread.specs.Thread.{NONE}
 use Rattle.thread.specs.Time.{moving_to_queue}
-use Rattle.records.specs.Left.{Memory, Left}
+use Rattle.processor.specs.Left.{Left}
+use Rattle.records.specs.Left.{Memory}
 use Rattle.records.specs.Rq.{record_at, take_def}
 use Rattle.represents.specs.World.{Small, most_tick}
 use Rattle.represents.proofs.Laws.PutTake.{active_with, TakeShows, shows_take}
@@ -35,11 +34,6 @@ near_in : (limits : Limits) (topology : Topology) (o : Option ℕ) → Below lim
 unfolding nearest_from Below
 near_in limits topology None = tt
 near_in limits topology (Some m) = join_in_all limits.cpus (cpus_of limits topology) _ (cpus_in limits topology)
-
-first_in : (n : ℕ) (test : ℕ → Bool) (l : List ℕ) → Below n l → Under n (first_that test l)
-unfolding first_that Below Under
-first_in n test [] b = tt
-first_in n test (c ∷ l) b = both (test c) (λ e. rw e b.0) (λ e. rw e (first_in n test l b.1))
 
 -- ---- what a take answers
 

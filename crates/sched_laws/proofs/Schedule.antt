@@ -47,6 +47,10 @@ idle_is = refl
 some_is : (x : ℕ) → not (is_some (Some x)) ≡ false
 some_is x = refl
 
+-- a thread that runs is declared
+pub runs_known : {limits : Limits} {known : ℕ → Bool} {H : ℕ → List PutOrTake} {but : ℕ → Bool} {w : World} → Sound limits known H but w → (c x : ℕ) → (w.cpus c).running ≡ Some x → known x ≡ true
+runs_known safe c x e = (safe.runs c x e).1
+
 module _ (limits : Limits) (topology : Topology) (tick us : ℕ) (known : ℕ → Bool) (numbered : (x : ℕ) → known x ≡ true → x < limits.threads) (small : Small limits)
     (early : tick ≤ most_tick) (us_in : us < limits.cpus) (H : ℕ → List PutOrTake) (ns : List (List ℕ)) (tree : TopologyRep limits ns topology) (node : ℕ) (put_on : topology.placed us ≡ Some node) where
   abbrev k : Context
@@ -54,9 +58,6 @@ module _ (limits : Limits) (topology : Topology) (tick us : ℕ) (known : ℕ �
 
   module _ {active : ℕ → Bool} {ts : List Thread} {cs : List (List ℕ)} {w : World} (s : WorldRep limits topology known active ts cs w) (safe : Sound limits known H nobody_but w) (st : Settled no_one active w)
       (wakeups : ℕ) (count : wakeups ≡ w.wakeups) (few : w.wakeups < NONE) where
-    runs_known : (x : ℕ) → (w.cpus us).running ≡ Some x → known x ≡ true
-    runs_known x e = (safe.runs us x e).1
-
     -- the thread running, x, goes into the queue of CPU c, and the next is picked
     put_and_pick : (cs₁ : List (List ℕ)) (v : World) (c x : ℕ) → WorldRep limits topology known active ts cs₁ v → Same limits w v → v.wakeups ≡ w.wakeups → c < limits.cpus → (w.cpus us).running ≡ Some x
         → Leaves limits topology known (then_next_def k x ns (schedule_thread_on_cpu_def k c x wakeups (mem ts cs₁))) (sched.pick_next limits topology tick us (sched.schedule_thread_on_cpu limits topology tick us v c x))
@@ -80,22 +81,22 @@ module _ (limits : Limits) (topology : Topology) (tick us : ℕ) (known : ℕ �
 
     module _ (x : ℕ) (r : (w.cpus us).running ≡ Some x) where
       below : x < limits.threads
-      below = numbered x (runs_known x r)
+      below = numbered x (runs_known safe us x r)
 
       abbrev at_queue : Got
       at_queue = sched.reinsert_at limits topology tick us w x
 
       must : must_rebalance_def cs us ≡ (w.cpus us).must_rebalance
-      must = must_rebalance_shown limits topology tick us known numbered small early s us us_in runs_known
+      must = must_rebalance_shown limits topology tick us known numbered small early s us us_in (runs_known safe us)
 
-      reinsert_chosen : (reinsert_at_def cs ns us limits.cpus (record_at ts x)).chosen ≡ at_queue.got
+      reinsert_chosen : (reinsert_at_def ns us limits.cpus (record_at ts x) cs).answer ≡ at_queue.got
       unfolding reinsert_at_def sched.reinsert_at
       reinsert_chosen =
           both (w.cpus us).must_rebalance
           (λ e. rw (must ∙ e, e) (select_shown limits topology tick us known numbered small early us_in H ns tree node put_on s safe x below (Some us) ∙ ap (λ (o : Option ℕ). (sched.select_cpu limits topology tick us w x o).got) named_some))
           (λ e. rw (must ∙ e, e) refl)
 
-      reinsert_shown : WorldRep limits topology known active ts (reinsert_at_def cs ns us limits.cpus (record_at ts x)).cpus at_queue.world
+      reinsert_shown : WorldRep limits topology known active ts (reinsert_at_def ns us limits.cpus (record_at ts x) cs).memory at_queue.world
       unfolding reinsert_at_def sched.reinsert_at
       reinsert_shown =
           both (w.cpus us).must_rebalance
@@ -123,17 +124,17 @@ module _ (limits : Limits) (topology : Topology) (tick us : ℕ) (known : ℕ �
       -- `reinsert`, once it has to move
       moves : (o : Option ℕ) → at_queue.got ≡ o → is_some o ≡ true → Under limits.cpus o
           → Leaves limits topology known
-          (then_next_def k x ns (reinserted_def k o x wakeups (mem ts (reinsert_at_def cs ns us limits.cpus (record_at ts x)).cpus)))
+          (then_next_def k x ns (reinserted_def k o x wakeups (mem ts (reinsert_at_def ns us limits.cpus (record_at ts x) cs).memory)))
           (sched.pick_next limits topology tick us (sched.reinserted limits topology tick us at_queue.world x o))
       unfolding Under sched.reinserted reinserted_def
       moves None e i u = absurd (false≢true i)
-      moves (Some c) e i u = put_and_pick (reinsert_at_def cs ns us limits.cpus (record_at ts x)).cpus at_queue.world c x reinsert_shown reinsert_selected.same reinsert_wakeups u r
+      moves (Some c) e i u = put_and_pick (reinsert_at_def ns us limits.cpus (record_at ts x) cs).memory at_queue.world c x reinsert_shown reinsert_selected.same reinsert_wakeups u r
 
       moves_shown : Leaves limits topology known
-          (then_next_def k x ns (reinserted_def k (reinsert_at_def cs ns us limits.cpus (record_at ts x)).chosen x wakeups (mem ts (reinsert_at_def cs ns us limits.cpus (record_at ts x)).cpus)))
+          (then_next_def k x ns (reinserted_def k (reinsert_at_def ns us limits.cpus (record_at ts x) cs).answer x wakeups (mem ts (reinsert_at_def ns us limits.cpus (record_at ts x) cs).memory)))
           (sched.pick_next limits topology tick us (sched.reinserted limits topology tick us at_queue.world x at_queue.got))
       moves_shown =
-          subst (λ (o : Option ℕ). Leaves limits topology known (then_next_def k x ns (reinserted_def k o x wakeups (mem ts (reinsert_at_def cs ns us limits.cpus (record_at ts x)).cpus)))
+          subst (λ (o : Option ℕ). Leaves limits topology known (then_next_def k x ns (reinserted_def k o x wakeups (mem ts (reinsert_at_def ns us limits.cpus (record_at ts x) cs).memory)))
           (sched.pick_next limits topology tick us (sched.reinserted limits topology tick us at_queue.world x at_queue.got))) (sym reinsert_chosen)
           (moves at_queue.got refl reinsert_finds reinsert_selected.under)
 
@@ -142,7 +143,7 @@ module _ (limits : Limits) (topology : Topology) (tick us : ℕ) (known : ℕ �
       must_move f =
           ap (λ (b : Bool). f.preempt || (b || rq_has_higher cs us (record_at ts x) f.yields)) must
           ∙ ap (λ (b : Bool). f.preempt || ((w.cpus us).must_rebalance || b))
-          (higher_shown limits topology tick us known numbered small early s us us_in runs_known (record_at ts x) _ f.yields (ap effective_priority (s.threads x below)))
+          (higher_shown limits topology tick us known numbered small early s us us_in (runs_known safe us) (record_at ts x) _ f.yields (ap effective_priority (s.threads x below)))
 
       -- its deadline is set anew
       reset_leaves : Leaves limits topology known (record { answer = wakeups; memory = mem (reset_thread_time_def k x cs ts) cs }) (sched.reset_thread_time limits topology tick us w us x)
@@ -172,7 +173,7 @@ module _ (limits : Limits) (topology : Topology) (tick us : ℕ) (known : ℕ �
 
     idle_picks : (w.cpus us).running ≡ None → Leaves limits topology known (record { answer = wakeups; memory = pick_next_def k (running_at cs us) ns (mem ts cs) }) (sched.pick_next limits topology tick us w)
     idle_picks e = record {
-      ends = subst (Picked ts) (sym (running_is limits topology tick us known numbered small early s us us_in runs_known))
+      ends = subst (Picked ts) (sym (running_is limits topology tick us known numbered small early s us us_in (runs_known safe us)))
           (shows_picked limits topology tick us known numbered small early us_in H ns tree node put_on
           (record {
             runs = λ c y b q. st.runs c y refl q;
@@ -188,7 +189,7 @@ module _ (limits : Limits) (topology : Topology) (tick us : ℕ) (known : ℕ �
     block_picks x r = record {
       ends = subst (Picked (block_def x ts)) (ap number_or_none r ∙ some_number x)
           (shows_picked limits topology tick us known numbered small early us_in H ns tree node put_on (unsettle us x active w w r safe.one (λ c. refl) st)
-          (shows_blocked limits topology tick us known numbered small early us_in H ns tree node put_on s x (runs_known x r) (safe.free us x (unfold nobody_but in refl) r))
+          (shows_blocked limits topology tick us known numbered small early us_in H ns tree node put_on s x (runs_known safe us x r) (safe.free us x (unfold nobody_but in refl) r))
           (weaker limits topology tick us known numbered H us_in w safe));
       counted = count ∙ sym (pick_wakeups limits topology tick us w);
     }
@@ -201,10 +202,10 @@ module _ (limits : Limits) (topology : Topology) (tick us : ℕ) (known : ℕ �
 
     do_schedules : (f : SchedFlags) (o : Option ℕ) → (w.cpus us).running ≡ o → Leaves limits topology known (do_schedule_def k f wakeups ns (mem ts cs)) (sched.do_schedule_of limits topology tick us w o (flags_in f))
     unfolding do_schedule_def sched.do_schedule_of context flags_in
-    do_schedules f None e = rw (idle_at_work limits topology tick us known numbered small early s us us_in runs_known ∙ ap (λ (o : Option ℕ). not (is_some o)) e ∙ idle_is) (idle_picks e)
+    do_schedules f None e = rw (idle_at_work limits topology tick us known numbered small early s us us_in (runs_known safe us) ∙ ap (λ (o : Option ℕ). not (is_some o)) e ∙ idle_is) (idle_picks e)
     do_schedules f (Some x) e =
-        let n : running_at cs us ≡ x = running_is limits topology tick us known numbered small early s us us_in runs_known ∙ ap number_or_none e ∙ some_number x in
-        rw (idle_at_work limits topology tick us known numbered small early s us us_in runs_known ∙ ap (λ (o : Option ℕ). not (is_some o)) e ∙ some_is x, n)
+        let n : running_at cs us ≡ x = running_is limits topology tick us known numbered small early s us us_in (runs_known safe us) ∙ ap number_or_none e ∙ some_number x in
+        rw (idle_at_work limits topology tick us known numbered small early s us us_in (runs_known safe us) ∙ ap (λ (o : Option ℕ). not (is_some o)) e ∙ some_is x, n)
         (goes_on f x e f.reinsert)
 
     -- SCHEDULE: "with a critical thread running it changes nothing"
@@ -212,5 +213,5 @@ module _ (limits : Limits) (topology : Topology) (tick us : ℕ) (known : ℕ �
     unfolding schedule_def sched.schedule sched.do_schedule context
     shows_schedule f =
         both (sched.critical_running w (w.cpus us).running)
-        (λ e. rw (critical_at_work limits topology tick us known numbered small early s us us_in runs_known ∙ e, e) (record { ends = record { active = active; shows = s; settled = st }; counted = count }))
-        (λ e. rw (critical_at_work limits topology tick us known numbered small early s us us_in runs_known ∙ e, e) (do_schedules f (w.cpus us).running refl))
+        (λ e. rw (critical_at_work limits topology tick us known numbered small early s us us_in (runs_known safe us) ∙ e, e) (record { ends = record { active = active; shows = s; settled = st }; counted = count }))
+        (λ e. rw (critical_at_work limits topology tick us known numbered small early s us us_in (runs_known safe us) ∙ e, e) (do_schedules f (w.cpus us).running refl))

@@ -1,15 +1,15 @@
 -- ONCE SEALED, EVERY DECLARED CPU IS ON A NODE, whatever calls are made.
-use Rattle.std.specs.Prelude.{ℕ, ◌<◌, ◌≡◌, true, false, not, List, [], ◌∷◌, ◌++◌, eqb, Option, None, Some, is_some}
-use Rattle.std.proofs.Common.{sym, ◌∙◌, true≢false, eqb-true, lt-ltb}
+use Rattle.std.specs.Prelude.{ℕ, ◌<◌, ◌≡◌, true, false, not, List, [], ◌∷◌, ◌++◌, Option, None, Some, is_some}
+use Rattle.std.proofs.Common.{sym, ◌∙◌, true≢false, lt-ltb}
 use Rattle.std.proofs.lemmas.Bool.{false≢true, not-true}
-use Rattle.rules.proofs.Laws.Line.{both}
 use Rattle.rules.specs.State.{Limits, State, start}
 use Rattle.rules.specs.Schedule.{World}
-use Rattle.rules.specs.Requests.{Request, declare_cpu, add_node, place_cpu, seal, set_shortest, declare_thread, set_tick, schedule_thread, schedule, hardtick, stattick, resched, maybe_preempt, donate, remove_donation, set_critical, Reading, unknown, cut_short, asks, read}
-use Rattle.rules.specs.Questions.{Question, question, open_yet, placed, all_placed, declared, concerning, first_no, room, refusal}
+use Rattle.rules.specs.Requests.{Request, declare_cpu, add_node, place_cpu, seal, set_shortest, declare_thread, set_tick, schedule_thread, schedule, hardtick, stattick, resched, maybe_preempt, donate, remove_donation, set_critical, Reading, read}
+use Rattle.rules.specs.Questions.{Question, question, open_yet, placed, all_placed, declared, concerning, first_no, room}
 use Rattle.rules.proofs.Seal.{question_9}
+use Rattle.rules.proofs.Laws.Answered.{kept_by_answer, kept_by_calls}
 use Rattle.rules.proofs.Laws.Reached.{yes}
-use Rattle.rules.specs.Commands.{refuses, changed, ran, ran_on, schedules, scheduled_on, obeys, answered, step, after_calls}
+use Rattle.rules.specs.Commands.{changed, ran, ran_on, schedules, scheduled_on, obeys, step, after_calls, answered}
 use Rattle.sched_laws.specs.Sealed.{Sealed}
 
 pub sealed_start : (limits : Limits) → Sealed (start limits)
@@ -54,16 +54,11 @@ module _ (s : State) (k : Sealed s) where
   goes (set_critical x m) e = record { on_node = k.on_node }
 
   sealed_answered : (q : Reading) → Sealed (answered s q).state
-  unfolding answered refuses refusal
-  sealed_answered unknown = k
-  sealed_answered cut_short = k
-  sealed_answered (asks r used) = both (eqb (first_no (concerning s r ++ (room s ∷ []))) 0) (λ e. rw e (goes r (eqb-true _ 0 e))) (λ e. rw e k)
+  sealed_answered q = kept_by_answer Sealed s q k goes
 
   pub sealed_step : (bytes : List ℕ) → Sealed (step s bytes).state
   unfolding step
   sealed_step bytes = sealed_answered (read s.limits bytes)
 
 pub sealed_calls : (s : State) (calls : List (List ℕ)) → Sealed s → Sealed (after_calls s calls)
-unfolding after_calls
-sealed_calls s [] k = k
-sealed_calls s (bytes ∷ calls) k = sealed_calls (step s bytes).state calls (sealed_step s k bytes)
+sealed_calls s calls k = kept_by_calls Sealed (λ v bytes h. sealed_step v h bytes) s calls k

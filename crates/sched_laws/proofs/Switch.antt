@@ -3,13 +3,14 @@ use Rattle.std.specs.Prelude.{ℕ, ◌≤◌, ◌<◌, ◌≡◌, ◌≢◌, Boo
 use Rattle.std.proofs.Math.Path.{refl, ap, subst}
 use Rattle.std.proofs.Common.{sym, ◌∙◌, eqb-true, eq-eqb, ne_eqb, arith}
 use Rattle.std.proofs.Math.Bool.{false}
-use Rattle.std.proofs.lemmas.Bool.{false≢true, eqb-false}
+use Rattle.std.proofs.lemmas.Bool.{eqb-false}
 use Rattle.rules.proofs.Laws.Line.{both}
 use Rattle.rules.specs.Puts.{PutOrTake}
 use Rattle.rules.specs.State.{at, Limits, Topology, Cpu}
 use Rattle.rules.specs.Schedule as sched
 use Rattle.rules.specs.Schedule.{World, Got, with_cpu, with_thread, with_running}
 use Rattle.rules.proofs.Laws.Sound.{at_here, at_there, Sound, Taken, take_taken}
+use Rattle.rules.proofs.Laws.Steps.{same_cpu_is}
 use Rattle.thread.specs.declared.Thread.{Thread}
 use Rattle.thread.specs.Thread.{NONE}
 use Rattle.records.specs.Rq.{take_def}
@@ -18,7 +19,8 @@ use Rattle.represents.proofs.Laws.PutTake.{active_with, TakeShows, shows_take}
 use Rattle.represents.specs.Topology.{TopologyRep}
 use Rattle.sched_words.specs.Running.{ran_idle_def}
 use Rattle.sched_words.specs.declared.context.Context.{Context}
-use Rattle.records.specs.Left.{mem, Memory, Left}
+use Rattle.processor.specs.Left.{Left}
+use Rattle.records.specs.Left.{mem, Memory}
 use Rattle.sched_queues.specs.Queues.{try_steal_def}
 use Rattle.sched.specs.Schedule.{switch_to_def, run_taken_def, idle_unless, run_stolen_def, pick_stolen, pick_taken, pick_next_def}
 use Rattle.sched_laws.proofs.Words.{shows_ran_idle, shows_switched}
@@ -82,11 +84,6 @@ no_number = refl
 pub some_number : (x : ℕ) → number_or_none (Some x) ≡ x
 unfolding number_or_none
 some_number x = refl
-
-same_is : (y : ℕ) (o : Option ℕ) → sched.same_cpu y o ≡ true → o ≡ Some y
-unfolding sched.same_cpu
-same_is y None e = absurd (false≢true e)
-same_is y (Some z) e = ap Some (eqb-true z y e)
 
 module _ (limits : Limits) (topology : Topology) (tick us : ℕ) (known : ℕ → Bool) (numbered : (x : ℕ) → known x ≡ true → x < limits.threads) (small : Small limits)
     (early : tick ≤ most_tick) (us_in : us < limits.cpus) (H : ℕ → List PutOrTake) (ns : List (List ℕ)) (tree : TopologyRep limits ns topology) (node : ℕ) (put_on : topology.placed us ≡ Some node) where
@@ -153,7 +150,7 @@ module _ (limits : Limits) (topology : Topology) (tick us : ℕ) (known : ℕ �
           subst (λ (m : Memory). Picked m (cond (sched.same_cpu y cur) v (sched.switch_to limits topology tick us v (Some y))))
           (sym (picked_some ns k (number_or_none cur) y D T.answer))
           (both (sched.same_cpu y cur)
-          (λ e. rw (same_thread y cur yn, e) (record { active = at active y true; shows = T.left; settled = settle us active w v (Some y) (t.running us ∙ r ∙ same_is y cur e) (λ c n. t.running c) st }))
+          (λ e. rw (same_thread y cur yn, e) (record { active = at active y true; shows = T.left; settled = settle us active w v (Some y) (t.running us ∙ r ∙ same_cpu_is y cur e) (λ c n. t.running c) st }))
           (λ e. rw (same_thread y cur yn, e) (to_thread D.memory.threads D.memory.cpus v y (t.handed_known y refl) t.running T.left)))
       own D None cur v r t T l =
           let g : Got = sched.try_steal limits topology tick us v in

@@ -1,17 +1,18 @@
 -- NO CPU'S LAST HARD TICK IS PAST THE TICK, whatever calls are made.
-use Rattle.std.specs.Prelude.{ℕ, ◌^◌, ◌≤◌, ◌≡◌, Bool, true, false, cond, ◌&&◌, ◌||◌, List, [], ◌∷◌, ◌++◌, eqb, ltb, leb, Option, None, Some}
+use Rattle.std.specs.Prelude.{ℕ, ◌^◌, ◌≤◌, ◌≡◌, Bool, ◌&&◌, ◌||◌, List, [], ◌∷◌, ◌++◌, eqb, ltb, leb, Option, None, Some}
 use Rattle.std.proofs.Math.Path.{refl}
-use Rattle.std.proofs.Common.{◌∙◌, eqb-true, leb-true, arith}
-use Rattle.rules.proofs.Laws.Line.{both}
+use Rattle.std.proofs.Common.{◌∙◌, leb-true, arith}
+use Rattle.std.specs.Cmp.{first_so}
+use Rattle.rules.proofs.Laws.Line.{both, of_either}
 use Rattle.rules.specs.State.{at, Limits, Topology, Cpu, new_cpu, State, start}
 use Rattle.rules.specs.Schedule as sched
 use Rattle.rules.specs.Schedule.{World, Flags, with_cpu, with_thread, with_queue, with_draws, with_preempt, with_rebalance_time, with_ticks}
 use Rattle.rules.proofs.Laws.Sound.{at_keeps}
-use Rattle.rules.specs.Requests.{Request, declare_cpu, add_node, place_cpu, seal, set_shortest, declare_thread, set_tick, schedule_thread, schedule, hardtick, stattick, resched, maybe_preempt, donate, remove_donation, set_critical, Reading, unknown, cut_short, asks, read, flags_of}
-use Rattle.rules.specs.Questions.{Question, sealed_now, tick_fits, concerning, first_no, room, refusal}
-use Rattle.rules.specs.Commands.{Answer, world_of, refuses, changed, shortened, ran, ran_on, schedules, scheduled_on, obeys, answered, step, after_calls}
+use Rattle.rules.specs.Requests.{Request, declare_cpu, add_node, place_cpu, seal, set_shortest, declare_thread, set_tick, schedule_thread, schedule, hardtick, stattick, resched, maybe_preempt, donate, remove_donation, set_critical, flags_of, Reading, read}
+use Rattle.rules.specs.Questions.{Question, sealed_now, tick_fits, concerning, first_no, room}
+use Rattle.rules.specs.Commands.{Answer, world_of, changed, shortened, ran, ran_on, schedules, scheduled_on, obeys, step, after_calls, answered}
+use Rattle.rules.proofs.Laws.Answered.{kept_by_answer, kept_by_calls}
 use Rattle.rules.proofs.Laws.Reached.{yes}
-use Rattle.rules.proofs.Laws.Effect.{and_left}
 use Rattle.sched_laws.proofs.Frames.{put_last, pick_last, select_last, balance_last, donate_last, mark_last}
 use Rattle.sched_laws.specs.TickBound.{TickBound}
 
@@ -22,10 +23,6 @@ module _ (limits : Limits) (topology : Topology) (tick us : ℕ) where
 
   abbrev tick_of : Cpu → ℕ
   tick_of p = p.last_tick
-
-  if_same : (w a b : World) (t : Bool) → Same w a → Same w b → Same w (cond t a b)
-  if_same w a b true f g = f
-  if_same w a b false f g = g
 
   at_same : (w : World) (x : ℕ) → Same w (sched.reinsert_at limits topology tick us w x).world
   unfolding sched.reinsert_at
@@ -43,25 +40,25 @@ module _ (limits : Limits) (topology : Topology) (tick us : ℕ) where
   reinsert_same : (w : World) (x : ℕ) (y p : Bool) → Same w (sched.reinsert limits topology tick us w x y p)
   unfolding sched.reinsert
   reinsert_same w x y p c =
-      if_same w _ _ (p || ((w.cpus us).must_rebalance || sched.has_higher limits topology tick us w x y)) (λ d. pick_last limits topology tick us _ d ∙ reinserted_same _ x _ d ∙ at_same w x d)
-      (λ d. if_same w _ _ y (λ e. pick_last limits topology tick us _ e ∙ put_last limits topology tick us w us x e) (reset_same w us x) d) c
+      of_either (Same w) (p || ((w.cpus us).must_rebalance || sched.has_higher limits topology tick us w x y)) _ _ (λ d. pick_last limits topology tick us _ d ∙ reinserted_same _ x _ d ∙ at_same w x d)
+      (λ d. of_either (Same w) y _ _ (λ e. pick_last limits topology tick us _ e ∙ put_last limits topology tick us w us x e) (reset_same w us x) d) c
 
   of_same : (w : World) (o : Option ℕ) (f : Flags) → Same w (sched.do_schedule_of limits topology tick us w o f)
   unfolding sched.do_schedule_of
   of_same w None f c = pick_last limits topology tick us w c
-  of_same w (Some x) f c = if_same w _ _ f.again (reinsert_same w x f.yield f.preempt) (pick_last limits topology tick us w) c
+  of_same w (Some x) f c = of_either (Same w) f.again _ _ (reinsert_same w x f.yield f.preempt) (pick_last limits topology tick us w) c
 
   pub schedule_same : (w : World) (f : Flags) → Same w (sched.schedule limits topology tick us w f)
   unfolding sched.schedule sched.do_schedule
-  schedule_same w f c = if_same w w _ (sched.critical_running w (w.cpus us).running) (λ d. refl) (of_same w _ f) c
+  schedule_same w f c = of_either (Same w) (sched.critical_running w (w.cpus us).running) w _ (λ d. refl) (of_same w _ f) c
 
   pub preempt_same : (w : World) → Same w (sched.schedule_maybe_preempt limits topology tick us w)
   unfolding sched.schedule_maybe_preempt with_cpu with_preempt
-  preempt_same w c = if_same w _ w (w.cpus us).preempt (λ d. schedule_same _ _ d ∙ at_keeps tick_of w.cpus us _ refl d) (λ d. refl) c
+  preempt_same w c = of_either (Same w) (w.cpus us).preempt _ w (λ d. schedule_same _ _ d ∙ at_keeps tick_of w.cpus us _ refl d) (λ d. refl) c
 
   pub stattick_same : (w : World) (n : ℕ) → Same w (sched.schedule_stattick limits topology tick us w n)
   unfolding sched.schedule_stattick sched.clock sched.maybe_rebalance with_cpu with_queue with_rebalance_time with_draws
-  stattick_same w n c = at_keeps tick_of _ us _ refl c ∙ if_same w _ w (eqb us 0) (λ d. if_same w _ _ (ltb (w.cpus us).rebalance_time n) (λ e. balance_last limits topology tick us _ e ∙ at_keeps tick_of w.cpus us _ refl e) (at_keeps tick_of w.cpus us _ refl) d) (λ d. refl) c
+  stattick_same w n c = at_keeps tick_of _ us _ refl c ∙ of_either (Same w) (eqb us 0) _ w (λ d. of_either (Same w) (ltb (w.cpus us).rebalance_time n) _ _ (λ e. balance_last limits topology tick us _ e ∙ at_keeps tick_of w.cpus us _ refl e) (at_keeps tick_of w.cpus us _ refl) d) (λ d. refl) c
 
   -- a hard tick sets it to the tick
   paid_late : (w : World) (o : Option ℕ) (n : ℕ) → ((c : ℕ) → (w.cpus c).last_tick ≤ tick) → (c : ℕ) → ((sched.paid_by limits topology tick us w o n).cpus c).last_tick ≤ tick
@@ -81,7 +78,7 @@ module _ (limits : Limits) (topology : Topology) (tick us : ℕ) where
 
 tick_grows : (s : State) (t : ℕ) (l : List Question) → first_no (sealed_now s ∷ tick_fits s t ∷ l) ≡ 0 → s.tick ≤ t
 unfolding sealed_now tick_fits
-tick_grows s t l e = leb-true s.tick t (and_left _ _ (yes 7 (leb s.tick t && leb t (2 ^ 62)) l (yes 2 s.sealed (tick_fits s t ∷ l) e).1).0)
+tick_grows s t l e = leb-true s.tick t (first_so _ _ (yes 7 (leb s.tick t && leb t (2 ^ 62)) l (yes 2 s.sealed (tick_fits s t ∷ l) e).1).0)
 
 pub late_start : (limits : Limits) → TickBound (start limits)
 unfolding start new_cpu
@@ -117,16 +114,11 @@ module _ (s : State) (k : TickBound s) where
   goes (set_critical x m) e = record { last = k.last }
 
   late_answered : (q : Reading) → TickBound (answered s q).state
-  unfolding answered refuses refusal
-  late_answered unknown = k
-  late_answered cut_short = k
-  late_answered (asks r used) = both (eqb (first_no (concerning s r ++ (room s ∷ []))) 0) (λ e. rw e (goes r (eqb-true _ 0 e))) (λ e. rw e k)
+  late_answered q = kept_by_answer TickBound s q k goes
 
   pub late_step : (bytes : List ℕ) → TickBound (step s bytes).state
   unfolding step
   late_step bytes = late_answered (read s.limits bytes)
 
 pub late_calls : (s : State) (calls : List (List ℕ)) → TickBound s → TickBound (after_calls s calls)
-unfolding after_calls
-late_calls s [] k = k
-late_calls s (bytes ∷ calls) k = late_calls (step s bytes).state calls (late_step s k bytes)
+late_calls s calls k = kept_by_calls TickBound (λ v bytes h. late_step v h bytes) s calls k

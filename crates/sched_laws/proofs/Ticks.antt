@@ -6,18 +6,19 @@ use Rattle.std.proofs.Common.{◌∙◌, true≢false, arith}
 use Rattle.std.proofs.Math.Bool.{false, not}
 use Rattle.std.proofs.lemmas.Bool.{false≢true}
 use Rattle.std.proofs.Math.Dec.{eqb, ltb}
-use Rattle.rules.proofs.Laws.Line.{both}
+use Rattle.rules.proofs.Laws.Line.{both, of_either}
 use Rattle.rules.specs.declared.Priority.{Priority}
 use Rattle.rules.specs.Priority.{effective}
 use Rattle.rules.specs.Draw.{next_state, draw}
 use Rattle.rules.specs.Times as times
-use Rattle.rules.specs.Times.{timeslice, effective_priority, pinned, paid_to, Paid}
+use Rattle.rules.specs.Times.{timeslice, effective_priority, pinned, paid_to}
 use Rattle.rules.specs.Queue.{timeshare_load}
 use Rattle.rules.specs.State.{Limits, Topology, Cpu, idle_priority, new_thread}
 use Rattle.rules.specs.Schedule as sched
 use Rattle.rules.specs.Schedule.{World, with_cpu, with_ticks, with_draws, with_rebalance_time, priority_running}
 use Rattle.rules.proofs.Laws.Sound.{at_here}
 use Rattle.thread.specs.declared.Thread.{Thread}
+use Rattle.thread.specs.declared.time.Paid.{Paid}
 use Rattle.thread.specs.Thread.{blank, with_timeslice}
 use Rattle.thread.specs.Reads.{reads, donated_in}
 use Rattle.thread.specs.Place.{reads_blank}
@@ -25,7 +26,7 @@ use Rattle.thread.specs.Time.{pay_ticks, reads_pay_ticks, expired_pay_ticks}
 use Rattle.processor.specs.Words.{word, put_word}
 use Rattle.processor.specs.Queue.{queue_at}
 use Rattle.processor.specs.Word.{RAND_STATE, CUR_REBALANCE_TIME}
-use Rattle.records.specs.Left.{Words, Left}
+use Rattle.processor.specs.Left.{Words, Left}
 use Rattle.records.specs.Rq.{record_at, hardtick_def}
 use Rattle.represents.specs.World.{Small, WorldRep, most_tick}
 use Rattle.represents.proofs.Laws.Frames.{shows_alike, shows_fields, shows_idle_timeslice, shows_draws, shows_rebalance_time, at_again}
@@ -57,13 +58,9 @@ blank_priority : effective_priority (reads blank) ≡ idle_priority
 unfolding effective_priority effective new_thread
 blank_priority = ap effective_priority reads_blank
 
-paid_next : (t : Thread) (ticks allowed : ℕ) → (pay_ticks t ticks allowed).thread.next ≡ t.next
-unfolding pay_ticks with_timeslice
-paid_next t ticks allowed = both (leb allowed (t.timeslice + ticks)) (λ e. rw e) (λ e. rw e)
-
-paid_place : (t : Thread) (ticks allowed : ℕ) → (pay_ticks t ticks allowed).thread.place ≡ t.place
-unfolding pay_ticks with_timeslice
-paid_place t ticks allowed = both (leb allowed (t.timeslice + ticks)) (λ e. rw e) (λ e. rw e)
+paid_keeps : {A : Type 0} (f : Thread → A) (t : Thread) (ticks allowed : ℕ) → ((n : ℕ) → f (with_timeslice t n) ≡ f t) → f (pay_ticks t ticks allowed).thread ≡ f t
+unfolding pay_ticks
+paid_keeps f t ticks allowed e = of_either (λ (p : Paid). f p.thread ≡ f t) (leb allowed (t.timeslice + ticks)) _ _ (e _) (e _)
 
 slice_reads : (t : Thread) → t.timeslice ≡ (reads t).timeslice
 unfolding reads
@@ -130,7 +127,7 @@ module _ (limits : Limits) (topology : Topology) (tick us : ℕ) (known : ℕ �
       unfolding idle_payer with_timeslice sched.paid_so_far
       payer_paid = (s1.words us us_in).idle_timeslice ∙ ap (λ (p : Cpu). p.idle_timeslice) (cpu_here w us _) ∙ (unfold with_ticks in refl)
 
-      pub shows_idle_paid : WorldRep limits topology known active ts (idle_paid hard.memory us limits.shortest hard.answer).cpus (sched.paid_by limits topology tick us w None (pay None).timeslice)
+      pub shows_idle_paid : WorldRep limits topology known active ts (idle_paid us limits.shortest hard.answer hard.memory).memory (sched.paid_by limits topology tick us w None (pay None).timeslice)
       unfolding idle_paid sched.paid_by with_cpu
       shows_idle_paid =
           let n : ℕ = (pay_ticks (idle_payer hard.memory us) hard.answer (allowed_at hard.memory us limits.shortest (idle_payer hard.memory us))).thread.timeslice in
@@ -139,7 +136,7 @@ module _ (limits : Limits) (topology : Topology) (tick us : ℕ) (known : ℕ �
           (λ c. sym (cpu_twice w us _ _ c ∙ ap (λ (q : Cpu). (with_cpu w us q).cpus c) (ap (λ (q : Cpu). with_ticks q q.last_tick n) (cpu_here w us _) ∙ ticked_twice (w.cpus us) tick (w.cpus us).idle_timeslice n ∙ ap (with_ticks (w.cpus us) tick) e))) (λ x. refl)
           (shows_idle_timeslice s1 us us_in n)
 
-      pub idle_expired : (idle_paid hard.memory us limits.shortest hard.answer).mark ≡ (pay None).expired
+      pub idle_expired : (idle_paid us limits.shortest hard.answer hard.memory).answer ≡ (pay None).expired
       unfolding idle_paid
       idle_expired = expired_pay_ticks _ _ _ ∙ ap (λ (q : times.Paid). q.expired) (pay_shown (idle_payer hard.memory us) None payer_priority payer_paid)
 
@@ -166,7 +163,7 @@ module _ (limits : Limits) (topology : Topology) (tick us : ℕ) (known : ℕ �
 
         pub shows_paid : WorldRep limits topology known active (set ts x paid) hard.memory (sched.paid_by limits topology tick us w (Some x) (pay (Some x)).timeslice)
         unfolding sched.paid_by paid_to pinned with_cpu
-        shows_paid = shows_fields s1 x paid _ in_records_x paid_reads (paid_next r _ _) (paid_place r _ _) refl refl (s.queue_cpus x in_records_x)
+        shows_paid = shows_fields s1 x paid _ in_records_x paid_reads (paid_keeps (λ (t : Thread). t.next) r _ _ (λ n. unfold with_timeslice in refl)) (paid_keeps (λ (t : Thread). t.place) r _ _ (λ n. unfold with_timeslice in refl)) refl refl (s.queue_cpus x in_records_x)
 
         pub expired_of : (pay_ticks r hard.answer (allowed_at hard.memory us limits.shortest r)).expired ≡ (pay (Some x)).expired
         expired_of = expired_pay_ticks r _ _ ∙ ap (λ (q : times.Paid). q.expired) pay_of
@@ -174,16 +171,16 @@ module _ (limits : Limits) (topology : Topology) (tick us : ℕ) (known : ℕ �
   -- ---- the time until the CPUs are balanced
 
   module _ {active : ℕ → Bool} {ts : List Thread} {cs : List (List ℕ)} {w : World} (s : WorldRep limits topology known active ts cs w) (dt : ℕ) where
-    time_mark : (time_passed cs us dt).mark ≡ ltb (word cs us CUR_REBALANCE_TIME) dt
+    time_mark : (time_passed us dt cs).answer ≡ ltb (word cs us CUR_REBALANCE_TIME) dt
     unfolding time_passed
     time_mark = both (ltb (word cs us CUR_REBALANCE_TIME) dt) (λ l. rw l) (λ l. rw l)
 
-    due_mark : (rebalance_due cs us dt).mark ≡ (eqb us 0 && ltb (word cs us CUR_REBALANCE_TIME) dt)
+    due_mark : (rebalance_due us dt cs).answer ≡ (eqb us 0 && ltb (word cs us CUR_REBALANCE_TIME) dt)
     unfolding rebalance_due
     due_mark = both (eqb us 0) (λ e. rw e time_mark) (λ e. rw e)
 
     -- "only on the boot CPU": whether it is time
-    pub due_shown : (rebalance_due cs us dt).mark ≡ (eqb us 0 && ltb (w.cpus us).rebalance_time dt)
+    pub due_shown : (rebalance_due us dt cs).answer ≡ (eqb us 0 && ltb (w.cpus us).rebalance_time dt)
     due_shown = due_mark ∙ ap (λ n. eqb us 0 && ltb n dt) (s.words us us_in).rebalance_time
 
     abbrev state : ℕ
@@ -205,7 +202,7 @@ module _ (limits : Limits) (topology : Topology) (tick us : ℕ) (known : ℕ �
         (λ x. refl)
         (shows_rebalance_time (shows_draws s us us_in n) us us_in v)
 
-    pub shows_due : (eqb us 0 && ltb (w.cpus us).rebalance_time dt) ≡ true → WorldRep limits topology known active ts (rebalance_due cs us dt).cpus anew
+    pub shows_due : (eqb us 0 && ltb (w.cpus us).rebalance_time dt) ≡ true → WorldRep limits topology known active ts (rebalance_due us dt cs).memory anew
     unfolding rebalance_due time_passed
     shows_due h =
         both (eqb us 0)
@@ -220,7 +217,7 @@ module _ (limits : Limits) (topology : Topology) (tick us : ℕ) (known : ℕ �
         subst (λ n. WorldRep limits topology known active ts (put_word cs us CUR_REBALANCE_TIME (word cs us CUR_REBALANCE_TIME - dt)) (with_cpu w us (with_rebalance_time (w.cpus us) (n - dt)))) (s.words us us_in).rebalance_time
         (shows_rebalance_time s us us_in (word cs us CUR_REBALANCE_TIME - dt))
 
-    pub shows_not_due : (eqb us 0 && ltb (w.cpus us).rebalance_time dt) ≡ false → WorldRep limits topology known active ts (rebalance_due cs us dt).cpus (sched.maybe_rebalance limits topology tick us w dt)
+    pub shows_not_due : (eqb us 0 && ltb (w.cpus us).rebalance_time dt) ≡ false → WorldRep limits topology known active ts (rebalance_due us dt cs).memory (sched.maybe_rebalance limits topology tick us w dt)
     unfolding rebalance_due time_passed sched.maybe_rebalance
     shows_not_due h =
         both (eqb us 0)

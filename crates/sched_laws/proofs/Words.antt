@@ -208,18 +208,18 @@ module _ (limits : Limits) (topology : Topology) (tick us : ℕ) (known : ℕ �
     shows_marked false = s
 
     -- the mark, which is then cleared
-    pub swapped_mark : (swapped cs us).mark ≡ (w.cpus us).preempt
+    pub swapped_mark : (swapped us cs).answer ≡ (w.cpus us).preempt
     unfolding swapped mark_in
     swapped_mark = both (eqb (word cs us PREEMPT) 0) (λ e. rw e (rw e at (s.words us us_in).preempt)) (λ e. rw e (rw e at (s.words us us_in).preempt))
 
-    pub shows_swapped : (w.cpus us).preempt ≡ true → WorldRep limits topology known active ts (swapped cs us).cpus (with_cpu w us (with_preempt (w.cpus us) false))
+    pub shows_swapped : (w.cpus us).preempt ≡ true → WorldRep limits topology known active ts (swapped us cs).memory (with_cpu w us (with_preempt (w.cpus us) false))
     unfolding swapped mark_in
     shows_swapped m =
         both (eqb (word cs us PREEMPT) 0)
         (λ e. absurd (false≢true (rw e at (s.words us us_in).preempt ∙ m)))
         (λ e. rw e (shows_preempt s us us_in 0 false refl))
 
-    pub unswapped : (w.cpus us).preempt ≡ false → (swapped cs us).cpus ≡ cs
+    pub unswapped : (w.cpus us).preempt ≡ false → (swapped us cs).memory ≡ cs
     unfolding swapped mark_in
     unswapped m =
         both (eqb (word cs us PREEMPT) 0)

@@ -3,7 +3,8 @@ use Rattle.std.specs.Prelude.{ℕ, ◌≡◌, Bool}
 use Rattle.rules.specs.State.{Limits, Topology}
 use Rattle.rules.specs.Schedule.{World, Flags}
 use Rattle.sched_words.specs.declared.context.SchedFlags.{SchedFlags}
-use Rattle.records.specs.Left.{Memory, Left}
+use Rattle.processor.specs.Left.{Left}
+use Rattle.records.specs.Left.{Memory}
 use Rattle.sched_laws.specs.Switch.{Ends}
 
 -- the flags as the rules have them

@@ -4,7 +4,7 @@ use Rattle.rules.specs.declared.Priority.{Priority}
 use Rattle.thread.specs.declared.Thread.{Thread}
 use Rattle.thread.specs.Thread.{with_critical}
 use Rattle.thread.specs.Priority.{donate_priority, remove_donated_priority}
-use Rattle.records.specs.Left.{Words, Left}
+use Rattle.processor.specs.Left.{Words, Left}
 use Rattle.records.specs.Rq.{record_at}
 use Rattle.sched_words.specs.Donate.{donation_signals}
 

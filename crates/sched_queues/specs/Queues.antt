@@ -3,7 +3,8 @@ use Rattle.std.specs.Prelude.{ℕ, false, cond, not, List, set, eqb, Option, Non
 use Rattle.thread.specs.declared.Thread.{Thread}
 use Rattle.thread.specs.Thread.{NONE, BLOCKED, with_place}
 use Rattle.thread.specs.Time.{moving_to_queue}
-use Rattle.records.specs.Left.{Words, Memory, Left}
+use Rattle.processor.specs.Left.{Words, Left}
+use Rattle.records.specs.Left.{Memory}
 use Rattle.records.specs.Rq.{record_at, insert_def, take_def}
 use Rattle.sched_words.specs.Signal.{signal}
 use Rattle.sched_words.specs.Time.{moved_to, should_signal_def}
@@ -21,7 +22,7 @@ schedule_thread_on_cpu_def k c x wakeups m = record {
   memory = insert_def c x k.tick false (moved_in k c x m);
 }
 
--- a blocked thread goes into the queue of CPU c; the thread running is blocked: nothing else changes a place from or to blocked
+-- a blocked thread goes into the queue of CPU c; the thread running is blocked: nothing else changes the place of a declared thread from or to blocked
 unfoldable pub wake_def : Context → ℕ → ℕ → ℕ → Memory → Left ℕ Memory
 wake_def k c x wakeups m = schedule_thread_on_cpu_def k c x wakeups m
 

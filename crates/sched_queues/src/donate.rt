@@ -1,5 +1,5 @@
 // Donation, and the mark that a thread is critical.
-ghost use Rattle.records.specs.Left.{BecomesOne, LeavesOne};
+ghost use Rattle.processor.specs.Left.{BecomesOne, LeavesOne};
 ghost use Rattle.sched_queues.specs.Donate.{donate_priority_def, remove_donated, set_critical_def};
 
 use processor::words::CpuWords;
@@ -8,7 +8,7 @@ use rules::Priority;
 use sched_words::donate::signal_donation;
 use thread::Thread;
 
-// The words of the CPUs are lent to be read alone.
+// Two slices, not a `Memory`: the type of `cpus` says that they stay.
 #[tactic(auto, unfolding(crate::specs::Donate::donate_priority_def))]
 pub fn donate_priority(
     threads: &mut [Thread],

@@ -1,7 +1,6 @@
 // Threads go into queues and come out of them.
-ghost use Rattle.std.specs.Prelude.{◌≡◌, eqb};
-ghost use Rattle.thread.specs.Thread.{NONE};
-ghost use Rattle.records.specs.Left.{BecomesOne, Leaves, LeavesOver};
+ghost use Rattle.processor.specs.Left.{BecomesOne};
+ghost use Rattle.records.specs.Left.{Leaves, LeavesOver};
 ghost use Rattle.sched_queues.specs.Queues.{schedule_thread_on_cpu_def, wake_def, block_def, take_from, try_steal_def};
 
 use records::memory::Memory;
@@ -11,17 +10,10 @@ use sched_words::choose::steal_from;
 use sched_words::context::Context;
 use sched_words::signal::signal;
 use sched_words::time::{moved_to, should_signal};
+use thread::Thread;
 use thread::place::Place;
-use thread::{NONE, Thread};
 
 // The lent memory m, the context k and the wake-ups so far stand apart: m alone is changed, k is the same throughout, and the wake-ups are what is answered.
-
-// Is the thread running, cur, the idle thread? A word of its CPU says it, NONE for the idle thread.
-pub fn is_idle(cur: u64) -> bool
-    ensures { result ≡ eqb cur NONE }
-{
-    cur == NONE
-}
 
 // Thread x goes into the queue of CPU c.
 #[tactic(auto, unfolding(crate::specs::Queues::schedule_thread_on_cpu_def, crate::specs::Queues::moved_in))]
@@ -31,12 +23,13 @@ pub fn schedule_thread_on_cpu(m: &mut Memory<'_>, k: Context, c: u64, x: u64, wa
     let t = m.thread(x);
     let due = should_signal(m.cpus(), k.us, c, t);
     let moved = moved_to(m.cpus(), k, c, t);
-    set(m.threads, x, moved);
+    m.set_thread(x, moved);
     insert(m, c, x, k.tick, false);
     signal(wakeups, k.us, c, due)
 }
 
-// A blocked thread goes into the queue of CPU c. A name of its own, which the laws cite: it and `block` alone change a place from or to blocked.
+// A blocked thread goes into the queue of CPU c. A name of its own, which the laws cite: it and `block` alone change the place of a declared thread from or to
+// blocked.
 #[tactic(auto, unfolding(crate::specs::Queues::wake_def))]
 pub fn wake(m: &mut Memory<'_>, k: Context, c: u64, x: u64, wakeups: u64) -> u64
     ensures { Leaves (wake_def k c x wakeups) result m }
@@ -60,7 +53,7 @@ pub fn take_a_thread_from_cpu(m: &mut Memory<'_>, c: u64, d: u64) -> Option<u64>
 {
     let x = take(m, c, d != c)?;
     let t = m.thread(x);
-    set(m.threads, x, t.moving_to_queue(d));
+    m.set_thread(x, t.moving_to_queue(d));
     Some(x)
 }
 

@@ -3,7 +3,8 @@ use Rattle.std.specs.Prelude.{ℕ, true, cond, List, set, eqb}
 use Rattle.thread.specs.declared.Thread.{Thread}
 use Rattle.thread.specs.Thread.{NONE}
 use Rattle.thread.specs.Time.{pay_ticks}
-use Rattle.records.specs.Left.{Words, Memory, Left}
+use Rattle.processor.specs.Left.{Words, Left}
+use Rattle.records.specs.Left.{Memory}
 use Rattle.records.specs.Rq.{record_at, hardtick_def}
 use Rattle.sched_words.specs.Preempt.{needs_reschedule_def, allowed_at, idle_paid, expires, rescheds}
 use Rattle.sched_words.specs.Running.{running_at}
@@ -16,8 +17,8 @@ paid_by_def k cur h m =
     (record {
       threads = m.threads;
       cpus =
-          expires (idle_paid h.memory k.us k.shortest h.answer).cpus k.us (needs_reschedule_def m.cpus k.us (record_at m.threads cur) true)
-          (idle_paid h.memory k.us k.shortest h.answer).mark;
+          expires (idle_paid k.us k.shortest h.answer h.memory).memory k.us (needs_reschedule_def m.cpus k.us (record_at m.threads cur) true)
+          (idle_paid k.us k.shortest h.answer h.memory).answer;
     })
     (record {
       threads = set m.threads cur (pay_ticks (record_at m.threads cur) h.answer (allowed_at h.memory k.us k.shortest (record_at m.threads cur))).thread;

@@ -1,16 +1,16 @@
 // Hard ticks, and the preemption mark set.
 ghost use Rattle.std.specs.Prelude.{◌≡◌};
-ghost use Rattle.records.specs.Left.{Becomes, BecomesOne};
+ghost use Rattle.processor.specs.Left.{BecomesOne};
+ghost use Rattle.records.specs.Left.{Becomes};
 ghost use Rattle.sched_ticks.specs.Ticks.{schedule_hardtick_def, schedule_resched_def};
 
 use processor::words::CpuWords;
 use records::memory::Memory;
-use records::record::{get, set};
+use records::record::get;
 use records::rq::hardtick;
-use sched_queues::queues::is_idle;
 use sched_words::context::Context;
 use sched_words::preempt::{expire, needs_reschedule, pay, pay_idle, resched};
-use sched_words::running::running;
+use sched_words::running::{is_idle, running};
 use thread::Thread;
 
 // The thread running pays for the ticks since the last hard tick.
@@ -26,13 +26,13 @@ pub fn schedule_hardtick(m: &mut Memory<'_>, k: Context)
         pay_idle(m.cpus, k, ticks)
     } else {
         let paid = pay(m.cpus(), k, t, ticks);
-        set(m.threads, cur, paid.thread);
+        m.set_thread(cur, paid.thread);
         paid.expired
     };
     expire(m.cpus, k.us, resched, expired);
 }
 
-// The records are lent to be read alone.
+// Two slices, not a `Memory`: the type of `threads` says that they stay.
 #[tactic(auto, unfolding(crate::specs::Ticks::schedule_resched_def))]
 pub fn schedule_resched(threads: &[Thread], cpus: &mut [CpuWords], us: u64)
     ensures { BecomesOne (schedule_resched_def us threads.now) cpus }

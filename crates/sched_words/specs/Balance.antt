@@ -5,6 +5,7 @@ use Rattle.rules.proofs.Laws.Line.{both}
 use Rattle.rules.specs.Choice.{pair_at, choose_cpu_balance}
 use Rattle.queue.specs.Num.{sum}
 use Rattle.runqueue.specs.RunQueue.{rq_front}
+use Rattle.processor.specs.Left.{Words, Left}
 use Rattle.processor.specs.Words.{word, put_word}
 use Rattle.processor.proofs.Laws.Words.{length_put}
 use Rattle.processor.specs.Queue.{queue_at}
@@ -16,11 +17,6 @@ use Rattle.rules.specs.declared.choice.Pair.{Pair}
 use Rattle.choice.specs.Reads.{weight_at}
 use Rattle.sched_words.specs.declared.balance.Balancing.{Balancing}
 use Rattle.processor.specs.Word.{LOAD, RAND_STATE, MUST_REBALANCE}
-
--- the choices so far, and the words of the CPUs after the draws and the marks
-pub record Balanced : Type 0 where
-  pub balancing : Balancing
-  pub cpus : List (List ℕ)
 
 -- "`balance` makes at most 20 choices and moves at most two threads": a choice is one step, a move ten more, until twenty steps are made.
 abbrev pub max_steps : ℕ
@@ -60,62 +56,62 @@ outcome b donor recipient load waiting hands =
     cond (nat_lt 0 waiting) (cond hands (moving b donor recipient) (without b recipient)) (cond (load == 1) (without b donor) (passed b))
 
 -- a donor with no load ends it, before it is marked
-unfoldable pub pair_step : List (List ℕ) → Balancing → ℕ → ℕ → Balanced
-pair_step cs b donor recipient =
-    cond (current_load cs donor == 0) (record { balancing = stopped b; cpus = cs })
+unfoldable pub pair_step : Balancing → ℕ → ℕ → Words → Left Balancing Words
+pair_step b donor recipient cs =
+    cond (current_load cs donor == 0) (record { answer = stopped b; memory = cs })
     (record {
-      balancing = outcome b donor recipient (current_load cs donor) (word cs donor LOAD) (hands_out cs donor recipient);
-      cpus = put_word cs donor MUST_REBALANCE 1;
+      answer = outcome b donor recipient (current_load cs donor) (word cs donor LOAD) (hands_out cs donor recipient);
+      memory = put_word cs donor MUST_REBALANCE 1;
     })
 
-unfoldable pub pair_of_def : List (List ℕ) → Balancing → Option Pair → Balanced
-pair_of_def cs b None = record { balancing = passed b; cpus = cs }
-pair_of_def cs b (Some p) = pair_step cs b p.donor p.recipient
+unfoldable pub pair_of_def : Balancing → Option Pair → Words → Left Balancing Words
+pair_of_def b None cs = record { answer = passed b; memory = cs }
+pair_of_def b (Some p) cs = pair_step b p.donor p.recipient cs
 
 -- one choice, with its draws
 unfoldable pub chosen_at : List (List ℕ) → List (List ℕ) → ℕ → ℕ → Balancing → Chosen
 chosen_at cs ns us limit b = choose_cpu_balance us (set.contains b.allowed) (weight_at cs) (cpus_at ns limit 0) (word cs us RAND_STATE)
 
-unfoldable pub balance_step_def : List (List ℕ) → List (List ℕ) → ℕ → ℕ → Balancing → Balanced
-balance_step_def cs ns us limit b =
-    pair_of_def (put_word cs us RAND_STATE (chosen_at cs ns us limit b).draws) b (chosen_at cs ns us limit b).found
+unfoldable pub balance_step_def : Words → ℕ → ℕ → Balancing → Words → Left Balancing Words
+balance_step_def ns us limit b cs =
+    pair_of_def b (chosen_at cs ns us limit b).found (put_word cs us RAND_STATE (chosen_at cs ns us limit b).draws)
 
 -- choices until one moves a thread or it ends, at most so many
-unfoldable pub find_move : ℕ → List (List ℕ) → List (List ℕ) → ℕ → ℕ → Balancing → Balanced
-find_move zero cs ns us limit b = record { balancing = b; cpus = cs }
-find_move (suc n) cs ns us limit b =
-    cond (is_done b) (record { balancing = b; cpus = cs })
-    (find_move n (balance_step_def cs ns us limit b).cpus ns us limit (balance_step_def cs ns us limit b).balancing)
+unfoldable pub find_move : ℕ → Words → ℕ → ℕ → Balancing → Words → Left Balancing Words
+find_move zero ns us limit b cs = record { answer = b; memory = cs }
+find_move (suc n) ns us limit b cs =
+    cond (is_done b) (record { answer = b; memory = cs })
+    (find_move n ns us limit (balance_step_def ns us limit b cs).answer (balance_step_def ns us limit b cs).memory)
 
 -- ---- for the proofs of the code
 
 pub found_done : (n : ℕ) (cs ns : List (List ℕ)) (us limit : ℕ) (b : Balancing) → 0 < n → is_done b ≡ true
-    → find_move n cs ns us limit b ≡ record { balancing = b; cpus = cs }
+    → find_move n ns us limit b cs ≡ record { answer = b; memory = cs }
 unfolding find_move
 found_done zero cs ns us limit b h e = absurd (omega arith)
 found_done (suc n) cs ns us limit b h e = rw e
 
 pub found_next : (n : ℕ) (cs ns : List (List ℕ)) (us limit : ℕ) (b : Balancing) → 0 < n → is_done b ≡ false
-    → find_move n cs ns us limit b ≡ find_move (n - 1) (balance_step_def cs ns us limit b).cpus ns us limit (balance_step_def cs ns us limit b).balancing
+    → find_move n ns us limit b cs ≡ find_move (n - 1) ns us limit (balance_step_def ns us limit b cs).answer (balance_step_def ns us limit b cs).memory
 unfolding find_move
 found_next zero cs ns us limit b h e = absurd (omega arith)
 found_next (suc n) cs ns us limit b h e = let d : suc n - 1 ≡ n = omega arith in rw (e, d)
 
-pub found_out : (n : ℕ) (cs ns : List (List ℕ)) (us limit : ℕ) (b : Balancing) → n ≡ 0 → find_move n cs ns us limit b ≡ record { balancing = b; cpus = cs }
+pub found_out : (n : ℕ) (cs ns : List (List ℕ)) (us limit : ℕ) (b : Balancing) → n ≡ 0 → find_move n ns us limit b cs ≡ record { answer = b; memory = cs }
 unfolding find_move
 found_out n cs ns us limit b e = rw e
 
-length_pair : (cs : List (List ℕ)) (b : Balancing) (donor recipient : ℕ) → length (pair_step cs b donor recipient).cpus ≡ length cs
+length_pair : (cs : List (List ℕ)) (b : Balancing) (donor recipient : ℕ) → length (pair_step b donor recipient cs).memory ≡ length cs
 unfolding pair_step
 length_pair cs b donor recipient =
     both (current_load cs donor == 0) (λ e. rw e) (λ e. rw e (length_put cs donor MUST_REBALANCE 1))
 
-length_of : (cs : List (List ℕ)) (b : Balancing) (p : Option Pair) → length (pair_of_def cs b p).cpus ≡ length cs
+length_of : (cs : List (List ℕ)) (b : Balancing) (p : Option Pair) → length (pair_of_def b p cs).memory ≡ length cs
 unfolding pair_of_def
 length_of cs b None = refl
 length_of cs b (Some p) = length_pair cs b p.donor p.recipient
 
 -- a choice keeps the number of CPUs
-pub length_step : (cs ns : List (List ℕ)) (us limit : ℕ) (b : Balancing) → length (balance_step_def cs ns us limit b).cpus ≡ length cs
+pub length_step : (cs ns : List (List ℕ)) (us limit : ℕ) (b : Balancing) → length (balance_step_def ns us limit b cs).memory ≡ length cs
 unfolding balance_step_def
 length_step cs ns us limit b = length_of _ b (chosen_at cs ns us limit b).found ∙ length_put cs us RAND_STATE (chosen_at cs ns us limit b).draws

@@ -8,15 +8,11 @@ use Rattle.thread.specs.Thread.{NONE, blank, with_timeslice}
 use Rattle.thread.specs.Reads.{reads, critical_in}
 use Rattle.thread.specs.Time.{pay_ticks}
 use Rattle.runqueue.specs.RunQueue.{rq_empty}
+use Rattle.processor.specs.Left.{Words, Left}
 use Rattle.processor.specs.Words.{word, put_word}
 use Rattle.processor.specs.Word.{PREEMPT, IDLE_TIMESLICE}
 use Rattle.processor.specs.Queue.{queue_at}
 use Rattle.sched_words.specs.Running.{running_at}
-
--- a mark of a CPU that was asked, and the words of the CPUs after it
-pub record Marked : Type 0 where
-  pub mark : Bool
-  pub cpus : List (List ℕ)
 
 -- what is advertised is above the priority; with eq, or equal to it
 unfoldable pub higher : Priority → Priority → Bool → Bool
@@ -32,8 +28,8 @@ unfoldable pub marked : List (List ℕ) → ℕ → Bool → List (List ℕ)
 marked cs us mark = cond mark (put_word cs us PREEMPT 1) cs
 
 -- the mark, which is then cleared
-unfoldable pub swapped : List (List ℕ) → ℕ → Marked
-swapped cs us = cond (word cs us PREEMPT == 0) (record { mark = false; cpus = cs }) (record { mark = true; cpus = put_word cs us PREEMPT 0 })
+unfoldable pub swapped : ℕ → Words → Left Bool Words
+swapped us cs = cond (word cs us PREEMPT == 0) (record { answer = false; memory = cs }) (record { answer = true; memory = put_word cs us PREEMPT 0 })
 
 -- the timeslice that a thread with this record is allowed
 unfoldable pub allowed_at : List (List ℕ) → ℕ → ℕ → Thread → ℕ
@@ -43,10 +39,10 @@ allowed_at cs us shortest t = timeslice shortest (effective_priority (reads t)).
 unfoldable pub idle_payer : List (List ℕ) → ℕ → Thread
 idle_payer cs us = with_timeslice blank (word cs us IDLE_TIMESLICE)
 
-unfoldable pub idle_paid : List (List ℕ) → ℕ → ℕ → ℕ → Marked
-idle_paid cs us shortest ticks = record {
-  mark = (pay_ticks (idle_payer cs us) ticks (allowed_at cs us shortest (idle_payer cs us))).expired;
-  cpus = put_word cs us IDLE_TIMESLICE (pay_ticks (idle_payer cs us) ticks (allowed_at cs us shortest (idle_payer cs us))).thread.timeslice;
+unfoldable pub idle_paid : ℕ → ℕ → ℕ → Words → Left Bool Words
+idle_paid us shortest ticks cs = record {
+  answer = (pay_ticks (idle_payer cs us) ticks (allowed_at cs us shortest (idle_payer cs us))).expired;
+  memory = put_word cs us IDLE_TIMESLICE (pay_ticks (idle_payer cs us) ticks (allowed_at cs us shortest (idle_payer cs us))).thread.timeslice;
 }
 
 unfoldable pub expires : List (List ℕ) → ℕ → Bool → Bool → List (List ℕ)

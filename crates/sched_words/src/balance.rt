@@ -1,6 +1,7 @@
 // The choices of `balance`: until one moves a thread, twenty steps are made, or a donor has no load. Whether a take hands out a thread depends on the
 // words of the donor alone, so a choice is made without the thread records, and the move after it.
 ghost use Rattle.std.specs.Prelude.{◌≡◌};
+ghost use Rattle.processor.specs.Left.{LeavesOne};
 ghost use Rattle.sched_words.specs.Balance.{begun, moved, passed, stopped, without, moving, is_done, hands_out, outcome, pair_step, balance_step_def, find_move};
 
 use crate::context::Context;
@@ -125,8 +126,7 @@ pub fn hands_out(cpus: &[CpuWords], pair: Pair) -> bool
 // A pair was chosen: a donor with no load ends it, before it is marked.
 #[tactic(auto, unfolding(crate::specs::Balance::pair_step))]
 pub fn balance_pair(cpus: &mut [CpuWords], b: Balancing, pair: Pair) -> Balancing
-    ensures { (result ≡ (pair_step cpus.old b pair.donor pair.recipient).balancing)
-        × (cpus.new ≡ (pair_step cpus.old b pair.donor pair.recipient).cpus) }
+    ensures { LeavesOne (pair_step b pair.donor pair.recipient) result cpus }
 {
     let load = current_load(cpus, pair.donor);
     if load == 0 {
@@ -146,8 +146,7 @@ pub fn balance_step(
     k: Context,
     b: Balancing,
 ) -> Balancing
-    ensures { (result ≡ (balance_step_def cpus.old nodes.now k.us k.limit b).balancing)
-        × (cpus.new ≡ (balance_step_def cpus.old nodes.now k.us k.limit b).cpus) }
+    ensures { LeavesOne (balance_step_def nodes.now k.us k.limit b) result cpus }
 {
     let draws = word(cpus, k.us, RAND_STATE);
     let chosen = choose_cpu_balance(cpus, nodes, k.us, k.limit, b.allowed, draws);
@@ -166,8 +165,7 @@ pub fn find_move(
     k: Context,
     begin: Balancing,
 ) -> Balancing
-    ensures { (result ≡ (find_move 20 cpus.old nodes.now k.us k.limit (moved begin)).balancing)
-        × (cpus.new ≡ (find_move 20 cpus.old nodes.now k.us k.limit (moved begin)).cpus) }
+    ensures { LeavesOne (find_move 20 nodes.now k.us k.limit (moved begin)) result cpus }
 {
     let mut b = begin.again();
     for _i in 0..MAX_STEPS {

@@ -1,5 +1,6 @@
 // The CPU for a thread whose record is given, and the CPU from which to steal.
 ghost use Rattle.std.specs.Prelude.{◌≡◌};
+ghost use Rattle.processor.specs.Left.{LeavesOne};
 ghost use Rattle.sched_words.specs.Choose.{preferred_of_def, select_for, selected_for, reinsert_at_def, steal_from_def};
 
 use crate::context::Context;
@@ -11,7 +12,7 @@ use thread::Thread;
 use thread::time::Preferred;
 use topology::words::NodeWords;
 
-// A choice asks for the CPU alone, pinned or last.
+// A choice asks for the CPU alone, pinned or last. A function: `From` between types of other crates is not allowed.
 #[tactic(auto, unfolding(crate::specs::Choose::preferred_of_def))]
 pub fn preferred_of(p: Option<Preferred>) -> Option<u64>
     ensures { result ≡ preferred_of_def p }
@@ -21,7 +22,7 @@ pub fn preferred_of(p: Option<Preferred>) -> Option<u64>
     }
 }
 
-// `select_cpu` for the thread; its draws are those of the own CPU.
+// `select_cpu` for the thread; its draws are those of the own CPU. Two clauses, as there: the laws take the two definitions apart.
 #[tactic(auto, unfolding(crate::specs::Choose::select_for, crate::specs::Choose::selected_for))]
 pub fn select_for(
     cpus: &mut [CpuWords],
@@ -41,8 +42,7 @@ pub fn select_for(
 // Where the thread running goes back into a queue: another CPU if this one must rebalance.
 #[tactic(auto, unfolding(crate::specs::Choose::reinsert_at_def))]
 pub fn reinsert_at(cpus: &mut [CpuWords], nodes: &[NodeWords], k: Context, t: Thread) -> Option<u64>
-    ensures { (result ≡ (reinsert_at_def cpus.old nodes.now k.us k.limit t).chosen)
-        × (cpus.new ≡ (reinsert_at_def cpus.old nodes.now k.us k.limit t).cpus) }
+    ensures { LeavesOne (reinsert_at_def nodes.now k.us k.limit t) result cpus }
 {
     if must_rebalance(cpus, k.us) {
         select_for(cpus, nodes, k, t, Some(k.us))

@@ -9,7 +9,7 @@ pub struct Context {
     pub limit: u64,
 }
 
-// The flags of `schedule`.
+// The flags of `schedule`. The rules' own `Flags` stand in rules/specs, which is read without code.
 #[derive(Clone, Copy)]
 pub struct SchedFlags {
     pub yields: bool,

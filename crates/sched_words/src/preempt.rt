@@ -1,17 +1,18 @@
 // Whether the thread running has to give way, the mark that says so, and what a thread pays at a hard tick.
 ghost use Rattle.std.specs.Prelude.{◌≡◌};
+ghost use Rattle.processor.specs.Left.{LeavesOne};
 ghost use Rattle.processor.specs.Words.{put_word};
 ghost use Rattle.processor.specs.Word.{PREEMPT};
 ghost use Rattle.thread.specs.Time.{pay_ticks};
 ghost use Rattle.sched_words.specs.Preempt.{higher, rq_has_higher, needs_reschedule_def, marked, swapped, allowed_at, idle_payer, idle_paid, expires, rescheds};
 
 use crate::context::Context;
-use crate::running::running;
+use crate::running::{is_idle, running};
 use processor::rq::load_queue;
 use processor::words::{CpuWords, IDLE_TIMESLICE, PREEMPT, put_word, word};
 use rules::Priority;
 use thread::time::Paid;
-use thread::{NONE, Thread, blank};
+use thread::{Thread, blank};
 
 // Is what is advertised above this priority; with eq, or equal to it?
 #[tactic(auto, using(thread::proofs::Order::at_most_derived, thread::proofs::Order::less_derived), unfolding(crate::specs::Preempt::higher))]
@@ -46,7 +47,7 @@ pub fn schedule_mark_preempt(cpus: &mut [CpuWords], us: u64)
 // The mark, which is then cleared.
 #[tactic(auto, unfolding(crate::specs::Preempt::swapped))]
 pub fn swap_preempt(cpus: &mut [CpuWords], us: u64) -> bool
-    ensures { (result ≡ (swapped cpus.old us).mark) × (cpus.new ≡ (swapped cpus.old us).cpus) }
+    ensures { LeavesOne (swapped us) result cpus }
 {
     let marked = word(cpus, us, PREEMPT) != 0;
     if marked {
@@ -85,8 +86,7 @@ pub fn idle_payer(cpus: &[CpuWords], us: u64) -> Thread
 // The idle thread pays: does its timeslice expire?
 #[tactic(auto, unfolding(crate::specs::Preempt::idle_paid))]
 pub fn pay_idle(cpus: &mut [CpuWords], k: Context, ticks: u64) -> bool
-    ensures { (result ≡ (idle_paid cpus.old k.us k.shortest ticks).mark)
-        × (cpus.new ≡ (idle_paid cpus.old k.us k.shortest ticks).cpus) }
+    ensures { LeavesOne (idle_paid k.us k.shortest ticks) result cpus }
 {
     let t = idle_payer(cpus, k.us);
     let paid = pay(cpus, k, t, ticks);
@@ -109,7 +109,7 @@ pub fn expire(cpus: &mut [CpuWords], us: u64, resched: bool, expired: bool)
 pub fn resched(cpus: &mut [CpuWords], us: u64, t: Thread)
     ensures { cpus.new ≡ rescheds cpus.old us t }
 {
-    if running(cpus, us) == NONE || needs_reschedule(cpus, us, t, false) {
+    if is_idle(running(cpus, us)) || needs_reschedule(cpus, us, t, false) {
         schedule_mark_preempt(cpus, us);
     }
 }

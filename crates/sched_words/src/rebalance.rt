@@ -1,5 +1,5 @@
 // When the boot CPU balances.
-ghost use Rattle.std.specs.Prelude.{◌≡◌};
+ghost use Rattle.processor.specs.Left.{LeavesOne};
 ghost use Rattle.sched_words.specs.Rebalance.{time_passed, rebalance_due};
 
 use processor::random::quick_random;
@@ -8,9 +8,9 @@ use processor::words::{CUR_REBALANCE_TIME, CpuWords, put_word, word};
 pub const REBALANCE_TIME: u64 = 1000000000;
 
 // The time until CPU us balances passes by dt: is it over? Then it is drawn anew.
-#[tactic(auto, unfolding(crate::specs::Rebalance::time_passed))]
+#[tactic(auto, unfolding(crate::specs::Rebalance::time_passed, processor::specs::Random::quick_random_def))]
 pub fn pass_time(cpus: &mut [CpuWords], us: u64, dt: u64) -> bool
-    ensures { (result ≡ (time_passed cpus.old us dt).mark) × (cpus.new ≡ (time_passed cpus.old us dt).cpus) }
+    ensures { LeavesOne (time_passed us dt) result cpus }
 {
     let left = word(cpus, us, CUR_REBALANCE_TIME);
     if left < dt {
@@ -31,7 +31,7 @@ pub fn pass_time(cpus: &mut [CpuWords], us: u64, dt: u64) -> bool
 // Only the boot CPU balances.
 #[tactic(auto, unfolding(crate::specs::Rebalance::rebalance_due))]
 pub fn rebalance_due(cpus: &mut [CpuWords], us: u64, dt: u64) -> bool
-    ensures { (result ≡ (rebalance_due cpus.old us dt).mark) × (cpus.new ≡ (rebalance_due cpus.old us dt).cpus) }
+    ensures { LeavesOne (rebalance_due us dt) result cpus }
 {
     us == 0 && pass_time(cpus, us, dt)
 }

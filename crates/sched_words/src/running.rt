@@ -1,5 +1,6 @@
 // The thread that runs on a CPU, and its marks (processor.rs).
-ghost use Rattle.std.specs.Prelude.{◌≡◌};
+ghost use Rattle.std.specs.Prelude.{◌≡◌, eqb};
+ghost use Rattle.thread.specs.Thread.{NONE};
 ghost use Rattle.processor.specs.Words.{put_word};
 ghost use Rattle.processor.specs.Word.{IS_IDLE, MUST_REBALANCE};
 ghost use Rattle.sched_words.specs.Running.{running_at, must_rebalance_def, ran_by_def, ran_idle_def};
@@ -8,7 +9,7 @@ use processor::words::{CpuWords, IS_IDLE, MUST_REBALANCE, OWN_PRIORITY, RUNNING,
 use thread::priority::raw;
 use thread::{NONE, Thread};
 
-// The thread that CPU c runs; NONE: its idle thread.
+// The thread that CPU c runs, as the word holds it; NONE: its idle thread.
 #[tactic(auto, unfolding(crate::specs::Running::running_at))]
 pub fn running(cpus: &[CpuWords], c: u64) -> u64
     ensures { result ≡ running_at cpus.now c }
@@ -16,7 +17,14 @@ pub fn running(cpus: &[CpuWords], c: u64) -> u64
     word(cpus, c, RUNNING)
 }
 
-// These four have the Rust's names, one store each.
+// Is the thread running, cur, the idle thread? The rules' question, a word that callers cite.
+pub fn is_idle(cur: u64) -> bool
+    ensures { result ≡ eqb cur NONE }
+{
+    cur == NONE
+}
+
+// These four have the Rust's names, one store each; what they share is `put_word`.
 pub fn enter_idle(cpus: &mut [CpuWords], c: u64)
     ensures { cpus.new ≡ put_word cpus.old c IS_IDLE 1 }
 {

@@ -1,13 +1,14 @@
 -- What passes over C for an answer: numbers and Booleans for each case of its enums.
-use Rattle.std.specs.Prelude.{true, false, cond, ℕ, List, length, Option, Some, None, Result, Ok, Err}
+use Rattle.std.specs.Prelude.{◌≡◌, true, false, cond, ℕ, List, length, Option, Some, None, Result, Ok, Err}
+use Rattle.rules.specs.Lines.{line}
 use Rattle.rules.specs.Writer as rules
 use Rattle.rules.specs.declared.Running.{Running}
 use Rattle.rules.specs.declared.Running.TheVariants as running
 use Rattle.lines.specs.declared.Refusal.{Refusal}
-use Rattle.lines.specs.Lines.{question_number, refusal_number}
+use Rattle.lines.specs.Lines.{question_number, refusal_number, answer_of, rendered, buffer_with}
 use Rattle.lines.specs.declared.Answer.{Answer}
 use Rattle.questions.specs.declared.state.State.{State}
-use Rattle.records.specs.Left.{Left}
+use Rattle.processor.specs.Left.{Left, Slice}
 use Rattle.command.specs.Lent.{Lent}
 use Rattle.command.specs.Command.{command_def}
 use Rattle.stream.specs.Start.{start_def}
@@ -72,6 +73,12 @@ refused_with k = record { refusal = k; bytes = 0 }
 unfoldable pub written_of : Result ℕ Refusal → Written
 written_of (Ok n) = record { refusal = 0; bytes = n }
 written_of (Err r) = refused_with (question_number r)
+
+-- the line of a command's row is rendered into the lent buffer, and r is answered
+abbrev pub RendersRow : Slice ℕ → ℕ → Row → Written → Type 0
+RendersRow buffer number row r =
+    (r ≡ written_of (rendered buffer.entry.now 0 (line number (answer_of (answer_in row)))))
+    × (buffer.exit.now ≡ buffer_with buffer.entry.now 0 (line number (answer_of (answer_in row))))
 
 -- the answer of 2026-02's writer
 unfoldable pub wrote_of : rules.Written → Written

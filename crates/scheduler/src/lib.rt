@@ -4,13 +4,11 @@
 pub mod numbers;
 
 ghost use Rattle.std.specs.Prelude.{◌≡◌};
-ghost use Rattle.rules.specs.Lines.{line};
-ghost use Rattle.lines.specs.Lines.{answer_of, rendered, buffer_with};
 ghost use Rattle.writer.specs.Writer.{answer, buffer_after};
 ghost use Rattle.command.specs.Lent.{LeavesAll};
 ghost use Rattle.stream.specs.Progress.{begin};
 ghost use Rattle.stream.specs.Feed.{Feeds, feed_def};
-ghost use Rattle.scheduler.specs.Numbers.{answer_in, written_of, wrote_of, start_row, command_row};
+ghost use Rattle.scheduler.specs.Numbers.{RendersRow, wrote_of, start_row, command_row};
 
 use crate::numbers::{Begun, Row, Step, Written};
 use command::obey::command;
@@ -19,7 +17,7 @@ use processor::words::CpuWords;
 use questions::state::State;
 use request::fields::Fields;
 use stream::feed::feed;
-use stream::progress::{Progress, begin};
+use stream::progress::Progress;
 use stream::start::start;
 use thread::Thread;
 use topology::words::NodeWords;
@@ -51,7 +49,7 @@ pub fn scheduler_command(
 
 // The line of one command.
 pub fn scheduler_render(buffer: &mut [u8], number: u64, row: Row) -> Written
-    ensures { (result ≡ written_of (rendered buffer.old 0 (line number (answer_of (answer_in row))))) × (buffer.new ≡ buffer_with buffer.old 0 (line number (answer_of (answer_in row)))) }
+    ensures { RendersRow buffer number row result }
 {
     render(buffer, number, row.into()).into()
 }
@@ -68,7 +66,7 @@ pub fn scheduler_write(byte: u64, fields: Fields, wide: bool, buffer: &mut [u8])
 pub fn scheduler_begin(state: State) -> Progress
     ensures { result ≡ begin state }
 {
-    begin(state)
+    Progress::begin(state)
 }
 
 // The first n bytes of input, `last` if no block follows: header, lines and end line in output.

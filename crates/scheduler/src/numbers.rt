@@ -61,7 +61,7 @@ pub struct Written {
     pub bytes: usize,
 }
 
-// Each of C's structs that holds an option has two conversions of its own, since the fields differ.
+// Column and Runs have two conversions each, since their fields differ.
 impl From<Option<u64>> for Column {
     ghost from_gives = { λ shown column. column ≡ column_of shown };
 

@@ -3,13 +3,11 @@
 #![tactic(auto)]
 
 ghost use Rattle.std.specs.Prelude.{◌≡◌};
-ghost use Rattle.rules.specs.Lines.{line};
-ghost use Rattle.lines.specs.Lines.{answer_of, rendered, buffer_with};
 ghost use Rattle.writer.specs.Writer.{answer, buffer_after};
 ghost use Rattle.command.specs.Lent.{LeavesAll};
 ghost use Rattle.stream.specs.Progress.{begin};
 ghost use Rattle.stream.specs.Feed.{Feeds, feed_def};
-ghost use Rattle.scheduler.specs.Numbers.{answer_in, written_of, wrote_of, start_row, command_row};
+ghost use Rattle.scheduler.specs.Numbers.{RendersRow, wrote_of, start_row, command_row};
 
 use processor::words::CpuWords;
 use questions::state::State;
@@ -48,7 +46,7 @@ pub extern "C" fn scheduler_command(
 // The line of one command.
 #[unsafe(no_mangle)]
 pub extern "C" fn scheduler_render(buffer: &mut [u8], number: u64, row: Row) -> Written
-    ensures { (result ≡ written_of (rendered buffer.old 0 (line number (answer_of (answer_in row))))) × (buffer.new ≡ buffer_with buffer.old 0 (line number (answer_of (answer_in row)))) }
+    ensures { RendersRow buffer number row result }
 {
     scheduler::scheduler_render(buffer, number, row)
 }

@@ -1,5 +1,5 @@
 -- The loop of `run`: what is left to feed gives what feeding all gives.
-use Rattle.std.proofs.Common.{◌≡◌, ℕ, zero, suc, ◌-◌, ◌<◌, ◌≤◌, Bool, true, false, cond, not, T as Holds, eqb, ltb, List, Result, Ok, Err, sym, refl, ap, ◌∙◌, sub-le, arith, ltb-true}
+use Rattle.std.proofs.Common.{◌≡◌, ℕ, zero, suc, ◌-◌, ◌<◌, ◌≤◌, Bool, true, false, cond, not, T as Holds, eqb, ltb, List, Result, Ok, Err, sym, refl, ap, subst, ◌∙◌, sub-le, arith, ltb-true}
 use borrow.Author.Tests.{eqb-false}
 use Rattle.rules.proofs.Laws.Line.{both}
 use Rattle.thread.specs.declared.Thread.{Thread}
@@ -9,7 +9,7 @@ use Rattle.outcome.specs.Call.{asked_def}
 use Rattle.request.specs.declared.Asked.{Asked}
 use Rattle.request.specs.declared.Unread.{Unread}
 use Rattle.request.specs.declared.Unread.TheVariants as unread
-use Rattle.records.specs.Left.{Left}
+use Rattle.processor.specs.Left.{Left}
 use Rattle.command.specs.Lent.{Lent}
 use Rattle.command.specs.Command.{answered_def, command_def}
 use Rattle.stream.specs.declared.progress.Progress.{Progress}
@@ -144,11 +144,12 @@ unfolding command_def
 inv_near bytes n last w h k = nearer bytes n last w (more_yes bytes n last w h k)
 
 -- ---- a turn of the loop as the calls in it answer: the reading r, the answer a and the memory that is left, the output and how far the run is then
-module _ (bytes : List ℕ) (n : ℕ) (w : World) (r : Result Asked Unread) (read : r ≡ reading_of_def bytes n w) (a : Answered) (ts : List Thread) (cs ns : List (List ℕ))
+module _ {r : Result Asked Unread} {a : Answered} {ts : List Thread} {cs ns : List (List ℕ)} {out : List ℕ} {g : Progress} (bytes : List ℕ) (n : ℕ) (w : World)
+    (read : r ≡ reading_of_def bytes n w)
     (left : ◌≡◌ {A = Left Answered Lent} (record { answer = a; memory = record { threads = ts; cpus = cs; nodes = ns } })
     (answered_def w.fed.state r (record { threads = w.threads; cpus = w.cpus; nodes = w.nodes })))
-    (out : List ℕ) (written : out ≡ buffer_with w.output w.fed.done (line_of_def a w.fed)) (g : Progress) (on : g ≡ answered_fed w.output n a w.fed) where
-  pub turned : world_of_def ts cs ns out g ≡ stepped bytes n w
+    (written : out ≡ buffer_with w.output w.fed.done (line_of_def a w.fed)) (on : g ≡ answered_fed w.output n a w.fed) where
+  turned : world_of_def ts cs ns out g ≡ stepped bytes n w
   turned =
       let m : ◌≡◌ {A = Left Answered Lent} (record { answer = a; memory = record { threads = ts; cpus = cs; nodes = ns } }) (answer_of_def bytes n w) =
       left ∙ ap (λ (q : Result Asked Unread). answered_def w.fed.state q (record { threads = w.threads; cpus = w.cpus; nodes = w.nodes })) read in
@@ -157,3 +158,7 @@ module _ (bytes : List ℕ) (n : ℕ) (w : World) (r : Result Asked Unread) (rea
       let c : cs ≡ (answer_of_def bytes n w).memory.cpus = ap (λ (l : Left Answered Lent). l.memory.cpus) m in
       let d : ns ≡ (answer_of_def bytes n w).memory.nodes = ap (λ (l : Left Answered Lent). l.memory.nodes) m in
       rw (written, on, b, t, c, d)
+
+  -- what holds of a step holds after the turn
+  pub after_turn : (P : World → Type 0) → P (stepped bytes n w) → P (world_of_def ts cs ns out g)
+  after_turn P h = subst P (sym turned) h

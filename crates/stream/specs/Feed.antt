@@ -2,7 +2,7 @@
 use Rattle.std.specs.Prelude.{◌≡◌, ℕ, zero, suc, Bool, cond, List}
 use Rattle.thread.specs.declared.Thread.{Thread}
 use Rattle.lines.specs.Lines.{buffer_with}
-use Rattle.records.specs.Left.{Left, Slice}
+use Rattle.processor.specs.Left.{Left, Slice}
 use Rattle.outcome.specs.declared.answer.Answered.{Answered}
 use Rattle.command.specs.Lent.{Lent}
 use Rattle.command.specs.Command.{command_def}

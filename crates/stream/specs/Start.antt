@@ -7,7 +7,7 @@ use Rattle.processor.specs.Queue.{queue_stored}
 use Rattle.processor.specs.Word.{DECLARED, PLACED, RUNNING, OWN_PRIORITY, IS_IDLE, MUST_REBALANCE, PREEMPT, RAND_STATE, CUR_REBALANCE_TIME, IDLE_TIMESLICE}
 use Rattle.topology.specs.Node.{new_root}
 use Rattle.questions.specs.declared.state.State.{State}
-use Rattle.records.specs.Left.{Left}
+use Rattle.processor.specs.Left.{Left}
 use Rattle.command.specs.Lent.{Lent}
 
 -- undeclared, on no node, its idle thread running with priority (Idle, 0), marked idle

@@ -2,7 +2,7 @@
 // past the end of the input.
 ghost use Rattle.stream.specs.Feed.{Feeds, run_def, feed_def};
 
-use crate::progress::{Progress, answered, can_answer, closed, must_wait, opened};
+use crate::progress::{Progress, must_wait};
 use command::obey::command_read;
 use outcome::call::asked;
 use processor::words::CpuWords;
@@ -24,13 +24,13 @@ fn run(
 {
     let mut f = fed;
     // It counts nothing: a turn ends by what was read and answered.
-    while can_answer(output, n, f) {
+    while f.can_answer(output, n) {
         let reading = asked(input, n, f.at, f.state.wide);
         if must_wait(last, reading) {
             return f;
         }
         let a = command_read(threads, cpus, nodes, f.state, reading);
-        f = answered(output, n, a, f);
+        f = f.answered(output, n, a);
     }
     f
 }
@@ -50,7 +50,7 @@ pub fn feed(
 ) -> Progress
     ensures { Feeds (feed_def input.now n last) fed result threads cpus nodes output }
 {
-    let f = opened(output, fed);
+    let f = fed.opened(output);
     let g = run(threads, cpus, nodes, input, output, n, last, f);
-    closed(output, n, last, g)
+    g.closed(output, n, last)
 }

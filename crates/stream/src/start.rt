@@ -8,6 +8,7 @@ use processor::words::{
     CUR_REBALANCE_TIME, CpuWords, DECLARED, IDLE_TIMESLICE, IS_IDLE, MUST_REBALANCE, OWN_PRIORITY,
     PLACED, PREEMPT, RAND_STATE, RUNNING, put_word,
 };
+use questions::refusal::MAX_THREADS;
 use questions::state::State;
 use records::record::clear;
 use runqueue::rq::RunQueue;
@@ -22,7 +23,7 @@ pub const MAX_NODES: u64 = 128;
 
 pub const SHORTEST: u64 = 2;
 
-// Its places and marks: undeclared, on no node, its idle thread running.
+// What CPU c is: undeclared, on no node, idle and marked so, its own priority 0.
 #[tactic(auto, unfolding(crate::specs::Start::new_marks))]
 fn new_marks(cpus: &mut [CpuWords], c: u64)
     ensures { cpus.new ≡ new_marks cpus.old c }
@@ -34,6 +35,7 @@ fn new_marks(cpus: &mut [CpuWords], c: u64)
     put_word(cpus, c, IS_IDLE, 1);
 }
 
+// Its marks to rebalance and of preemption, its draws, and its times.
 #[tactic(auto, unfolding(crate::specs::Start::new_numbers))]
 fn new_numbers(cpus: &mut [CpuWords], c: u64)
     ensures { cpus.new ≡ new_numbers cpus.old c }
@@ -68,7 +70,9 @@ fn new_cpus(cpus: &mut [CpuWords])
 fn no_room(threads: &[Thread], cpus: &[CpuWords], nodes: &[NodeWords]) -> bool
     ensures { result ≡ no_room_def (length threads.now) (length cpus.now) (length nodes.now) }
 {
-    threads.len() < 1024 || cpus.len() < 64 || nodes.len() < 128
+    threads.len() < MAX_THREADS as usize
+        || cpus.len() < MAX_CPUS as usize
+        || nodes.len() < MAX_NODES as usize
 }
 
 #[tactic(auto, unfolding(crate::specs::Start::initial))]

@@ -6,8 +6,8 @@ use Rattle.std.proofs.lemmas.Bool.{false≢true}
 use mathlib.Core.List.{List, [], ◌∷◌, ◌++◌, append_assoc}
 use Rattle.std.proofs.Math.Dec.{leb}
 use borrow.Author.Tests.{eqb-true, ne_eqb, ltb-true, leb-true}
+use Rattle.std.specs.Cmp.{first_so, second_so}
 use Rattle.rules.proofs.Laws.Line.{both}
-use Rattle.rules.proofs.Laws.Writer.{and_left, and_right}
 use Rattle.rules.specs.State.{Limits}
 use Rattle.rules.specs.Requests.{nth, widths, widths_or}
 use Rattle.rules.specs.Writer.{fits, has_row, row as rules_row}
@@ -79,24 +79,24 @@ power_small n v h k =
 module _ (k n : ℕ) (ns : List ℕ) (v : ℕ) (vs : List ℕ) (p : plain_row (suc k) (n ∷ ns) ≡ true) (f : fits (n ∷ ns) (v ∷ vs) ≡ true) where
   field_small : v < 2 ^ 64
   unfolding plain_row fits
-  field_small = power_small n v (and_left (by_widths.plain n) (plain_row k ns) p) (ltb-true v (256 ^ n) (and_left (ltb v (256 ^ n)) (fits ns vs) f))
+  field_small = power_small n v (first_so (by_widths.plain n) (plain_row k ns) p) (ltb-true v (256 ^ n) (first_so (ltb v (256 ^ n)) (fits ns vs) f))
 
   row_left : plain_row k ns ≡ true
   unfolding plain_row
-  row_left = and_right (by_widths.plain n) (plain_row k ns) p
+  row_left = second_so (by_widths.plain n) (plain_row k ns) p
 
   fits_left : fits ns vs ≡ true
   unfolding fits
-  fits_left = and_right (ltb v (256 ^ n)) (fits ns vs) f
+  fits_left = second_so (ltb v (256 ^ n)) (fits ns vs) f
 
 module _ (v : ℕ) (vs : List ℕ) (f : fits [] (v ∷ vs) ≡ true) where
   unused_zero : v ≡ 0
   unfolding fits
-  unused_zero = eqb-true v 0 (and_left (eqb v 0) (fits [] vs) f)
+  unused_zero = eqb-true v 0 (first_so (eqb v 0) (fits [] vs) f)
 
   unused_left : fits [] vs ≡ true
   unfolding fits
-  unused_left = and_right (eqb v 0) (fits [] vs) f
+  unused_left = second_so (eqb v 0) (fits [] vs) f
 
 module _ (wide : Bool) (byte : ℕ) where
   -- the first field, the first two, three and four
@@ -175,7 +175,7 @@ module _ (wide : Bool) (byte a b c d : ℕ) (h : has_row (widths (limits_of wide
   shown_read : fields_from wide byte 0 (length (row wide byte)) (four []) (numbers (shown_fields wide byte (a ∷ b ∷ c ∷ d ∷ []))) ≡ command byte (a ∷ b ∷ c ∷ d ∷ [])
   unfolding shown_fields no_pin four nth
   shown_read = both (no_pin wide byte (a ∷ b ∷ c ∷ d ∷ []))
-      (λ e. rw e (without_pin (eqb-true byte 0x10 (and_left (eqb byte 0x10) (eqb d (all_ones_of wide)) e)) (eqb-true d (all_ones_of wide) (and_right (eqb byte 0x10) (eqb d (all_ones_of wide)) e))))
+      (λ e. rw e (without_pin (eqb-true byte 0x10 (first_so (eqb byte 0x10) (eqb d (all_ones_of wide)) e)) (eqb-true d (all_ones_of wide) (second_so (eqb byte 0x10) (eqb d (all_ones_of wide)) e))))
       (λ e. rw e (fields_read wide byte (row wide byte) a b c d (row_plain wide byte) f))
 
 -- ---- the line

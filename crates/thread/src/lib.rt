@@ -12,10 +12,10 @@ ghost use Rattle.thread.specs.Thread.{blank};
 use place::Place;
 
 // The link number that leads nowhere.
-pub const NONE: u64 = 18446744073709551615;
+pub const NONE: u64 = u64::MAX;
 
 // The donated priority, raw, where there is no donation: u32::MAX of the Rust.
-pub const NO_DONATION: u64 = 4294967295;
+pub const NO_DONATION: u64 = u32::MAX as u64;
 
 // A thread's places as a record holds them, for patterns and clauses; any other number counts as undeclared.
 pub const UNDECLARED: u64 = Place::Undeclared as u64;

@@ -6,7 +6,7 @@ ghost use Rattle.thread.specs.Place.{number, place_in, is_declared, pin_number, 
 
 use crate::priority::raw;
 use crate::time::field_of;
-use crate::{BLOCKED, NO_DONATION, NONE, RUNNING, Thread, WAITING};
+use crate::{BLOCKED, RUNNING, Thread, WAITING, blank};
 use rules::Priority;
 
 // The number of a place is the one that its record holds.
@@ -50,17 +50,10 @@ impl Thread {
         let own = raw(priority);
         Thread {
             priority: own,
-            donated_priority: NO_DONATION,
             stable_priority: own,
-            flags: 0,
-            critical: 0,
             place: BLOCKED,
-            next: NONE,
-            last_cpu: -1,
             pinned_cpu: pin.map_or(-1, field_of),
-            current_processor_queue: -1,
-            deadline: 0,
-            timeslice: 0,
+            ..blank()
         }
     }
 

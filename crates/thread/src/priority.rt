@@ -27,7 +27,8 @@ pub struct Stable {
     pub priority: Priority,
 }
 
-// The class that a number names: everything from 3 up is Realtime. A function, here and below, since `From` between types of other crates is not allowed.
+// The class that a number names: everything from 3 up is Realtime. A function, here and below: its types are of `rules`, which has no functions, and an
+// `impl` of `From` lies where one of its types does.
 #[tactic(auto, unfolding(rules::specs::Priority::class_at))]
 pub fn class_at(number: u64) -> PriorityClass
     ensures { result ≡ class_at number }

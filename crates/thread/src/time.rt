@@ -55,10 +55,7 @@ pub fn narrow_sum(paid: u64, ticks: u64) -> u64
 pub fn pin_or_last(pinned: Option<u64>, last: Option<u64>) -> Option<Preferred>
     ensures { result ≡ preferred_of pinned last }
 {
-    match pinned {
-        Some(cpu) => Some(Preferred::Pinned(cpu)),
-        None => last.map(Preferred::Last),
-    }
+    pinned.map(Preferred::Pinned).or(last.map(Preferred::Last))
 }
 
 impl Thread {

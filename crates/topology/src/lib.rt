@@ -1,4 +1,4 @@
-// The set of CPU numbers of processor/sched.rs.
+// Sets of CPU numbers, and the tree of nodes in lent words (processor/sched.rs).
 #![tactic(auto)]
 
 pub mod cpuset;

@@ -1,4 +1,6 @@
 // One node: what it is at first, its CPUs, and its place in the tree.
+// Words and node are two parameters throughout: a function asks one node of the lent words, so a struct of both would be made at each call, and clauses would name
+// both its fields.
 ghost use Rattle.std.specs.Prelude.{◌≡◌};
 ghost use Rattle.topology.specs.Node.{new_node, put_node, new_root, add_child, has_children, has_cpus, contains_at, put_cpu, set_cpu, first_of, end_of};
 
@@ -23,13 +25,13 @@ pub const PREV: usize = 6;
 
 pub const SET: usize = 16;
 
-// The first CPU of a node that has none.
-pub const NO_CPU: u64 = 18446744073709551615;
+// The first CPU of a node that has none, as its word holds it.
+pub const NO_CPU: u64 = u64::MAX;
 
 // The type System.
 pub const SYSTEM: u64 = 0;
 
-// A node without children and CPUs, between two in the order of a search. Its type is a number, as its word holds it.
+// A node without children and CPUs, between two in the order of a search. Its type is an operand as it came in, a number as in its word.
 #[tactic(auto, unfolding(crate::specs::Node::new_node))]
 pub fn new_node(level_type: u64, parent: u64, prev: u64, next: u64) -> NodeWords
     ensures { result ≡ new_node level_type parent prev next }
@@ -63,7 +65,7 @@ pub fn new_root(nodes: &mut [NodeWords])
     put_node(nodes, 0, new_node(SYSTEM, 0, 0, 0));
 }
 
-// Node n becomes the new last child of the parent: a search meets it just before its parent.
+// Node n becomes the new last child of the parent: a search meets it just before its parent. Its type is a number, as in `new_node`.
 #[tactic(auto, unfolding(crate::specs::Node::add_child, crate::specs::Node::linked))]
 pub fn add_child(nodes: &mut [NodeWords], n: u64, parent: u64, level_type: u64)
     ensures { nodes.new ≡ add_child nodes.old n parent level_type }
@@ -135,7 +137,7 @@ pub fn set_cpu(nodes: &mut [NodeWords], node: u64, cpu: u64)
     ensures { nodes.new ≡ set_cpu nodes.old node cpu }
 {
     let mut n = node;
-    for done in 0..nodes.len() {
+    for _i in 0..nodes.len() {
         put_cpu(nodes, n, cpu);
         if n == 0 {
             return;

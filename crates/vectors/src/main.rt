@@ -5,30 +5,21 @@
 use files::read_full;
 use files::tally::Tally;
 use processor::words::CpuWords;
+use questions::refusal::MAX_THREADS;
 use std::io::Read;
 use stream::feed::feed;
-use stream::progress::begin;
-use stream::start::start;
+use stream::progress::Progress;
+use stream::start::{MAX_CPUS, MAX_NODES, start};
 use thread::{Thread, blank};
 use topology::words::NodeWords;
 
-#[derive(Clone, Copy)]
-struct Sizes {
-    stream: usize,
-    lines: usize,
-}
-
-// The next two lengths; none at the end.
-fn next_sizes(stdin: &mut impl Read) -> Option<Sizes> {
-    let mut head = [0u8; 8];
-    if read_full(stdin, &mut head) < 8 {
+// The next length; none at the end.
+fn next_length(stdin: &mut impl Read) -> Option<usize> {
+    let mut bytes = [0u8; 4];
+    if read_full(stdin, &mut bytes) < 4 {
         return None;
     }
-    let [a, b, c, d, e, f, g, h] = head;
-    Some(Sizes {
-        stream: u32::from_le_bytes([a, b, c, d]) as usize,
-        lines: u32::from_le_bytes([e, f, g, h]) as usize,
-    })
+    Some(u32::from_le_bytes(bytes) as usize)
 }
 
 // The next n bytes, if they are there.
@@ -57,11 +48,11 @@ fn replayed(
     let mut lines = [0u8; 65536];
     let mut tally = Tally::default();
     for _ in 0..1000 {
-        let Some(sizes) = next_sizes(stdin) else {
+        let (Some(of_stream), Some(of_lines)) = (next_length(stdin), next_length(stdin)) else {
             return tally;
         };
-        let stream = take(stdin, &mut input, sizes.stream);
-        let lines = take(stdin, &mut lines, sizes.lines);
+        let stream = take(stdin, &mut input, of_stream);
+        let lines = take(stdin, &mut lines, of_lines);
         let Some(state) = start(threads, cpus, nodes) else {
             return tally;
         };
@@ -70,7 +61,7 @@ fn replayed(
             continue;
         };
         let n = stream.len();
-        let begun = begin(state);
+        let begun = Progress::begin(state);
         let fed = feed(threads, cpus, nodes, stream, &mut output, n, true, begun);
         let answered = output.get(..fed.done);
         tally.add(answered.is_some_and(|answered| agree(answered, lines)));
@@ -79,9 +70,9 @@ fn replayed(
 }
 
 fn main(rt: HostRuntime) {
-    let mut threads = [blank(); 1024];
-    let mut cpus = [[0u64; 96]; 64];
-    let mut nodes = [[0u64; 32]; 128];
+    let mut threads = [blank(); MAX_THREADS as usize];
+    let mut cpus = [[0u64; processor::words::WORDS]; MAX_CPUS as usize];
+    let mut nodes = [[0u64; topology::words::WORDS]; MAX_NODES as usize];
     let tally = replayed(&mut rt.stdin(), &mut threads, &mut cpus, &mut nodes);
     let stdout = rt.stdout();
     let _ = println!(stdout; "{} streams, {} differ", tally.cases, tally.differ);

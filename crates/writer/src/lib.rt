@@ -1,4 +1,4 @@
-// The writer of 2026-02: one command with its fields, written into a lent buffer.
+// The writer of document 02, request 2026-02: one command with its fields, written into a lent buffer.
 #![tactic(auto)]
 
 ghost use Rattle.std.specs.Prelude.{◌≡◌, ◌≤◌, ◌^◌, ltb};
@@ -37,7 +37,7 @@ fn no_misfit(command: Command, wide: bool) -> bool
     fit(command, wide) && command.ranges(wide)
 }
 
-// A number in n bytes, the least first.
+// A number in n bytes, the least first. n is a width of the table, at most eight; for more bytes there would be nothing to say.
 #[tactic(auto, using(crate::proofs::Rows::first_bytes))]
 fn put_field(text: &mut Text<'_>, n: usize, v: u64)
     requires { n ≤ 8 }
@@ -60,7 +60,7 @@ fn put_command(buffer: &mut [u8], command: Command, wide: bool) -> usize
     text.at
 }
 
-// A command whose operands have n bytes.
+// A command whose operands have n bytes. It answers n + 1, and not what `put_command` does: the clause is for any n, and the two agree at the byte's own n alone.
 #[tactic(auto, using(crate::proofs::Rows::at_front), unfolding(crate::specs::Writer::written_of, crate::specs::Writer::known_answer, crate::specs::Writer::known_buffer, lines::specs::Lines::refusal_number, lines::specs::Lines::question_number))]
 fn write_known(command: Command, n: usize, wide: bool, buffer: &mut [u8]) -> Result<usize, Refusal>
     ensures { (written_of result ≡ known wide command.byte n command.fields buffer.old) × (buffer.new ≡ known_after wide command.byte n command.fields buffer.old) }

@@ -3,8 +3,6 @@
 // the call.
 #![tactic(auto)]
 
-ghost use Rattle.std.specs.Prelude.{◌+◌, ◌≤◌};
-
 use files::read_full;
 use files::tally::Tally;
 use request::fields::Fields;
@@ -28,29 +26,27 @@ const MARKED: [u8; 12] = [
     0xa0, 0xa1, 0xa2, 0xa3, 0xa4, 0xa5, 0xa6, 0xa7, 0xa8, 0xa9, 0xaa, 0xab,
 ];
 
-// The eight bytes from `at` on.
-fn number(case: &[u8; CASE], at: usize) -> u64
-    requires { at + 8 ≤ 56 }
-{
-    let mut bytes = [0u8; 8];
-    bytes.copy_from_slice(&case[at..at + 8]);
-    u64::from_le_bytes(bytes)
+// The first eight bytes; 0 where there are fewer.
+fn number(bytes: &[u8]) -> u64 {
+    bytes
+        .first_chunk()
+        .map_or(0, |bytes| u64::from_le_bytes(*bytes))
 }
 
 // The call answers what is stored and leaves the buffer that is stored, what was not lent included.
 fn agrees(case: &[u8; CASE]) -> bool {
     let mut buffer = MARKED;
     let fields = Fields {
-        first: number(case, 8),
-        second: number(case, 16),
-        third: number(case, 24),
-        fourth: number(case, 32),
+        first: number(&case[8..]),
+        second: number(&case[16..]),
+        third: number(&case[24..]),
+        fourth: number(&case[32..]),
     };
     let length = usize::from(case[LENGTH]);
     if buffer.len() < length {
         return false;
     }
-    let byte = number(case, 0);
+    let byte = number(case);
     let wide = case[FORM] == 1;
     let (refusal, count) = match write_command(byte, fields, wide, &mut buffer[..length]) {
         Ok(n) => (0, n),

@@ -1,15 +1,13 @@
 -- What `start` leaves of the memory that was lent to it: the rows of CPUs from 64 on and the words from 82 on as found, all numbers of threads and CPUs
 -- small, the root alone on the nodes.
 use Prim.Native.Nat.{ℕ, zero, suc, ◌≤◌, ◌<◌}
-use Rattle.std.specs.Prelude.{◌≡◌, refl, false, List, [], length, get_or, replicate, ltb}
+use Rattle.std.specs.Prelude.{◌≡◌, false, List, [], length, get_or, replicate, ltb}
 use Rattle.std.proofs.Common.{sym, subst, ◌∙◌, true≢false, arith, ltb-false}
 use Rattle.std.proofs.lemmas.List.{length-replicate}
 use Rattle.rules.proofs.Laws.Line.{both}
 use Rattle.rules.specs.State.{base_limits, new_cpu}
-use Rattle.rules.specs.Waits.{Under}
 use Rattle.thread.specs.declared.Thread.{Thread}
 use Rattle.thread.specs.Thread.{blank, NONE}
-use Rattle.thread.specs.Reads.{cpu_in}
 use Rattle.runqueue.specs.RunQueue.{no_run_queue}
 use Rattle.processor.specs.Words.{width, word}
 use Rattle.processor.specs.Word.{RUNNING}
@@ -18,17 +16,17 @@ use Rattle.records.specs.Rq.{record_at}
 use Rattle.represents.specs.World.{number_or_none}
 use Rattle.represents.specs.Topology.{Sized}
 use Rattle.stream.specs.Start.{new_marks, new_numbers, new_cpu_def, new_cpus, no_room_def, start_def, initial}
-use Rattle.question_laws.proofs.Start.{new_all}
+use Rattle.question_laws.proofs.Start.{new_all, blank_at}
 use Rattle.command_laws.specs.Law.{lent}
 use Rattle.command_laws.specs.Links.{Link, QueueInRange}
 use Rattle.command_laws.proofs.Links.{orderly_none}
-use Rattle.command_laws.specs.InRange.{Rows, ThreadInRange, InRange, Zeros}
+use Rattle.command_laws.specs.InRange.{Rows, InRange, Zeros}
 use Rattle.command_laws.proofs.InRange.{rows_none, rows_then, rows_put, rows_store}
 use Rattle.command_laws.specs.Nodes.{Nodes}
 use Rattle.command_laws.proofs.Nodes.{nodes_root}
 use Rattle.demands.specs.Calls.{LentState, Ready}
 use Rattle.demands.proofs.Laws.Kept.{is_ready}
-use Rattle.demands.proofs.Laws.New.{zeros_new, blank_at}
+use Rattle.demands.proofs.Laws.New.{zeros_new, records_new}
 
 -- ---- the rows of the CPUs
 
@@ -63,10 +61,6 @@ module _ (cs : List (List ℕ)) (room : 64 ≤ length cs) (long : (c : ℕ) → 
 
   -- ---- all numbers are small
 
-  tidy_blank : ThreadInRange blank
-  unfolding Under cpu_in
-  tidy_blank = record { link = λ h. refl; pin = tt; last = tt }
-
   running_none : (c : ℕ) → c < 64 → Link (word (new_cpus 64 cs) c RUNNING)
   unfolding new_cpu number_or_none
   running_none c h = λ i. (new_all base_limits cs 64 room long c h).words.running
@@ -76,7 +70,7 @@ module _ (cs : List (List ℕ)) (room : 64 ≤ length cs) (long : (c : ℕ) → 
       let s = rows_all 64 (omega arith) in
       record {
         none_past = rw (length-replicate n blank) h;
-        records = λ x. subst ThreadInRange (sym (blank_at n x)) tidy_blank;
+        records = records_new n;
         cpus = omega (arith, s.as_many);
         rows = λ c l. s.as_long c ∙ long c l;
         queues = λ c l. subst QueueInRange (sym (new_all base_limits cs 64 room long c l).queue) orderly_none;

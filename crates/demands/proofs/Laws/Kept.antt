@@ -1,6 +1,7 @@
 -- What every list of calls keeps: the memory stands for the state that the rules reach over the same bytes.
 use Rattle.std.specs.Prelude.{ℕ, ◌<◌, ◌≡◌, false, List, [], ◌∷◌, length, Some, None}
 use Rattle.std.proofs.Common.{sym, ap, subst, arith, take_all}
+use Rattle.std.proofs.lemmas.Option.{none-some, same_Some}
 use Rattle.rules.proofs.Laws.Line.{both}
 use Rattle.rules.proofs.Laws.Limits.{SameButShortest}
 use Rattle.rules.specs.Puts.{PutOrTake}
@@ -30,14 +31,8 @@ pub is_ready : (ts : List Thread) (cs ns : List (List ℕ)) (a : State) → (sta
 unfolding start_def
 is_ready ts cs ns a e =
     both (no_room_def (length ts) (length cs) (length ns))
-    (λ t. let z : None ≡ Some a = rw t at e in absurd (ready_not a z))
-    (λ t. let z : Some initial ≡ Some a = rw t at e in (t, sym (same_state initial a z)))
-  where
-    ready_not : (a : State) → None ≡ Some a → ⊥
-    ready_not a z = let y : ◌≡◌ {A = ℕ} 0 1 = cc in omega arith
-
-    same_state : (b a : State) → Some b ≡ Some a → b ≡ a
-    same_state b a z = cc
+    (λ t. let z : None ≡ Some a = rw t at e in absurd (none-some a z))
+    (λ t. let z : Some initial ≡ Some a = rw t at e in (t, sym (same_Some initial a z)))
 
 pub ready_stands : (h : LentState) → Ready h → Represents h (start base_limits)
 ready_stands h r =

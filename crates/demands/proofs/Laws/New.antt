@@ -1,17 +1,18 @@
 -- What `start` makes new: the words 66 to 71 of a CPU, and the records.
 use Prim.Native.Nat.{ℕ, ◌≤◌, ◌<◌}
-use Rattle.std.specs.Prelude.{◌≡◌, ◌≢◌, List, [], length, get_or, replicate, eqb, ltb}
-use Rattle.std.proofs.Common.{sym, subst, arith, eqb-true, ltb-true, ltb-false}
-use Rattle.std.proofs.lemmas.List.{length-replicate, get_or-replicate}
-use Rattle.std.proofs.Math.ListN.{get_or-eq_default}
+use Rattle.std.specs.Prelude.{◌≢◌, refl, List, [], length, get_or, replicate, eqb}
+use Rattle.std.proofs.Common.{sym, subst, arith, eqb-true}
 use Rattle.std.proofs.lemmas.Bool.{eqb-false}
 use Rattle.rules.proofs.Laws.Line.{both}
+use Rattle.rules.specs.Waits.{Under}
 use Rattle.thread.specs.Thread.{blank, NONE}
+use Rattle.thread.specs.Reads.{cpu_in}
 use Rattle.runqueue.specs.RunQueue.{no_run_queue}
 use Rattle.processor.specs.Queue.{queue_stored}
 use Rattle.records.specs.Rq.{record_at}
 use Rattle.stream.specs.Start.{new_marks, new_numbers, new_cpu_def}
-use Rattle.command_laws.specs.InRange.{Zeros}
+use Rattle.question_laws.proofs.Start.{blank_at}
+use Rattle.command_laws.specs.InRange.{ThreadInRange, Zeros}
 use Rattle.command_laws.proofs.InRange.{zeros_put, zeros_here, zeros_there}
 
 zeros_beside : (cs : List (List ℕ)) (c d : ℕ) → Zeros cs d → Zeros (new_numbers (new_marks cs c) c) d
@@ -30,7 +31,11 @@ zeros_new cs c d h l z =
     (λ e. subst (Zeros (queue_stored cs c no_run_queue)) (sym (eqb-true d c e)) (zeros_here cs c no_run_queue h l))
     (λ e. zeros_there cs c d no_run_queue (eqb-false d c e) (z (eqb-false d c e))))
 
-pub blank_at : (n x : ℕ) → record_at (replicate n blank) x ≡ blank
-blank_at n x =
-    both (ltb x n) (λ e. get_or-replicate n x blank blank (ltb-true _ _ e))
-    (λ e. get_or-eq_default (replicate n blank) blank {n = x} (rw (length-replicate n blank) (ltb-false _ _ e)))
+-- a record of no thread has small numbers
+
+tidy_blank : ThreadInRange blank
+unfolding Under cpu_in
+tidy_blank = record { link = λ h. refl; pin = tt; last = tt }
+
+pub records_new : (n x : ℕ) → ThreadInRange (record_at (replicate n blank) x)
+records_new n x = subst ThreadInRange (sym (blank_at n x)) tidy_blank

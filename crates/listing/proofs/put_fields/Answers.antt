@@ -1,9 +1,10 @@
+use Rattle.std.proofs.lemmas.List.{take_min}
 use Rattle.std.proofs.Common.{◌≡◌, ℕ, List, take, sym, ap, ◌∙◌, drop-cons}
 use Rattle.rules.specs.Lines.{space}
 use Rattle.lines.specs.Text.{text_of, write}
 use Rattle.request.specs.Fields.{list_of}
 use Rattle.listing.specs.Listing.{numbers}
-use Rattle.listing.proofs.Numbers.{next_put, all_put, take_most}
+use Rattle.listing.proofs.Numbers.{next_put, all_put}
 use Rattle.listing.proofs.put_fields.Goals as goal
 
 pub loop-number-preserved : goal.loop-number-preserved
@@ -19,5 +20,5 @@ pub returns : goal.returns
 unfolding list_of
 returns c =
     let l : List ℕ = take c.min.result c.from-all.result in
-    let same : l ≡ take c.args.count (list_of c.args.fields) = rw (c.min.ensures, c.from-all.ensures) (take_most c.args.count (list_of c.args.fields)) in
+    let same : l ≡ take c.args.count (list_of c.args.fields) = rw (c.min.ensures, c.from-all.ensures) (take_min c.args.count (list_of c.args.fields)) in
     (sym (all_put _ l _ c.loop-number-test.false) ∙ (c.loop-number.invariant.written ∙ ap (λ (m : List ℕ). write (text_of c.args.text.now) (numbers m)) same), c.loop-number.invariant.same_buffer)

@@ -1,6 +1,7 @@
-use Rattle.std.proofs.Common.{refl, arith}
+use Rattle.std.proofs.Common.{refl, rules}
 use Rattle.names.specs.Names.{name_of, field_name, naming_among, namings, naming, nth_text, ascii}
-use Rattle.names.proofs.Table.{Apart, no_row}
+use Rattle.rules.proofs.Laws.Apart.{Apart, all_bytes}
+use Rattle.names.proofs.Table.{no_row}
 use Rattle.names.proofs.names.Goals as goal
 
 pub returns-in-1 : goal.returns-in-1
@@ -68,7 +69,7 @@ unfolding name_of field_name naming_among namings naming nth_text ascii
 returns-in-26 c = rw c.in-26.is (refl, refl)
 
 pub returns-in_default : goal.returns-in_default
-unfolding name_of field_name Apart naming nth_text ascii
+unfolding name_of field_name naming nth_text ascii
 returns-in_default c =
-    rw (no_row Unit c.args.byte (unfold namings in ((((((((((((((((tt, omega arith), omega arith), omega arith), omega arith), omega arith), omega arith), omega arith), omega arith), omega arith), omega arith), omega arith), omega arith), omega arith), omega arith), omega arith), omega arith)))
-    (refl, refl)
+    let apart : Apart Unit c.args.byte all_bytes = unfold Apart in search rules in
+    rw (no_row Unit c.args.byte apart) (refl, refl)

@@ -5,7 +5,7 @@ use Rattle.std.proofs.Common.{subst, ◌∙◌, true≢false, length-set, get_or
 use mathlib.Core.List.{List, []}
 use Rattle.std.proofs.lemmas.Bool.{eqb-false}
 use Rattle.rules.specs.Line.{has}
-use Rattle.rules.proofs.Laws.Line.{both}
+use Rattle.rules.proofs.Laws.Line.{both, of_either}
 use Rattle.rules.specs.Queue.{Queue, order}
 use Rattle.rules.specs.Times as times
 use Rattle.rules.specs.Times.{pinned, donated_to, critical_at}
@@ -16,8 +16,8 @@ use Rattle.rules.specs.Waits.{Under, waits, Free}
 use Rattle.thread.specs.declared.Thread.{Thread}
 use Rattle.thread.specs.Reads.{reads, critical_in}
 use Rattle.thread.specs.Place.{place_in, reads_critical}
-use Rattle.thread.specs.Thread.{with_donated, with_critical}
-use Rattle.thread.specs.Flags.{has_donated_priority}
+use Rattle.thread.specs.Thread.{NO_DONATION, with_donated, with_critical}
+use Rattle.thread.specs.Flags.{has_donated_priority, reset_donated_priority}
 use Rattle.thread.specs.Priority.{remove_donated_priority, reads_removed}
 use Rattle.thread.specs.declared.place.Place.{Place}
 use Rattle.thread.specs.declared.place.Place.TheVariants as place
@@ -137,13 +137,9 @@ words_alike p q d l r o m e a b i s = record {
 
 -- ---- the records
 
-removed_next : (t : Thread) → (remove_donated_priority t).next ≡ t.next
-unfolding remove_donated_priority with_donated
-removed_next t = both (has_donated_priority t.flags) (λ e. rw e) (λ e. rw e)
-
-removed_place : (t : Thread) → (remove_donated_priority t).place ≡ t.place
-unfolding remove_donated_priority with_donated
-removed_place t = both (has_donated_priority t.flags) (λ e. rw e) (λ e. rw e)
+removed_keeps : {A : Type 0} (f : Thread → A) (t : Thread) → f (with_donated t NO_DONATION (reset_donated_priority t.flags)) ≡ f t → f (remove_donated_priority t) ≡ f t
+unfolding remove_donated_priority
+removed_keeps f t e = of_either (λ (u : Thread). f u ≡ f t) (has_donated_priority t.flags) _ _ e refl
 
 -- ---- the queues
 
@@ -274,7 +270,7 @@ module _ {limits : Limits} {topology : Topology} {known active : ℕ → Bool} {
   unfolding donated_to pinned
   shows_removed x h =
       shows_fields x (remove_donated_priority (record_at ts x)) _ h (reads_removed (record_at ts x) ∙ ap (λ (t : times.Thread). donated_to t None) (s.threads x h))
-      (removed_next (record_at ts x)) (removed_place (record_at ts x)) refl refl (s.queue_cpus x h)
+      (removed_keeps (λ (t : Thread). t.next) (record_at ts x) (unfold with_donated in refl)) (removed_keeps (λ (t : Thread). t.place) (record_at ts x) (unfold with_donated in refl)) refl refl (s.queue_cpus x h)
 
   -- 1A: the critical mark
   pub shows_critical : (x m : ℕ) → x < limits.threads → WorldRep limits topology known active (set ts x (with_critical (record_at ts x) m)) cs (with_thread w x (critical_at (w.threads x) (critical_in m)))

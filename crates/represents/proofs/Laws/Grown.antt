@@ -38,7 +38,7 @@ unfolding new_node
 length_new type p a b = refl
 
 -- it has no CPUs
-new_past : (type p a b i : ℕ) → 7 ≤ i → i < width → get_or (new_node type p a b) i 0 ≡ 0
+pub new_past : (type p a b i : ℕ) → 7 ≤ i → i < width → get_or (new_node type p a b) i 0 ≡ 0
 unfolding new_node
 new_past type p a b i h l =
     let j : ℕ = i - 7 in

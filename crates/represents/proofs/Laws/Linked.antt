@@ -7,6 +7,7 @@ use Rattle.rules.proofs.Laws.Line.{both}
 use Rattle.rules.specs.Queue.{empty}
 use Rattle.rules.specs.State.{at}
 use Rattle.rules.proofs.Laws.Held.{has_head}
+use Rattle.rules.specs.Waits.{Under}
 use Rattle.thread.specs.Thread.{NONE}
 use Rattle.represents.specs.QueueRead.{walk}
 use Rattle.represents.specs.Linked.{Chain, last, Ends, Linked}
@@ -108,12 +109,8 @@ linked_none f h t [] k b = eq-eqb h NONE k.runs
 linked_none f h t (x ∷ l) k b = ne_eqb h NONE (λ q. let z : x ≡ NONE = sym k.runs.0 ∙ q in omega (arith, b.0))
 
 -- whoever it stands behind, if anybody, is in the list
-unfoldable pub BehindIn : ℕ → Option ℕ → Type 0
-BehindIn n None = Unit
-BehindIn n (Some b) = b < n
-
-pub behind_in : (n : ℕ) (f : ℕ → ℕ) (h t : ℕ) (l : List ℕ) → Linked f h t l → Below n l → Below NONE l → BehindIn n (cond (eqb h NONE) None (Some t))
-unfolding Chain Ends BehindIn
+pub behind_in : (n : ℕ) (f : ℕ → ℕ) (h t : ℕ) (l : List ℕ) → Linked f h t l → Below n l → Below NONE l → Under n (cond (eqb h NONE) None (Some t))
+unfolding Chain Ends Under
 behind_in n f h t [] k b c = rw (eq-eqb h NONE k.runs) tt
 behind_in n f h t (x ∷ l) k b c = rw (linked_none f h t (x ∷ l) k c) (unfold empty in rw k.ends (below_has n (x ∷ l) b (last x l) (last_in x l)))
 

@@ -12,18 +12,20 @@ use borrow.Author.Tests.{eqb-true, eqb-false, eq-eqb, ne_eqb, ltb-true, ltb-fals
 use Rattle.std.proofs.Math.Nat.{mod-lt, mod-eq_of_lt}
 use native.Mathlib.Omega.{arith}
 use Rattle.rules.specs.Line.{has, Distinct, Below}
-use Rattle.rules.proofs.Laws.Line.{both, has_left, has_right, distinct_left, distinct_right, distinct_apart}
+use Rattle.rules.proofs.Laws.Line.{both, distinct_left, distinct_right, distinct_apart}
 use Rattle.rules.specs.Buckets.{Buckets, bucket, around, nothing, found, scan, oldest, join, pop}
 use Rattle.rules.proofs.Laws.Buckets.{round_meets, around_at}
 use Rattle.rules.specs.Buckets.{Found as Foundₗ}
 use Rattle.rules.specs.Queue.{nr_buckets, empty, highest_bucket}
 use Rattle.rules.proofs.Laws.Effect.{some_bucket}
+use Rattle.rules.proofs.Laws.Held.{has_around}
+use Rattle.rules.specs.Waits.{Under}
 use Rattle.queue.specs.declared.lists.Lists.{Lists}
 use Rattle.queue.specs.declared.lists.Found.{Found}
 use Rattle.thread.specs.Thread.{NONE}
 use Rattle.queue.specs.Lists.{found_at, no_lists_def, push_back, unlinked, scan_heads, top_heads}
 use Rattle.represents.specs.Linked.{Chain, Ends, Linked}
-use Rattle.represents.proofs.Laws.Linked.{link_after, Alike, linked_frame, linked_head, linked_pop, linked_push, link_alike, below_has, linked_none, BehindIn, behind_in}
+use Rattle.represents.proofs.Laws.Linked.{link_after, Alike, linked_frame, linked_head, linked_pop, linked_push, link_alike, below_has, linked_none, behind_in}
 use Rattle.represents.specs.Linked.{ListsRep}
 
 -- the code's answer for what a scan finds
@@ -34,13 +36,8 @@ as_found (found j x) = found_at j x
 -- ---- a bucket is in the line
 
 module _ (n : ℕ) (bs : Buckets) where
-  has_round : (s k m z : ℕ) → m < k → has z (bucket n bs (s + m)) ≡ true → has z (around n bs s k) ≡ true
-  has_round s k m z h e =
-      rw (around_at n bs s k m (k - suc m) (omega arith))
-      (has_right z (around n bs s m) _ (has_left z (bucket n bs (s + m)) _ e))
-
   pub has_bucket : (s i z : ℕ) → i < n → has z (get_or bs i []) ≡ true → has z (around n bs s n) ≡ true
-  has_bucket s i z h e = let (m, p, q) = round_meets n s i h in has_round s n m z p (unfold bucket in rw q e)
+  has_bucket s i z h e = let (m, p, q) = round_meets n s i h in has_around n bs s n m z p (unfold bucket in rw q e)
 
   pub no_bucket : (s i z : ℕ) → i < n → has z (around n bs s n) ≡ false → has z (get_or bs i []) ≡ false
   no_bucket s i z h e = both (has z (get_or bs i [])) (λ p. absurd (true≢false (sym (has_bucket s i z h p) ∙ e))) (λ p. p)
@@ -57,7 +54,7 @@ module _ (n : ℕ) (bs : Buckets) where
       let e : Distinct (around n bs s m ++ (bucket n bs (s + m) ++ around n bs (suc (s + m)) (n - suc m))) = rw (around_at n bs s n m (n - suc m) (omega arith)) at d in
       let f : Distinct (bucket n bs (s + m) ++ around n bs (suc (s + m)) (n - suc m)) = distinct_right (around n bs s m) _ e in
       let g : suc (s + m) + (k - suc m) ≡ s + k = omega arith in
-      true≢false (sym a ∙ distinct_apart z (bucket n bs (s + m)) _ f (has_round (suc (s + m)) (n - suc m) (k - suc m) z (omega arith) (rw g b)))
+      true≢false (sym a ∙ distinct_apart z (bucket n bs (s + m)) _ f (has_around n bs (suc (s + m)) (n - suc m) (k - suc m) z (omega arith) (rw g b)))
 
   -- nobody stands in two buckets
   pub apart : (s i j z : ℕ) → i < n → j < n → Distinct (around n bs s n) → has z (get_or bs i []) ≡ true → has z (get_or bs j []) ≡ true → i ≡ j
@@ -71,7 +68,7 @@ module _ (n : ℕ) (bs : Buckets) where
       let same : m ≡ k = omega (arith, ltb-false m k e, ltb-false k m f) in
       sym q ∙ rw same t
 
-below_of : (n : ℕ) (l : List ℕ) → ((z : ℕ) → has z l ≡ true → z < n) → Below n l
+pub below_of : (n : ℕ) (l : List ℕ) → ((z : ℕ) → has z l ≡ true → z < n) → Below n l
 unfolding Below has
 below_of n [] h = tt
 below_of n (x ∷ l) h = (h x (rw (eq-eqb x x refl)), below_of n l (λ z e. h z (rw e (both (eqb x z) (λ p. rw p) (λ p. rw p)))))
@@ -127,7 +124,7 @@ module _ (f : ℕ → ℕ) (l : Lists) (bs : Buckets) (s : ℕ) (w : ListsRep f 
     pub push_alike : (z : ℕ) → has z (get_or bs j []) ≡ false → eqb z y ≡ false → links z ≡ f z
     push_alike z n e = rw push_behind (link_alike f head end (get_or bs j []) y (w.linked j jn) (below_bucket nr_buckets bs NONE s j jn b) z n e)
 
-    pub push_in : (k : ℕ) → Below k (around nr_buckets bs s nr_buckets) → BehindIn k (push_back l j y).behind
+    pub push_in : (k : ℕ) → Below k (around nr_buckets bs s nr_buckets) → Under k (push_back l j y).behind
     push_in k c = rw push_behind (behind_in k f head end (get_or bs j []) (w.linked j jn) (below_bucket nr_buckets bs k s j jn c) (below_bucket nr_buckets bs NONE s j jn b))
 
     push_here : Linked links (get_or (push_back l j y).queue.heads j 0) (get_or (push_back l j y).queue.tails j 0) (get_or (join bs j y) j [])

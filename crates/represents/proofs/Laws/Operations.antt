@@ -22,6 +22,7 @@ use Rattle.rules.specs.Times.{timeslice, deadline_distance}
 use Rattle.rules.specs.State.{at, idle_priority}
 use Rattle.rules.proofs.Laws.Effect.{Shape, start_order, bucket_for_in, class_bucket_in, timeshare_bucket_in, join_comes, NextIs, next_nobody, next_head, next_is}
 use Rattle.rules.proofs.Laws.Held.{has_head}
+use Rattle.rules.specs.Waits.{Under}
 use Rattle.thread.specs.Thread.{NONE}
 use Rattle.queue.specs.declared.lists.Lists.{Lists}
 use Rattle.queue.specs.declared.pq.PriorityQueue.{PriorityQueue}
@@ -35,7 +36,7 @@ use Rattle.queue.specs.Timeshare.{no_timeshare, ts_index, ts_bucket, ts_insert, 
 use Rattle.runqueue.specs.RunQueue.{no_run_queue, rq_empty, raised, said_realtime_def, said_timeshare_def, counted, with_realtime, with_timeshare, with_idle, advertising, rq_insert_realtime, rq_insert_timeshare, rq_insert_idle, rq_insert_into, rq_insert, first_in_def, rq_front_idle, rq_front_timeshare, rq_front_realtime, rq_front}
 use Rattle.runqueue.specs.RunQueue.{uncounted, rq_taken_realtime, rq_recalc, rq_taken_timeshare, rq_taken_idle, rq_taken_from, rq_taken, rq_clock, rq_hardtick}
 use Rattle.thread.specs.Priority.{raw_again}
-use Rattle.represents.proofs.Laws.Linked.{BehindIn, link_after, Alike, has_later, walk_chain}
+use Rattle.represents.proofs.Laws.Linked.{link_after, Alike, has_later, walk_chain}
 use Rattle.represents.specs.QueueRead.{walk}
 use Rattle.represents.specs.Linked.{ListsRep}
 use Rattle.represents.proofs.Laws.Lists.{as_found, push_in, push_alike, no_bucket, below_bucket, distinct_bucket}
@@ -607,7 +608,7 @@ module _ (limit : ℕ) (small : limit ≤ NONE) (m : Marks) (q : RunQueue) (R : 
         push_alike m.next q.idle.queues Q.idle 0 w.idle.shown j y jn il_once il_b il_free z
         (no_bucket nr_buckets Q.idle 0 j z jn (no_right z (timeshare_line Q) _ (no_right z (realtime_line Q) _ n))) e
 
-    part_behind : (p : Part) → BehindIn limit (rq_insert_into p q a).behind
+    part_behind : (p : Part) → Under limit (rq_insert_into p q a).behind
     unfolding rq_insert_into rq_insert_realtime rq_insert_timeshare rq_insert_idle pq_insert ts_insert order realtime_line timeshare_line idle_line
     part_behind part.Realtime =
         push_in m.next q.realtime.queues Q.realtime 0 w.realtime.shown (class_bucket a.priority.class v) y
@@ -620,7 +621,7 @@ module _ (limit : ℕ) (small : limit ≤ NONE) (m : Marks) (q : RunQueue) (R : 
         (class_bucket_in a.priority.class v vn) il_once il_b il_free limit (below_right limit (timeshare_line Q) _ (below_right limit (realtime_line Q) _ w.numbered))
 
     -- WHOSE LINK IS TO BE SET is a thread of the queue, so its record is there
-    pub put_behind : BehindIn limit (rq_insert q a).behind
+    pub put_behind : Under limit (rq_insert q a).behind
     unfolding rq_insert
     put_behind = part_behind (part_of a.priority.class a.due)
 

@@ -10,12 +10,12 @@ use Rattle.std.proofs.Math.Dec.{eqb, ltb}
 use Rattle.std.proofs.Math.ListN.{length-append, get_or-append}
 use Rattle.std.proofs.Math.Seq.{get_or-append_seam}
 use borrow.Author.Tests.{eqb-true, eqb-false, eq-eqb, ne_eqb, lt-ltb, ltb-true}
+use Rattle.std.specs.Cmp.{first_so, second_so}
 use Rattle.rules.specs.Line.{has, Distinct}
 use Rattle.rules.proofs.Laws.Line.{both, comes_distinct, has_append}
 use Rattle.rules.specs.State.{Limits, Node, Topology, those_below, join_all}
 use Rattle.rules.specs.Topology.{nr_nodes, parent_of, children, no_nodes, leaf, cpus_of, visits, visited}
 use Rattle.rules.specs.Commands.{with_node}
-use Rattle.rules.proofs.Laws.Effect.{and_left, and_right}
 use Rattle.represents.proofs.Laws.NumberLists.{below_same, below_none, below_has, join_append, join_join, join_same, ins, ins_append, ins_join, ins_none, has_ins, distinct_ins}
 use Rattle.represents.specs.Topology.{met, met_first}
 
@@ -84,8 +84,8 @@ module _ (limits : Limits) (t : Topology) (p k : ℕ) where
       unfolding children
       children_after m x h =
           let a : (x < new) × ((ltb 0 x && eqb (parent_of limits t x) m) ≡ true) = below_has new _ x h in
-          let e : parent_of limits t x ≡ m = eqb-true _ m (and_right (ltb 0 x) _ a.1) in
-          (omega (arith, parents x (ltb-true 0 x (and_left (ltb 0 x) _ a.1)) a.0), a.0)
+          let e : parent_of limits t x ≡ m = eqb-true _ m (second_so (ltb 0 x) _ a.1) in
+          (omega (arith, parents x (ltb-true 0 x (first_so (ltb 0 x) _ a.1)) a.0), a.0)
 
       pub children_none : children limits t new ≡ []
       unfolding children

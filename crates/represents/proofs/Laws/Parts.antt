@@ -148,6 +148,11 @@ pub no_part : (next : ℕ → ℕ) → PartRep next no_priority (replicate nr_bu
 unfolding no_priority nr_buckets around bucket
 no_part next = record { shown = no_lists next; counted = refl }
 
+none_counted : (l : List ℕ) → eqb (length l) 0 ≡ empty l
+unfolding empty
+none_counted [] = refl
+none_counted (x ∷ l) = ne_eqb (suc (length l)) 0 (λ e. omega arith)
+
 module _ (f : ℕ → ℕ) (p : PriorityQueue) (bs : Buckets) (w : PartRep f p bs) where
   pub part_frame : (g : ℕ → ℕ) → Alike g f (line bs 0) → PartRep g p bs
   part_frame g a = record { shown = shown_frame f p.queues bs 0 w.shown g a; counted = w.counted }
@@ -158,11 +163,7 @@ module _ (f : ℕ → ℕ) (p : PriorityQueue) (bs : Buckets) (w : PartRep f p b
 
   pub part_empty : pq_empty p ≡ empty (line bs 0)
   unfolding pq_empty
-  part_empty = rw w.counted (go (line bs 0))
-    where
-      go : (l : List ℕ) → eqb (length l) 0 ≡ empty l
-      go [] = unfold empty in refl
-      go (x ∷ l) = unfold empty in ne_eqb (suc (length l)) 0 (λ e. omega arith)
+  part_empty = rw w.counted (none_counted (line bs 0))
 
   pub part_highest : Below NONE (line bs 0) → pq_highest p ≡ highest_bucket bs nr_buckets
   unfolding pq_highest highest_held pq_empty
@@ -224,11 +225,7 @@ module _ (f value : ℕ → ℕ) (t : TimeshareQueue) (bs : Buckets) (fl em : �
 
   pub share_empty : ts_empty t ≡ empty (line bs em)
   unfolding ts_empty
-  share_empty = rw w.counted (go (line bs em))
-    where
-      go : (l : List ℕ) → eqb (length l) 0 ≡ empty l
-      go [] = unfold empty in refl
-      go (x ∷ l) = unfold empty in ne_eqb (suc (length l)) 0 (λ e. omega arith)
+  share_empty = rw w.counted (none_counted (line bs em))
 
   top_counts : (k : ℕ) → k ≤ nr_buckets → top_counts_def t.priorities k ≡ top_value value (line bs em) k
   unfolding top_counts_def top_value

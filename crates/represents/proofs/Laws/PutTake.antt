@@ -36,7 +36,8 @@ use Rattle.represents.specs.Queue.{QueueReading}
 use Rattle.represents.proofs.Laws.Readings.{put_reading, as_arrival, take_reading}
 use Rattle.represents.proofs.Laws.Linked.{has_later}
 use Rattle.represents.proofs.Laws.Operations.{put_has, in_ts, movable_same}
-use Rattle.records.specs.Left.{mem, Memory, Left}
+use Rattle.processor.specs.Left.{Left}
+use Rattle.records.specs.Left.{mem, Memory}
 use Rattle.records.specs.Rq.{record_at, arrival_of, steady_in, put_in_def, put_of_def, insert_def, left_by_def, took_from_def, take_def}
 use Rattle.represents.specs.QueueRead.{marks}
 use Rattle.represents.proofs.Laws.Records.{length_put, field_set, kept, put_reads, put_field}

@@ -13,12 +13,13 @@ use Rattle.rules.specs.Times.{pinned, effective_priority, steadied}
 use Rattle.rules.specs.Times as times
 use Rattle.rules.specs.State.{at}
 use Rattle.rules.specs.Queue.{is_timeshare}
+use Rattle.rules.specs.Waits.{Under}
 use Rattle.thread.specs.declared.Thread.{Thread}
 use Rattle.thread.specs.Thread.{blank, NONE, WAITING, with_place, with_next, with_stable}
 use Rattle.thread.specs.Reads.{reads}
 use Rattle.thread.specs.Priority.{stable_effective_priority, reads_stable}
 use Rattle.thread.specs.Place.{reads_place, reads_next}
-use Rattle.represents.proofs.Laws.Linked.{link_after, BehindIn}
+use Rattle.represents.proofs.Laws.Linked.{link_after}
 use Rattle.represents.proofs.Laws.Readings.{value_after}
 use Rattle.records.specs.Rq.{record_at, steady_in, put_in_def, link_behind}
 use Rattle.represents.specs.QueueRead.{marks}
@@ -99,15 +100,15 @@ module _ (ts : List Thread) (x : ℕ) (h : x < length ts) (p : Part) where
   unfolding at marks
   link_here z = field_set (λ (u : Thread). u.next) ts x (put_in_def (record_at ts x) p) z h ∙ rw (put_next (record_at ts x) p)
 
-  link_next : (b : Option ℕ) (z : ℕ) → BehindIn (length ts) b → (record_at (link_behind written b x) z).next ≡ link_after (marks ts).next b x z
-  unfolding link_behind link_after BehindIn
+  link_next : (b : Option ℕ) (z : ℕ) → Under (length ts) b → (record_at (link_behind written b x) z).next ≡ link_after (marks ts).next b x z
+  unfolding link_behind link_after Under
   link_next None z l = link_here z
   link_next (Some b) z l =
       rw (read_set written b (with_next (record_at written b) x) z (rw (length-set ts x (put_in_def (record_at ts x) p)) l))
       (both (eqb z b) (λ q. rw q (unfold at with_next in rw q)) (λ q. rw q (unfold at in rw q (unfold at in link_here z))))
 
   -- THE WRITES OF A PUT
-  pub marks_put : (b : Option ℕ) → BehindIn (length ts) b
+  pub marks_put : (b : Option ℕ) → Under (length ts) b
       → marks (link_behind written b x)
       ≡ record {
         next = link_after (marks ts).next b x;

@@ -16,6 +16,7 @@ use Rattle.rules.specs.declared.Part.{Part}
 use Rattle.rules.specs.Priority.{nr_values}
 use Rattle.rules.specs.Queue.{nr_buckets, order, Next, nobody, next_in, asked}
 use Rattle.rules.specs.State.{at}
+use Rattle.rules.specs.Waits.{Under}
 use Rattle.thread.specs.declared.Thread.{Thread}
 use Rattle.thread.specs.Thread.{NONE, RUNNING, with_place}
 use Rattle.thread.specs.Reads.{reads}
@@ -29,14 +30,14 @@ use Rattle.runqueue.specs.RunQueue.{front_at, no_run_queue, rq_front, rq_taken, 
 use Rattle.processor.specs.Queue.{queue_at, queue_stored, queue_into, stored_from}
 use Rattle.processor.proofs.Laws.Queue.{Eights, length_lists, queue_after_store, queue_elsewhere, length_store}
 use Rattle.processor.specs.Window.{length_place}
-use Rattle.represents.proofs.Laws.Linked.{BehindIn}
 use Rattle.represents.specs.QueueRead.{Marks}
 use Rattle.represents.specs.Queue.{QueueReading, QueueRep}
 use Rattle.represents.proofs.Laws.Readings.{reading, new_reading, put_reading, take_reading, clock_reading, hardtick_reading, marks_after}
 use Rattle.represents.proofs.Laws.Operations.{reading_is, hardtick_ticks, put_behind, new_well}
 use Rattle.represents.specs.Queue.{waits, AllQueuesRep}
 use Rattle.represents.proofs.Laws.Queues.{Agree, AllFollow, all_frame, all_take, all_put, all_clock, all_hardtick}
-use Rattle.records.specs.Left.{Memory, mem, Left}
+use Rattle.processor.specs.Left.{Left}
+use Rattle.records.specs.Left.{Memory, mem}
 use Rattle.records.specs.Rq.{record_at, arrival_of, put_of_def, insert_def, left_by_def, took_from_def, take_def, clock_def, hardtick_def}
 use Rattle.represents.specs.QueueRead.{marks}
 use Rattle.represents.proofs.Laws.Records.{marks_kept, marks_put, length_put}
@@ -67,8 +68,8 @@ length_row : (row : List ℕ) (q : RunQueue) → length (queue_into row q) ≡ l
 unfolding queue_into stored_from
 length_row row q = simp (length_place, length_lists)
 
-behind_more : (n k : ℕ) (b : Option ℕ) → n ≤ k → BehindIn n b → BehindIn k b
-unfolding BehindIn
+behind_more : (n k : ℕ) (b : Option ℕ) → n ≤ k → Under n b → Under k b
+unfolding Under
 behind_more n k None h l = tt
 behind_more n k (Some b) h l = omega arith
 
@@ -135,7 +136,7 @@ module _ (limit n : ℕ) (ts : List Thread) (cs : List (List ℕ)) (Rs : ℕ →
           let tn : a.thread < limit = unfold arrival_of in xn in
           let pin : (marks ts).pinned a.thread ≡ a.pinned = unfold arrival_of marks in refl in
           let fr : (d : ℕ) → d < n → waits Rs d a.thread ≡ false = unfold arrival_of in free in
-          let k : BehindIn (length ts) u.behind = behind_more limit (length ts) u.behind g.records (put_behind limit small (marks ts) (queue_at cs c) (Rs c) (g.shows.each c cn) a vn tn (fr c cn) pin) in
+          let k : Under (length ts) u.behind = behind_more limit (length ts) u.behind g.records (put_behind limit small (marks ts) (queue_at cs c) (Rs c) (g.shows.each c cn) a vn tn (fr c cn) pin) in
           let e : marks (insert_def c x tick current (mem ts cs)).threads ≡ marks_after (marks ts) u a = marks_put ts x xl u.part u.behind k ∙ (unfold marks_after arrival_of in refl) in
           stored (insert_def c x tick current (mem ts cs)).threads u.queue _ (rw (length_put ts x xl u.part u.behind) g.records)
           (subst (λ (m : Marks). AllQueuesRep limit n m (at (queue_at cs) c u.queue) (at Rs c (put_reading (Rs c) a))) (sym e)

@@ -8,7 +8,7 @@ use Rattle.std.proofs.lemmas.Bool.{false≢true}
 use mathlib.Core.List.{List, [], ◌∷◌, ◌++◌, append-nil}
 use Rattle.std.proofs.Math.Dec.{eqb, ltb}
 use borrow.Author.Tests.{eqb-true, eqb-false, eq-eqb, ne_eqb, lt-ltb, ltb-true, ltb-false}
-use Rattle.rules.specs.Line.{has, Distinct, Below}
+use Rattle.rules.specs.Line.{has, Distinct}
 use Rattle.rules.proofs.Laws.Line.{both, comes_distinct, distinct_length, has_append}
 use Rattle.rules.specs.State.{Limits, Topology, join_all, any_below, is_number}
 use Rattle.rules.specs.Topology.{nr_nodes, parent_of, children, no_nodes, leaf, upward, above, holds, on_node, cpus_of, visited, nearest_from}
@@ -16,6 +16,8 @@ use Rattle.topology.specs.Words.{word}
 use Rattle.topology.specs.Node.{parent, next, prev, first, end, lesser, has_cpus, contains_at, first_of, end_of}
 use Rattle.topology.specs.Walk.{cpus_at, leaf_cpus, to_root, visited_at, nearest_at}
 use Rattle.represents.proofs.Laws.NumberLists.{those_within, below_same, has_below, any_true, any_none, join_same}
+use Rattle.rules.proofs.Laws.Places.{is_some_number}
+use Rattle.represents.proofs.Laws.Lists.{below_of}
 use Rattle.represents.proofs.Laws.Ring.{linked_walk}
 use Rattle.represents.specs.Topology.{met_first, TopologySound}
 use Rattle.represents.proofs.Laws.Order.{leaf_list, visited_met}
@@ -34,11 +36,6 @@ below_lesser c a b h l = both (ltb a b) (λ e. rw e h) (λ e. rw e l)
 only_one : (y x : ℕ) → has x (y ∷ []) ≡ true → y ≡ x
 unfolding has
 only_one y x g = both (eqb y x) (λ q. eqb-true y x q) (λ q. absurd (false≢true (rw q at g)))
-
-pub number_is : (x : ℕ) (o : Option ℕ) → is_number x o ≡ true → o ≡ Some x
-unfolding is_number
-number_is x None e = absurd (false≢true e)
-number_is x (Some y) e = ap Some (eqb-true y x e)
 
 -- ---- the way up to the root
 
@@ -150,17 +147,12 @@ module _ (limits : Limits) (rows : List (List ℕ)) (t : Topology) (tree : Topol
       let g : has x (0 ∷ []) ≡ true = rw e at (sym (has_append x (met_first limits t) (0 ∷ [])) ∙ h) in
       omega (arith, tree.sound.root, only_one 0 x g))
 
-  within_below : (l : List ℕ) (n : ℕ) → ((x : ℕ) → has x l ≡ true → x < n) → Below n l
-  unfolding has Below
-  within_below [] n h = tt
-  within_below (y ∷ l) n h = (h y (rw (eq-eqb y y refl)), within_below l n (λ x e. h x (rw e (both (eqb y x) (λ q. rw q) (λ q. rw q)))))
-
   -- the root comes last, so the loop has enough turns
   all_room : length (met_first limits t) < length rows
   all_room =
       let d : Distinct (met_first limits t ++ (0 ∷ [])) =
       comes_distinct (record { front = met_first limits t; back = []; before = sym (append-nil (met_first limits t)); after = refl }) tree.sound.no_root tree.sound.distinct in
-      let b : length (met_first limits t ++ (0 ∷ [])) ≤ nr_nodes limits t = distinct_length (nr_nodes limits t) _ d (within_below _ (nr_nodes limits t) all_within) in
+      let b : length (met_first limits t ++ (0 ∷ [])) ≤ nr_nodes limits t = distinct_length (nr_nodes limits t) _ d (below_of (nr_nodes limits t) _ all_within) in
       omega (arith, length-append (met_first limits t) (0 ∷ []), tree.room)
 
   -- THE ORDER IN WHICH THE SEARCH VISITS
@@ -188,4 +180,4 @@ module _ (limits : Limits) (rows : List (List ℕ)) (t : Topology) (tree : Topol
       (λ q. q)))))))
       (λ e. rw (tree.children_is n h, e)
       (sym (any_none limits.cpus (λ c. is_number n (t.placed c))
-      (λ c l. both (is_number n (t.placed c)) (λ q. absurd (true≢false (sym (tree.sound.placed_there c n (number_is n (t.placed c) q)).1.1 ∙ e))) (λ q. q)))))
+      (λ c l. both (is_number n (t.placed c)) (λ q. absurd (true≢false (sym (tree.sound.placed_there c n (is_some_number n (t.placed c) q)).1.1 ∙ e))) (λ q. q)))))

@@ -1,4 +1,4 @@
-use Rattle.std.proofs.Common.{sym, ◌∙◌}
+use Rattle.std.proofs.Common.{◌≡◌, sym, ◌∙◌, drop}
 use Rattle.std.proofs.lemmas.List.{take_rest}
 use Rattle.request.specs.Request.{reading_of}
 use Rattle.request.proofs.Table.{read_whole, read_cut}
@@ -7,10 +7,14 @@ use Rattle.request.proofs.read.Goals as goal
 pub returns-then-rest-n : goal.returns-then-rest-n
 unfolding reading_of
 returns-then-rest-n c =
-    read_cut _ _ _ c.if-bytes-at.false _ (sym c.operand_bytes.ensures ∙ c.in_ok-n.ensures.ok_part) (rw take_rest at c.if-rest-n.true)
+    let there = c.in-Some-len1-up in
+    let e : there.field-0.now ≡ drop c.args.at c.args.bytes.now = there.ensures.lookup.0.2 ∙ take_rest c.args.bytes.now c.args.at in
+    rw (← e) (read_cut _ _ _ there.len_at_least (sym c.operand_bytes.ensures ∙ c.in_ok-n.ensures.ok_part) (rw take_rest at c.if-rest-n.true))
 
 pub returns : goal.returns
 unfolding reading_of
 returns c =
-    rw (c.ask-request.ensures, take_rest)
-    (read_whole _ _ _ c.if-bytes-at.false _ (sym c.operand_bytes.ensures ∙ c.in_ok-n.ensures.ok_part) (rw take_rest at c.if-rest-n.false))
+    let there = c.in-Some-len1-up in
+    let e : there.field-0.now ≡ drop c.args.at c.args.bytes.now = there.ensures.lookup.0.2 ∙ take_rest c.args.bytes.now c.args.at in
+    rw (← e, c.ask-request.ensures, take_rest)
+    (read_whole _ _ _ there.len_at_least (sym c.operand_bytes.ensures ∙ c.in_ok-n.ensures.ok_part) (rw take_rest at c.if-rest-n.false))

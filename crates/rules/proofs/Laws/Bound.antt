@@ -6,6 +6,7 @@ use Rattle.std.proofs.Common.{sym, ◌∙◌, append_assoc, length-append, eqb-t
 use Rattle.std.proofs.Math.Bool.{not, and-true}
 use Rattle.std.proofs.lemmas.Bool.{false≢true, eqb-false}
 use Rattle.std.proofs.Math.ListN.{length}
+use Rattle.std.specs.Cmp.{first_so}
 use Rattle.rules.specs.declared.Part.{Part}
 use Rattle.rules.specs.declared.Part.TheVariants as part
 use Rattle.rules.specs.Line.{has, ahead}
@@ -17,7 +18,7 @@ use Rattle.rules.specs.Queue.{Queue, nr_buckets, realtime_line, timeshare_line, 
 use Rattle.rules.specs.Queue.{Next, nobody, next_in, first_in, next_idle, next_timeshare, next, next_take_idx, leave, advance_insert_index}
 use Rattle.rules.specs.Puts.{put_made}
 use Rattle.rules.specs.Ahead.{calm_in}
-use Rattle.rules.proofs.Laws.Effect.{Shape, some_bucket, empty_true, and_left}
+use Rattle.rules.proofs.Laws.Effect.{Shape, some_bucket, empty_true}
 
 -- x waits in timeshare, and at most k leave until x has left: those in realtime, and those of a bucket for each bucket before its own
 pub record Soon (limit x : ℕ) (q : Queue) (k : ℕ) : Type 0 where
@@ -145,7 +146,7 @@ module _ (limit x k : ℕ) (q : Queue) (h : Shape q) (w : length (order q) ≤ l
   near_after j y hit other =
       let fits : length (timeshare_line q) ≤ limit = omega (arith, timeshare_fits q) in
       both (empty (bucket nr_buckets (pop q.timeshare j) j) && not (eqb j q.insert_idx))
-      (λ t. rw t (near_next nr_buckets limit q.timeshare q.take_idx j x y h.timeshare_full fits hit other (empty_true _ (and_left _ _ t)) s.near))
+      (λ t. rw t (near_next nr_buckets limit q.timeshare q.take_idx j x y h.timeshare_full fits hit other (empty_true _ (first_so _ _ t)) s.near))
       (λ t. rw t (near_there nr_buckets limit q.timeshare q.take_idx j x y h.timeshare_full fits hit other s.near))
 
   falls_timeshare : (f : Found) → scan nr_buckets q.timeshare q.take_idx nr_buckets ≡ f → Falls limit x k q (first_in part.Timeshare f (next_idle q))

@@ -5,6 +5,7 @@ use Rattle.std.proofs.lemmas.Bool.{false≢true}
 use Rattle.std.proofs.lemmas.List.{get_or-replicate}
 use Rattle.std.proofs.Math.Nat.{mod-lt}
 use native.Mathlib.Omega.{arith}
+use Rattle.std.specs.Cmp.{first_so}
 use Rattle.rules.specs.declared.PriorityClass.{PriorityClass}
 use Rattle.rules.specs.declared.PriorityClass.TheVariants as class
 use Rattle.rules.specs.declared.Part.{Part}
@@ -136,14 +137,6 @@ unfolding empty
 empty_true [] e = refl
 empty_true (x ∷ l) e = absurd (false≢true e)
 
-pub and_left : (s t : Bool) → (s && t) ≡ true → s ≡ true
-and_left true t e = refl
-and_left false t e = e
-
-pub and_right : (s t : Bool) → (s && t) ≡ true → t ≡ true
-and_right true t e = e
-and_right false t e = absurd (false≢true e)
-
 pub next_take_idx_in : (f : ℕ) (ts : Buckets) (j : ℕ) → j < nr_buckets → next_take_idx f ts j < nr_buckets
 unfolding next_take_idx
 next_take_idx_in f ts j h = both (empty (bucket nr_buckets ts j) && not (eqb j f)) (λ p. rw p (mod-lt (suc j) some_bucket)) (λ p. rw p h)
@@ -154,7 +147,7 @@ pub around_next_take_idx : (f : ℕ) (bs : Buckets) (i j x : ℕ) → length bs 
 unfolding next_take_idx
 around_next_take_idx f bs i j x l h =
     both (empty (bucket nr_buckets (pop bs j) j) && not (eqb j f))
-    (λ p. rw p (around_pop_next nr_buckets bs i j x l h (empty_true _ (and_left _ _ p))))
+    (λ p. rw p (around_pop_next nr_buckets bs i j x l h (empty_true _ (first_so _ _ p))))
     (λ p. rw p (around_pop_there nr_buckets bs i j x l h))
 
 pub hit_in : {bs : Buckets} {i k j x : ℕ} → Hit nr_buckets bs i k j x → j < nr_buckets

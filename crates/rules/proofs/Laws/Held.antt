@@ -4,6 +4,7 @@ use Rattle.std.specs.Prelude.{ℕ, zero, suc, ◌+◌, ◌-◌, ◌%◌, ◌≤�
 use Rattle.std.proofs.Common.{sym, ◌∙◌, append-nil, length-append, eqb-true, eq-eqb, ne_eqb, ltb-true, ltb-false, lt-ltb, le-ltb, mod-lt, mod-eq_of_lt, arith}
 use Rattle.std.proofs.lemmas.Bool.{eqb-false}
 use Rattle.std.proofs.Math.Nat.{mod-add-mod, add-mod_right}
+use Rattle.std.specs.Cmp.{first_so, second_so}
 use Rattle.rules.specs.declared.Part.{Part}
 use Rattle.rules.specs.declared.Part.TheVariants as part
 use Rattle.rules.specs.Line.{has, ahead, count, Distinct}
@@ -13,7 +14,7 @@ use Rattle.rules.proofs.Laws.Buckets.{round_once, around_at}
 use Rattle.rules.proofs.Laws.Distance.{bucket_cong, bucket_join, bucket_join_other, bucket_pop_same, bucket_pop_other}
 use Rattle.rules.specs.Queue.{Queue, nr_buckets, no_queue, realtime_line, timeshare_line, idle_line, order, join_in, leave}
 use Rattle.rules.specs.Ahead.{Wait, threads, how_many, rank, first_bucket, onward, earlier_part, same_part, how_far, ahead_of}
-use Rattle.rules.proofs.Laws.Effect.{Shape, some_bucket, buckets_of, first_of, line_of, full, first_of_in, start_bucket, and_left, and_right}
+use Rattle.rules.proofs.Laws.Effect.{Shape, some_bucket, buckets_of, first_of, line_of, full, first_of_in, start_bucket}
 use Rattle.rules.proofs.Laws.Waiting.{pick, others, threads_append, pick_append, how_many_append, pick_length, pick_absent, pick_distinct, pick_both, pick_others}
 use Rattle.rules.proofs.Laws.Waiting.{Older, Newer, Placed}
 
@@ -77,11 +78,11 @@ leave_buckets part.Idle part.Idle q j = refl
 
 stands_part : (p : Part) (i : ℕ) (w : Wait) → stands p i w ≡ true → rank w.put.part ≡ rank p
 unfolding stands
-stands_part p i w s = eqb-true _ _ (and_left (eqb (rank w.put.part) (rank p)) (eqb (w.put.bucket % nr_buckets) (i % nr_buckets)) s)
+stands_part p i w s = eqb-true _ _ (first_so (eqb (rank w.put.part) (rank p)) (eqb (w.put.bucket % nr_buckets) (i % nr_buckets)) s)
 
 stands_bucket : (p : Part) (i : ℕ) (w : Wait) → stands p i w ≡ true → w.put.bucket % nr_buckets ≡ i % nr_buckets
 unfolding stands
-stands_bucket p i w s = eqb-true _ _ (and_right (eqb (rank w.put.part) (rank p)) (eqb (w.put.bucket % nr_buckets) (i % nr_buckets)) s)
+stands_bucket p i w s = eqb-true _ _ (second_so (eqb (rank w.put.part) (rank p)) (eqb (w.put.bucket % nr_buckets) (i % nr_buckets)) s)
 
 -- who stands in one bucket stands in no other
 one_bucket : (q : Queue) (ws : List Wait) (x : ℕ) (p r : Part) (i j : ℕ) → Held q ws → Distinct (threads ws) → has x (bucket nr_buckets (buckets_of p q) i) ≡ true
@@ -277,7 +278,7 @@ line_distinct part.Realtime q d = distinct_left (realtime_line q) _ d
 line_distinct part.Timeshare q d = distinct_left (timeshare_line q) _ (distinct_right (realtime_line q) _ d)
 line_distinct part.Idle q d = distinct_right (timeshare_line q) _ (distinct_right (realtime_line q) _ d)
 
-has_around : (n : ℕ) (bs : Buckets) (i w d x : ℕ) → d < w → has x (bucket n bs (i + d)) ≡ true → has x (around n bs i w) ≡ true
+pub has_around : (n : ℕ) (bs : Buckets) (i w d x : ℕ) → d < w → has x (bucket n bs (i + d)) ≡ true → has x (around n bs i w) ≡ true
 has_around n bs i w d x h k =
     let r : ℕ = w - suc d in
     rw (around_at n bs i w d r (omega arith)) (has_right x (around n bs i d) _ (has_left x (bucket n bs (i + d)) _ k))

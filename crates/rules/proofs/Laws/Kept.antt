@@ -1,9 +1,10 @@
 -- What every put, take and `advance_insert_index` keeps of a queue and its puts and takes, and what follows of demand 3 for one queue.
 use Rattle.std.specs.Prelude.{ℕ, suc, ◌+◌, ◌*◌, ◌≤◌, ◌<◌, ◌≡◌, refl, ◌≢◌, ◌↔◌, Bool, true, false, cond, not, ◌&&◌, ◌||◌, length, eqb, Option, None, Some}
 use Rattle.std.proofs.Common.{sym, ap, subst, ◌∙◌, inl, inr, true≢false, length-append, eqb-true, eq-eqb, ne_eqb, zero-add, arith}
-use Rattle.std.proofs.lemmas.Bool.{false≢true, eqb-false}
+use Rattle.std.proofs.lemmas.Bool.{false≢true, eqb-false, or_parts}
 use Rattle.std.proofs.Math.Bool.{or-false}
 use mathlib.Core.List.{List, [], ◌∷◌, ◌++◌, append_assoc, append-nil, nil≢cons}
+use Rattle.std.specs.Cmp.{first_so, second_so}
 use Rattle.rules.specs.declared.Part.{Part}
 use Rattle.rules.specs.declared.Part.TheVariants as part
 use Rattle.rules.specs.Line.{has, ahead, count, Distinct, Below}
@@ -16,7 +17,7 @@ use Rattle.rules.specs.Puts.{Put, PutOrTake, a_put, a_take, put_made}
 use Rattle.rules.specs.State.{is_number}
 use Rattle.rules.specs.Ahead.{gone, Wait, at_time, waiting, who_waits, threads, In, how_many, ahead_of, put_after, a_of, puts_ahead, b_of, counts, served, puts, calm_in, calm_while, unpinned}
 use Rattle.rules.proofs.Laws.Effect.{Shape, start_shape, start_order, bucket_for_in, join_comes, join_shape, NextIs, next_nobody, next_head, next_is, buckets_of}
-use Rattle.rules.proofs.Laws.Effect.{advance_order, advance_buckets, advance_shape, and_left, and_right}
+use Rattle.rules.proofs.Laws.Effect.{advance_order, advance_buckets, advance_shape}
 use Rattle.rules.proofs.Laws.Waiting.{eqb_swap, others, threads_append, how_many_append, others_threads, gone_append, waiting_put, waiting_none, waiting_some, waiting_rising, placed, put_in_waiting}
 use Rattle.rules.proofs.Laws.Held.{Held, held_start, held_join, Left, held_left, leave_left, place}
 use Rattle.rules.proofs.Laws.Bound.{Soon, soon_now, soon_join, soon_in, Falls, falls, soon_advance}
@@ -95,10 +96,10 @@ ahead_put w n t (a_take s o ∷ es) p e =
 
 calm_put : (x : ℕ) (es : List PutOrTake) (p : Put) → gone x es ≡ false → calm_while x (es ++ (a_put p ∷ [])) ≡ true → (calm_while x es ≡ true) × (calm_in p.part p ≡ true)
 unfolding calm_while gone
-calm_put x [] p g h = (refl, and_left (calm_in p.part p) true h)
+calm_put x [] p g h = (refl, first_so (calm_in p.part p) true h)
 calm_put x (a_put r ∷ es) p g h =
-    let t = calm_put x es p g (and_right (calm_in r.part r) (calm_while x (es ++ (a_put p ∷ []))) h) in
-    (rw (and_left (calm_in r.part r) (calm_while x (es ++ (a_put p ∷ []))) h, t.0), t.1)
+    let t = calm_put x es p g (second_so (calm_in r.part r) (calm_while x (es ++ (a_put p ∷ []))) h) in
+    (rw (first_so (calm_in r.part r) (calm_while x (es ++ (a_put p ∷ []))) h, t.0), t.1)
 calm_put x (a_take s o ∷ es) p g h = both (is_number x o) (λ f. absurd (true≢false (rw f at g))) (λ f. rw f (calm_put x es p (rw f at g) (rw f at h)))
 
 calm_gone : (x : ℕ) (es fs : List PutOrTake) → gone x es ≡ true → calm_while x (es ++ fs) ≡ calm_while x es
@@ -335,10 +336,6 @@ is_head : (x y : ℕ) (l m : List ℕ) → l ≡ y ∷ m → eqb y x ≡ true �
 unfolding ahead
 is_head x y l m e f = rw (e, f)
 
-pub or_both : (s t : Bool) → (s || t) ≡ false → (s ≡ false) × (t ≡ false)
-or_both true t e = absurd (true≢false e)
-or_both false t e = (refl, e)
-
 turn_some : {limit : ℕ} {q q' : Queue} (pre mid : List PutOrTake) (p : Put) (s : Bool) (y : ℕ) → order q ≡ y ∷ order q'
     → ((x k : ℕ) → eqb y x ≡ false → Soon limit x q k → (k' : ℕ) × Soon limit x q' k' × (k' < k)) → Turning limit q pre p mid → Turning limit q' pre p (mid ++ (a_take s (Some y) ∷ []))
 unfolding b_of counts is_number
@@ -350,7 +347,7 @@ turn_some {limit} {q} {q'} pre mid p s y o f t =
     let c_is = calm_take x mid s (Some y) in
     record {
       waits_yet = λ g.
-          let (h, n) = or_both (gone x mid) (eqb y x) (sym g_is ∙ g) in
+          let (h, n) = or_parts (gone x mid) (eqb y x) (sym g_is ∙ g) in
           let w = t.waits_yet h in
           omega (arith, not_head x y (order q) (order q') o n);
       has_left = λ g.
@@ -358,7 +355,7 @@ turn_some {limit} {q} {q'} pre mid p s y o f t =
           (λ h. let w = t.has_left h in omega arith)
           (λ h. let w = t.waits_yet h in omega (arith, is_head x y (order q) (order q') o (rw h at (sym g_is ∙ g))));
       soon = λ u c g.
-          let (h, n) = or_both (gone x mid) (eqb y x) (sym g_is ∙ g) in
+          let (h, n) = or_parts (gone x mid) (eqb y x) (sym g_is ∙ g) in
           let (k, w, m) = t.soon u (sym c_is ∙ c) h in
           let (k', w', l) = f x k n w in
           (k', w', omega arith);
@@ -396,7 +393,7 @@ remove_distinct y [] b d = (d.1, d.0)
 remove_distinct y (z ∷ f) b d =
     let ih = remove_distinct y f b d.1 in
     let c : Comes y (f ++ b) (f ++ (y ∷ b)) = record { front = f; back = b; before = refl; after = refl } in
-    let (m, n) = or_both (eqb y z) (has z (f ++ b)) (sym (comes_has c z) ∙ d.0) in
+    let (m, n) = or_parts (eqb y z) (has z (f ++ b)) (sym (comes_has c z) ∙ d.0) in
     ((n, ih.0), rw (eqb_swap z y, m) ih.1)
 
 remove_below : (n y : ℕ) (f b : List ℕ) → Below n (f ++ (y ∷ b)) → Below n (f ++ b)
@@ -535,7 +532,7 @@ asking : (pinned : ℕ → Bool) (q : Queue) (s : Bool) → Asking pinned q s (a
 unfolding asked
 asking pinned q s =
     both (s && eqb (movable pinned (order q)) 0)
-    (λ e. nobody_moves (and_left _ _ e) (eqb-true _ _ (and_right s _ e)) (rw e))
+    (λ e. nobody_moves (first_so _ _ e) (eqb-true _ _ (second_so s _ e)) (rw e))
     (λ e. the_next (λ f m. true≢false (sym (rw (f, eq-eqb (movable pinned (order q)) 0 m)) ∙ e)) (rw e))
 
 -- ---- what a put, a take and `advance_insert_index` keep

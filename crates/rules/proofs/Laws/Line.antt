@@ -13,6 +13,11 @@ abbrev pub both {ℓ} : {A : Type ℓ} (t : Bool) → (t ≡ true → A) → (t 
 both true f g = f refl
 both false f g = g refl
 
+-- what holds of both holds of the one that a test picks
+pub of_either {ℓ κ} : {A : Type ℓ} (P : A → Type κ) (t : Bool) (a b : A) → P a → P b → P (cond t a b)
+of_either P true a b p q = p
+of_either P false a b p q = q
+
 -- y comes in somewhere: the others keep their order
 pub record Comes (y : ℕ) (l m : List ℕ) : Type 0 where
   pub front : List ℕ

@@ -1,7 +1,7 @@
 -- Every thread is in one place, and a queue's load is its puts less the threads handed out: for every list of calls from the start.
 use Rattle.std.specs.Prelude.{ℕ, zero, suc, ◌+◌, ◌<◌, ◌≡◌, refl, ◌↔◌, Bool, true, false, ◌||◌, List, Option, None, Some}
 use Rattle.std.proofs.Common.{sym, ap, ◌∙◌, true≢false, eqb-true}
-use Rattle.std.proofs.lemmas.Bool.{false≢true, not-true}
+use Rattle.std.proofs.lemmas.Bool.{false≢true, not-true, or_parts}
 use Rattle.rules.specs.Line.{has}
 use Rattle.rules.proofs.Laws.Line.{both}
 use Rattle.rules.specs.Queue.{order, load}
@@ -12,7 +12,6 @@ use Rattle.rules.specs.Ahead.{served, puts}
 use Rattle.rules.proofs.Laws.Steps.{nobody_but}
 use Rattle.rules.proofs.Laws.Sound.{not_true_is}
 use Rattle.rules.proofs.Laws.Reached.{Reached, reached_start, reached_calls, kept_calls, any_not}
-use Rattle.rules.proofs.Laws.Kept.{or_both}
 
 -- A thread runs on one CPU, waits in one queue, or is blocked, and no two of these. One that runs or waits is declared.
 pub record InOnePlace (s : State) : Type 0 where
@@ -24,7 +23,7 @@ pub record InOnePlace (s : State) : Type 0 where
 
 -- ---- the proof
 
-is_some_number : (x : ℕ) (o : Option ℕ) → is_number x o ≡ true → o ≡ Some x
+pub is_some_number : (x : ℕ) (o : Option ℕ) → is_number x o ≡ true → o ≡ Some x
 unfolding is_number
 is_some_number x None e = absurd (false≢true e)
 is_some_number x (Some y) e = ap Some (eqb-true y x e)
@@ -43,7 +42,7 @@ reached_places {H} {s} r = record {
   else_blocked = λ x. (
     λ b c.
         let neither : (d : ℕ) → d < s.limits.cpus → (is_number x (s.cpus d).running ≡ false) × (has x (order (s.cpus d).queue) ≡ false) =
-        λ d i. or_both _ _ (any_not s.limits.cpus _ (not-true _ b) d i) in (
+        λ d i. or_parts _ _ (any_not s.limits.cpus _ (not-true _ b) d i) in (
           not_true_is _ (λ t. true≢false (sym t ∙ (neither c (r.sound.runs c x (is_some_number x _ t)).0).0)),
           not_true_is _ (λ t. true≢false (sym t ∙ (neither c (r.sound.placed c x t).0).1)),
         ),

@@ -3,7 +3,9 @@ use Rattle.std.specs.Prelude.{ℕ, zero, suc, ◌≤◌, ◌<◌, ◌≡◌, Boo
 use Rattle.std.proofs.Math.Path.{refl}
 use Rattle.std.proofs.Common.{sym, subst, ◌∙◌, true≢false, append_assoc, append-nil, eqb-true, eq-eqb, ltb-true, leb-true, arith}
 use Rattle.std.proofs.Math.Bool.{not}
-use Rattle.std.proofs.lemmas.Bool.{false≢true, eqb-false, not-true}
+use Rattle.std.proofs.lemmas.Bool.{false≢true, eqb-false, not-true, or_parts}
+use Rattle.std.proofs.lemmas.Option.{none-some}
+use Rattle.std.specs.Cmp.{first_so, second_so}
 use Rattle.rules.specs.Line.{has}
 use Rattle.rules.proofs.Laws.Line.{both}
 use Rattle.rules.specs.Priority.{nr_values, priority, class_at}
@@ -12,13 +14,14 @@ use Rattle.rules.specs.Queue.{no_queue, order}
 use Rattle.rules.specs.Puts.{PutOrTake}
 use Rattle.rules.specs.State.{at, any_below, is_number, Limits, with_shortest, Topology, State, start, new_thread, new_cpu, idle_priority, runs_on, waits_on, blocked}
 use Rattle.rules.specs.Schedule.{World}
-use Rattle.rules.specs.Requests.{Request, declare_cpu, add_node, place_cpu, seal, set_shortest, declare_thread, set_tick, schedule_thread, schedule, hardtick, stattick, resched, maybe_preempt, donate, remove_donation, set_critical, Reading, unknown, cut_short, asks, read, flags_of}
-use Rattle.rules.specs.Questions.{Question, question, sealed_now, declared, cpu_declared, pin_declared, thread_declared, thread_new, priority_in_range, thread_blocked, concerning, first_no, room, refusal}
-use Rattle.rules.specs.Commands.{Answer, no_log, refuses, changed, world_of, ran, shortened, scheduled_on, schedules, ran_on, obeys, answered, step, after_calls, history}
+use Rattle.rules.specs.Requests.{Request, declare_cpu, add_node, place_cpu, seal, set_shortest, declare_thread, set_tick, schedule_thread, schedule, hardtick, stattick, resched, maybe_preempt, donate, remove_donation, set_critical, Reading, read, flags_of}
+use Rattle.rules.specs.Questions.{Question, question, sealed_now, declared, cpu_declared, pin_declared, thread_declared, thread_new, priority_in_range, thread_blocked, concerning, first_no, room}
+use Rattle.rules.specs.Commands.{Answer, Step, no_log, refuses, changed, world_of, ran, shortened, scheduled_on, schedules, ran_on, obeys, answered, step, after_calls, history}
 use Rattle.rules.specs.Ahead.{waiting, who_waits, In}
-use Rattle.rules.proofs.Laws.Effect.{and_left, and_right, start_order}
+use Rattle.rules.proofs.Laws.Answered.{by_answer, kept_by_answer, kept_by_calls}
+use Rattle.rules.proofs.Laws.Effect.{start_order}
 use Rattle.rules.proofs.Laws.Limits.{SameButShortest, same_limits, then_same}
-use Rattle.rules.proofs.Laws.Kept.{Kept, kept_start, in_threads, or_both}
+use Rattle.rules.proofs.Laws.Kept.{Kept, kept_start, in_threads}
 use Rattle.rules.specs.Waits.{Under}
 use Rattle.rules.proofs.Laws.Sound.{Valued, Mild, alike_donated, alike_critical, at_keeps, Sound, Same, sound_same, New, not_true_is}
 use Rattle.rules.proofs.Laws.Steps.{nobody_but, select_cpu_selected, ok_scheduled, ok_schedule, ok_hardtick, ok_stattick, ok_resched, ok_maybe_preempt, ok_donate}
@@ -46,12 +49,9 @@ reached_start limits = record {
     placed = λ c x h. absurd (true≢false (sym h ∙ nobody_at_start x));
     free = λ c x b r d. nobody_at_start x;
     one = λ c d x h k. cc;
-    runs = λ c x r. absurd (nothing_runs x r);
+    runs = λ c x r. absurd (none-some x r);
   };
 }
-  where
-    nothing_runs : (x : ℕ) → None ≡ Some x → ⊥
-    nothing_runs x e = let z : ◌≡◌ {A = ℕ} 0 1 = cc in omega arith
 
 -- ---- a command that runs on a CPU, and one that does not
 
@@ -107,7 +107,7 @@ yes n b l e = both b (λ t. (t, rw t at e)) (λ t. let z : suc n ≡ 0 = rw t at
 
 pub declared_in : (s : State) (c : ℕ) → declared s c ≡ true → c < s.limits.cpus
 unfolding declared
-declared_in s c e = ltb-true c s.limits.cpus (and_left (ltb c s.limits.cpus) (s.topology.declared c) e)
+declared_in s c e = ltb-true c s.limits.cpus (first_so (ltb c s.limits.cpus) (s.topology.declared c) e)
 
 -- the CPU that runs a command is below the limit
 pub runs_below : (s : State) (c : ℕ) (l : List Question) → first_no (sealed_now s ∷ cpu_declared s c ∷ l) ≡ 0 → (c < s.limits.cpus) × (first_no l ≡ 0)
@@ -121,7 +121,7 @@ pub value_below : (k v : ℕ) (l : List Question) → first_no (priority_in_rang
 unfolding priority_in_range nr_values
 value_below k v l e =
     let a = yes 5 (leb k 3 && leb v 127) l e in
-    let b : v ≤ 127 = leb-true v 127 (and_right (leb k 3) (leb v 127) a.0) in
+    let b : v ≤ 127 = leb-true v 127 (second_so (leb k 3) (leb v 127) a.0) in
     omega arith
 
 -- ---- 12: a blocked thread neither waits nor runs
@@ -152,7 +152,7 @@ blocked_new {H} {s} c x r b k h = record {
 }
   where
     neither : (d : ℕ) → d < s.limits.cpus → (is_number x (s.cpus d).running ≡ false) × (has x (order (s.cpus d).queue) ≡ false)
-    neither d i = or_both _ _ (any_not s.limits.cpus _ (not-true _ b) d i)
+    neither d i = or_parts _ _ (any_not s.limits.cpus _ (not-true _ b) d i)
 
 reached_scheduled : {H : ℕ → List PutOrTake} {s : State} (us x : ℕ) (w : World) (o : Option ℕ) → Reached H s → us < s.limits.cpus → s.known x ≡ true → blocked s x ≡ true
     → Same s.limits (world_of s) w → Under s.limits.cpus o → Reached (λ c. H c ++ (scheduled_on s us x w o).log c) (scheduled_on s us x w o).state
@@ -217,8 +217,8 @@ module _ {H : ℕ → List PutOrTake} {s : State} (r : Reached H s) where
       let b = pin_in s p _ a.1 in
       let c = yes 4 (ltb x s.limits.threads && not (s.known x)) _ b.1 in
       reached_declared x (new_thread (priority (class_at k) v) p) r
-      (ltb-true x s.limits.threads (and_left (ltb x s.limits.threads) (not (s.known x)) c.0))
-      (not-true (s.known x) (and_right (ltb x s.limits.threads) (not (s.known x)) c.0))
+      (ltb-true x s.limits.threads (first_so (ltb x s.limits.threads) (not (s.known x)) c.0))
+      (not-true (s.known x) (second_so (ltb x s.limits.threads) (not (s.known x)) c.0))
       (record { own = value_below k v _ c.1; donated = tt; pin = b.0; last = tt })
 
   schedule_thread_goes : (c x : ℕ) → Goes (schedule_thread c x)
@@ -263,13 +263,7 @@ unfolding refuses world_of
 reached_refused n r = record { numbered = r.numbered; sound = noted_down r.sound }
 
 reached_answered : {H : ℕ → List PutOrTake} {s : State} (q : Reading) → Reached H s → Reached (λ c. H c ++ (answered s q).log c) (answered s q).state
-unfolding answered refusal
-reached_answered unknown r = reached_refused 1 r
-reached_answered cut_short r = reached_refused 2 r
-reached_answered {H} {s} (asks q used) r =
-    both (eqb (first_no (concerning s q ++ (room s ∷ []))) 0)
-    (λ e. rw e (goes r q (eqb-true _ 0 e)))
-    (λ e. rw e (reached_refused _ r))
+reached_answered {H} {s} q r = by_answer (λ (a : Step). Reached (λ c. H c ++ a.log c) a.state) s q (λ n. reached_refused n r) (goes r)
 
 pub reached_step : {H : ℕ → List PutOrTake} {s : State} (bytes : List ℕ) → Reached H s → Reached (λ c. H c ++ (step s bytes).log c) (step s bytes).state
 unfolding step
@@ -311,16 +305,15 @@ limits_obeyed s (remove_donation x) = refl
 limits_obeyed s (set_critical x m) = refl
 
 limits_answered : (s : State) (q : Reading) → SameButShortest s.limits (answered s q).state.limits
-unfolding answered refuses with_shortest
-limits_answered s unknown = refl
-limits_answered s cut_short = refl
-limits_answered s (asks q used) = both (eqb (refusal s (asks q used)) 0) (λ e. rw e (limits_obeyed s q)) (λ e. rw e)
+limits_answered s q = kept_by_answer (λ (v : State). SameButShortest s.limits v.limits) s q (same_limits refl) (λ r e. limits_obeyed s r)
+
+pub limits_step : (s : State) (bytes : List ℕ) → SameButShortest s.limits (step s bytes).state.limits
+unfolding step
+limits_step s bytes = limits_answered s (read s.limits bytes)
 
 pub limits_kept : (s : State) (calls : List (List ℕ)) → SameButShortest s.limits (after_calls s calls).limits
-unfolding after_calls step with_shortest
-limits_kept s [] = refl
-limits_kept s (bytes ∷ calls) =
-    then_same s.limits (step s bytes).state.limits (after_calls (step s bytes).state calls).limits (limits_answered s (read s.limits bytes)) (limits_kept (step s bytes).state calls)
+limits_kept s calls =
+    kept_by_calls (λ (v : State). SameButShortest s.limits v.limits) (λ v bytes k. then_same s.limits v.limits (step v bytes).state.limits k (limits_step v bytes)) s calls (same_limits refl)
 
 pub kept_calls : (limits : Limits) (calls : List (List ℕ)) (c : ℕ) → Kept limits.threads ((after_calls (start limits) calls).cpus c).queue (history (start limits) calls c)
 unfolding no_log world_of start with_shortest

@@ -5,9 +5,9 @@ use Rattle.std.proofs.Common.{sym, ◌∙◌, arith}
 use Rattle.std.proofs.lemmas.Bool.{false≢true}
 use Rattle.std.proofs.Math.Bool.{and-true}
 use borrow.Author.Tests.{eqb-true, eqb-false, ne_eqb, lt-ltb, ltb-true}
+use Rattle.std.specs.Cmp.{first_so, second_so}
 use Rattle.rules.specs.Questions.{placed_with, all_placed_below}
 use Rattle.rules.proofs.Laws.Line.{both}
-use Rattle.rules.proofs.Laws.Effect.{and_left, and_right}
 
 implies : (a b : Bool) → (not a || b) ≡ true → a ≡ true → b ≡ true
 implies true b e h = e
@@ -33,14 +33,14 @@ module _ (is_declared is_placed : ℕ → Bool) where
   pub yes_says : (n : ℕ) → held (suc n) ≡ true → (is_declared 0 ≡ true) × ((c : ℕ) → c ≤ n → is_declared c ≡ true → is_placed c ≡ true)
   yes_says zero e =
       let h : (is_declared 0 && is_placed 0) ≡ true = sym after_cpu_0 ∙ e in
-      (and_left _ _ h, λ c l d. let z : c ≡ 0 = omega arith in rw z (and_right (is_declared 0) _ h))
+      (first_so _ _ h, λ c l d. let z : c ≡ 0 = omega arith in rw z (second_so (is_declared 0) _ h))
   yes_says (suc n) e =
       let h : (held (suc n) && (not (is_declared (suc n)) || is_placed (suc n))) ≡ true = sym (after_later n) ∙ e in
-      let before = yes_says n (and_left _ _ h) in (
+      let before = yes_says n (first_so _ _ h) in (
         before.0,
         λ c l d.
             both (eqb c (suc n))
-            (λ q. let z : c ≡ suc n = eqb-true c (suc n) q in rw z (implies (is_declared (suc n)) (is_placed (suc n)) (and_right (held (suc n)) _ h) (rw z at d)))
+            (λ q. let z : c ≡ suc n = eqb-true c (suc n) q in rw z (implies (is_declared (suc n)) (is_placed (suc n)) (second_so (held (suc n)) _ h) (rw z at d)))
             (λ q. before.1 c (omega (arith, eqb-false c (suc n) q)) d),
       )
 
@@ -58,7 +58,7 @@ module _ (is_declared is_placed : ℕ → Bool) where
     (λ e.
         let h = yes_says n e in (
           rw (lt-ltb 0 (suc n) (omega arith)) h.0,
-          λ c d. h.1 c (let l : c < suc n = ltb-true c (suc n) (and_left _ _ d) in omega arith) (and_right (ltb c (suc n)) _ d),
+          λ c d. h.1 c (let l : c < suc n = ltb-true c (suc n) (first_so _ _ d) in omega arith) (second_so (ltb c (suc n)) _ d),
         )),
-    (λ h. says_yes n (and_right (ltb 0 (suc n)) _ h.0) (λ c l d. h.1 c (rw (lt-ltb c (suc n) (omega arith)) d))),
+    (λ h. says_yes n (second_so (ltb 0 (suc n)) _ h.0) (λ c l d. h.1 c (rw (lt-ltb c (suc n) (omega arith)) d))),
   )

@@ -7,6 +7,7 @@ use Rattle.std.proofs.Math.Path.{refl, sym, ap}
 use Rattle.std.proofs.Math.Bool.{true, false}
 use Rattle.std.proofs.Math.Dec.{leb}
 use borrow.Author.Tests.{eqb-true, ne_eqb, leb-true, ltb-true, ltb-false, not-true}
+use Rattle.std.specs.Cmp.{first_so, second_so}
 use Rattle.rules.specs.declared.PriorityClass.TheVariants as class
 use Rattle.rules.specs.Times.{timeslice}
 use Rattle.rules.specs.State.{Limits, with_shortest, State}
@@ -15,7 +16,7 @@ use Rattle.rules.specs.Requests.{Request, declare_cpu, add_node, place_cpu, seal
 use Rattle.rules.specs.Questions.{Question, open_yet, sealed_now, least_shortest, most_shortest, shortest_in_range, concerning, first_no, room, refusal}
 use Rattle.rules.specs.Commands.{nothing_shown, refuses, changed, ran, shortened, scheduled_on, schedules, ran_on, obeys, answered, step, after_calls}
 use Rattle.rules.proofs.Laws.Line.{both}
-use Rattle.rules.proofs.Laws.Effect.{and_left, and_right}
+use Rattle.rules.proofs.Laws.Answered.{kept_by_calls}
 use Rattle.rules.proofs.Laws.Reached.{yes}
 use Rattle.rules.proofs.Laws.Refused.{answered_number}
 
@@ -71,7 +72,7 @@ module _ (s : State) where
       let unsealed : s.sealed ≡ false = not-true s.sealed a.0 in
       record {
         figure = refl;
-        in_range = λ r. (leb-true _ _ (and_left (leb least_shortest n) (leb n most_shortest) b.0), leb-true _ _ (and_right (leb least_shortest n) (leb n most_shortest) b.0));
+        in_range = λ r. (leb-true _ _ (first_so (leb least_shortest n) (leb n most_shortest) b.0), leb-true _ _ (second_so (leb least_shortest n) (leb n most_shortest) b.0));
         sealed_keeps = λ t. absurd (true≢false (sym t ∙ unsealed));
         stays_sealed = λ t. t;
         before = λ t. refl;
@@ -198,14 +199,12 @@ one_call s byte bytes =
 -- ---- lists of calls
 
 pub range_calls : (s : State) (calls : List (List ℕ)) → InRange s.limits.shortest → InRange (after_calls s calls).limits.shortest
-unfolding after_calls
-range_calls s [] r = r
-range_calls s (bytes ∷ calls) r = range_calls (step s bytes).state calls ((read_any s bytes).in_range r)
+range_calls s calls r = kept_by_calls (λ (v : State). InRange v.limits.shortest) (λ v bytes k. (read_any v bytes).in_range k) s calls r
 
 pub sealed_calls : (s : State) (calls : List (List ℕ)) → s.sealed ≡ true → (after_calls s calls).limits.shortest ≡ s.limits.shortest
-unfolding after_calls
-sealed_calls s [] t = refl
-sealed_calls s (bytes ∷ calls) t = sealed_calls (step s bytes).state calls ((read_any s bytes).stays_sealed t) ∙ (read_any s bytes).sealed_keeps t
+sealed_calls s calls t =
+    (kept_by_calls (λ (v : State). (v.sealed ≡ true) × (v.limits.shortest ≡ s.limits.shortest))
+    (λ v bytes k. ((read_any v bytes).stays_sealed k.0, (read_any v bytes).sealed_keeps k.0 ∙ k.1)) s calls (t, refl)).1
 
 -- ---- the timeslice
 

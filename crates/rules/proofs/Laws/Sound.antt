@@ -6,6 +6,7 @@ use Rattle.std.proofs.Math.Logic.{inl, inr}
 use Rattle.std.proofs.Math.Bool.{true, true≢false, or-false}
 use mathlib.Core.List.{List, [], ◌∷◌, ◌++◌, append_assoc}
 use borrow.Author.Tests.{eqb-true, eqb-false, eq-eqb, ne_eqb}
+use borrow.Author.Clash.{clash}
 use Rattle.rules.specs.declared.Priority.{Priority}
 use Rattle.rules.specs.Line.{has, Distinct}
 use Rattle.rules.proofs.Laws.Line.{both, has_append}
@@ -207,9 +208,6 @@ pub record New (limits : Limits) (known : ℕ → Bool) (but : ℕ → Bool) (w 
 pub not_true_is : (t : Bool) → (t ≡ true → ⊥) → t ≡ false
 not_true_is true h = absurd (h refl)
 not_true_is false h = refl
-
-clash : {A : Type 0} (t : Bool) → t ≡ true → t ≡ false → A
-clash t a b = absurd (true≢false (sym a ∙ b))
 
 module _ {limits : Limits} {known : ℕ → Bool} {H : ℕ → List PutOrTake} {but : ℕ → Bool} {w v : World} {c : ℕ} {q : Queue} {l : List PutOrTake}
     (o : Only limits w v c q l) (d : Sound limits known H but w) (k : Kept limits.threads q (H c ++ l)) (g : Agrees (pinned_in w) (who_waits (H c ++ l)))

@@ -5,6 +5,7 @@ use Rattle.std.proofs.Math.Path.{refl, sym, ap}
 use Rattle.std.proofs.Common.{◌∙◌, arith}
 use Rattle.std.proofs.Math.Bool.{true, false, not}
 use Rattle.std.proofs.lemmas.Bool.{false≢true}
+use Rattle.std.proofs.lemmas.Option.{none-some}
 use Rattle.std.proofs.Math.Dec.{ltb}
 use borrow.Author.Tests.{eqb-true, eqb-false, ne_eqb}
 use Rattle.rules.specs.declared.choice.Searched.{Searched}
@@ -13,7 +14,7 @@ use Rattle.rules.specs.declared.choice.Extremes.{Extremes}
 use Rattle.rules.specs.declared.choice.Best.{Best}
 use Rattle.rules.specs.declared.Priority.{Priority}
 use Rattle.rules.specs.Line.{has, Below}
-use Rattle.rules.proofs.Laws.Line.{both}
+use Rattle.rules.proofs.Laws.Line.{both, of_either}
 use Rattle.rules.specs.Priority.{nr_values, less, donation_accepted}
 use Rattle.rules.specs.Times.{Thread, either, preferred_cpu, effective_priority, moving_to_queue, donated_to}
 use Rattle.rules.specs.Queue.{Queue, order, load}
@@ -21,7 +22,7 @@ use Rattle.rules.specs.Puts.{PutOrTake}
 use Rattle.rules.specs.Draw.{next_state, draw}
 use Rattle.rules.specs.State.{those_below, join_all, Limits, Topology, Cpu}
 use Rattle.rules.specs.Topology.{leaf, children, cpus_of, visits, visited}
-use Rattle.rules.specs.Choice.{lower, find_cpu, weigh, extremes, pair_of, choose_cpu_balance}
+use Rattle.rules.specs.Choice.{lower, find_cpu, first_that, weigh, extremes, pair_of, choose_cpu_balance}
 use Rattle.rules.specs.Schedule.{World, Got, Balancing, Flags, with_cpu, with_thread, with_running, with_draws, with_preempt, set_rebalance, with_rebalance_time, with_ticks, same_cpu}
 use Rattle.rules.specs.Schedule as sched
 use Rattle.rules.specs.Waits.{Under, waits, Free}
@@ -46,7 +47,7 @@ unfolding join_all Below
 join_in_all n f [] h = tt
 join_in_all n f (x ∷ l) h = below_append n (f x) _ (h x) (join_in_all n f l h)
 
-unfoldable BestUnder : ℕ → Option Best → Type 0
+unfoldable pub BestUnder : ℕ → Option Best → Type 0
 BestUnder n None = Unit
 BestUnder n (Some b) = b.cpu < n
 
@@ -55,7 +56,7 @@ unfolding lower BestUnder
 lower_in n None s c b h = h
 lower_in n (Some b0) s c b h = both (ltb s b0.score) (λ e. rw e h) (λ e. rw e b)
 
-find_in : (n us : ℕ) (skip : ℕ → Bool) (load : ℕ → ℕ) (l : List ℕ) (f : Searched) → Below n l → BestUnder n f.found → BestUnder n (find_cpu us skip load l f).found
+pub find_in : (n us : ℕ) (skip : ℕ → Bool) (load : ℕ → ℕ) (l : List ℕ) (f : Searched) → Below n l → BestUnder n f.found → BestUnder n (find_cpu us skip load l f).found
 unfolding find_cpu Below
 find_in n us skip load [] f b h = h
 find_in n us skip load (c ∷ l) f b h =
@@ -63,11 +64,33 @@ find_in n us skip load (c ∷ l) f b h =
     (λ e. rw e (find_in n us skip load l f b.1 h))
     (λ e. rw e (find_in n us skip load l _ b.1 (lower_in n f.found _ c h b.0)))
 
-weigh_in : (n : ℕ) (e : Extremes) (s c d : ℕ) → c < n → BestUnder n e.lowest → BestUnder n (weigh e s c d).lowest
-unfolding weigh
-weigh_in n e s c d h b = both (ltb e.highest_score s) (λ t. rw t b) (λ t. rw t (lower_in n e.lowest s c b h))
+pub first_in : (n : ℕ) (test : ℕ → Bool) (l : List ℕ) → Below n l → Under n (first_that test l)
+unfolding first_that Below Under
+first_in n test [] b = tt
+first_in n test (c ∷ l) b = both (test c) (λ e. rw e b.0) (λ e. rw e (first_in n test l b.1))
 
-extremes_in : (n us : ℕ) (allowed : ℕ → Bool) (load : ℕ → ℕ) (l : List ℕ) (e : Extremes) → Below n l → BestUnder n e.lowest → BestUnder n (extremes us allowed load l e).lowest
+-- the lowest so far
+weigh_lowest : (n : ℕ) (e : Extremes) (s c d : ℕ) → c < n → BestUnder n e.lowest → BestUnder n (weigh e s c d).lowest
+unfolding weigh
+weigh_lowest n e s c d h b = both (ltb e.highest_score s) (λ t. rw t b) (λ t. rw t (lower_in n e.lowest s c b h))
+
+extremes_lowest : (n us : ℕ) (allowed : ℕ → Bool) (load : ℕ → ℕ) (l : List ℕ) (e : Extremes) → Below n l → BestUnder n e.lowest → BestUnder n (extremes us allowed load l e).lowest
+unfolding extremes Below
+extremes_lowest n us allowed load [] e b h = h
+extremes_lowest n us allowed load (c ∷ l) e b h =
+    both (allowed c)
+    (λ t. rw t (extremes_lowest n us allowed load l _ b.1 (weigh_lowest n e _ c _ b.0 h)))
+    (λ t. rw t (extremes_lowest n us allowed load l e b.1 h))
+
+-- both so far
+record Within (n : ℕ) (e : Extremes) : Type 0 where
+  high : e.highest < n
+  low : BestUnder n e.lowest
+
+weigh_in : (n : ℕ) (e : Extremes) (s c d : ℕ) → c < n → Within n e → Within n (weigh e s c d)
+weigh_in n e s c d h b = record { high = unfold weigh in both (ltb e.highest_score s) (λ t. rw t h) (λ t. rw t b.high); low = weigh_lowest n e s c d h b.low }
+
+extremes_in : (n us : ℕ) (allowed : ℕ → Bool) (load : ℕ → ℕ) (l : List ℕ) (e : Extremes) → Below n l → Within n e → Within n (extremes us allowed load l e)
 unfolding extremes Below
 extremes_in n us allowed load [] e b h = h
 extremes_in n us allowed load (c ∷ l) e b h =
@@ -75,18 +98,33 @@ extremes_in n us allowed load (c ∷ l) e b h =
     (λ t. rw t (extremes_in n us allowed load l _ b.1 (weigh_in n e _ c _ b.0 h)))
     (λ t. rw t (extremes_in n us allowed load l e b.1 h))
 
-unfoldable PairUnder : ℕ → Option Pair → Type 0
+-- the CPU to which a thread moves, and both
+unfoldable RecipientUnder : ℕ → Option Pair → Type 0
+RecipientUnder n None = Unit
+RecipientUnder n (Some p) = p.recipient < n
+
+pair_recipient : (n h : ℕ) (b : Option Best) → BestUnder n b → RecipientUnder n (pair_of h b)
+unfolding pair_of BestUnder RecipientUnder
+pair_recipient n h None b = tt
+pair_recipient n h (Some b0) b = both (eqb b0.cpu h) (λ e. rw e tt) (λ e. rw e b)
+
+unfoldable pub PairUnder : ℕ → Option Pair → Type 0
 PairUnder n None = Unit
-PairUnder n (Some p) = p.recipient < n
+PairUnder n (Some p) = (p.donor < n) × (p.recipient < n)
 
-pair_in : (n h : ℕ) (b : Option Best) → BestUnder n b → PairUnder n (pair_of h b)
+pair_in : (n h : ℕ) (b : Option Best) → h < n → BestUnder n b → PairUnder n (pair_of h b)
 unfolding pair_of BestUnder PairUnder
-pair_in n h None b = tt
-pair_in n h (Some b0) b = both (eqb b0.cpu h) (λ e. rw e tt) (λ e. rw e b)
+pair_in n h None l b = tt
+pair_in n h (Some b0) l b = both (eqb b0.cpu h) (λ e. rw e tt) (λ e. rw e (l, b))
 
-choose_in : (n us : ℕ) (allowed : ℕ → Bool) (load : ℕ → ℕ) (l : List ℕ) (d : ℕ) → Below n l → PairUnder n (choose_cpu_balance us allowed load l d).found
-unfolding choose_cpu_balance BestUnder
-choose_in n us allowed load l d b = pair_in n _ _ (extremes_in n us allowed load l _ b tt)
+-- both are of the list; over an empty one there is none
+pub choose_in : (n us : ℕ) (allowed : ℕ → Bool) (load : ℕ → ℕ) (l : List ℕ) (d : ℕ) → Below n l → PairUnder n (choose_cpu_balance us allowed load l d).found
+unfolding choose_cpu_balance BestUnder Below
+choose_in n us allowed load [] d b = unfold extremes pair_of PairUnder in tt
+choose_in n us allowed load (c ∷ l) d b =
+    let w : Within n (extremes us allowed load (c ∷ l) (record { highest = 0; highest_score = 0; lowest = None; draws = d })) =
+    extremes_in n us allowed load (c ∷ l) _ b (record { high = omega (arith, b.0); low = tt }) in
+    pair_in n _ _ w.high w.low
 
 module _ (limits : Limits) (topology : Topology) where
   pub cpus_in : (m : ℕ) → Below limits.cpus (cpus_of limits topology m)
@@ -104,6 +142,11 @@ module _ (limits : Limits) (topology : Topology) where
   visited_in = visits_in _ 0
 
 -- ---- the functions, as in Schedule.antt: us is a CPU below the limit
+
+pub same_cpu_is : (c : ℕ) (o : Option ℕ) → same_cpu c o ≡ true → o ≡ Some c
+unfolding same_cpu
+same_cpu_is c None e = absurd (false≢true e)
+same_cpu_is c (Some d) e = ap Some (eqb-true d c e)
 
 unfoldable pub nobody_but : ℕ → Bool
 nobody_but c = false
@@ -183,16 +226,11 @@ module _ (limits : Limits) (topology : Topology) (tick us : ℕ) (known : ℕ �
       selected_then g.same (found_selected _ avoid _ g.under)
   select_selected w x avoid (Some c) h = selected_self w c h
 
-  under_if : (n : ℕ) (b : Bool) (c : ℕ) → c < n → Under n (cond b (Some c) None)
-  unfolding Under
-  under_if n true c h = h
-  under_if n false c h = tt
-
   preferred_under : (w : World) (x : ℕ) (avoid o : Option ℕ) → Under limits.cpus o → Under limits.cpus (sched.preferred limits topology tick us w x avoid o)
   unfolding sched.preferred Under
   preferred_under w x avoid None h = tt
-  preferred_under w x avoid (Some c) h = under_if limits.cpus
-      (not (same_cpu c avoid) && (eqb (load (w.cpus c).queue) 0 || less (sched.current_priority (w.cpus c)) (effective_priority (w.threads x)))) c h
+  preferred_under w x avoid (Some c) h = of_either (Under limits.cpus)
+      (not (same_cpu c avoid) && (eqb (load (w.cpus c).queue) 0 || less (sched.current_priority (w.cpus c)) (effective_priority (w.threads x)))) (Some c) None h tt
 
   either_under : (n : ℕ) (a b : Option ℕ) → Under n a → Under n b → Under n (either a b)
   unfolding either Under
@@ -273,21 +311,17 @@ module _ (limits : Limits) (topology : Topology) (tick us : ℕ) (known : ℕ �
       let d' : OK nobody_but v = sound_same (same_cpu_changed limits w p.donor (set_rebalance (w.cpus p.donor)) refl refl) d in
       both (eqb (sched.current_load (w.cpus p.donor)) 0)
       (λ e. rw e d)
-      (λ e. rw e (both (ltb 0 (load (w.cpus p.donor).queue)) (λ f. rw f (ok_move v allowed n p.donor p.recipient h d')) (λ f. rw f d')))
+      (λ e. rw e (both (ltb 0 (load (w.cpus p.donor).queue)) (λ f. rw f (ok_move v allowed n p.donor p.recipient h.1 d')) (λ f. rw f d')))
 
   ok_step : (b : Balancing) → OK nobody_but b.world → OK nobody_but (sched.balance_step limits topology tick us b).world
   unfolding sched.balance_step
   ok_step b d = ok_pair _ b.allowed b.steps _ (choose_in limits.cpus us b.allowed _ _ _ (cpus_in limits topology 0)) (sound_same (draws_same b.world _) d)
 
-  ok_if : (t : Bool) (a b : Balancing) → OK nobody_but a.world → OK nobody_but b.world → OK nobody_but (cond t a b).world
-  ok_if true a b d e = d
-  ok_if false a b d e = e
-
   ok_turns : (n : ℕ) (b : Balancing) → OK nobody_but b.world → OK nobody_but (sched.balance_turns limits topology tick us n b).world
   unfolding sched.balance_turns
   ok_turns zero b d = d
   ok_turns (suc n) b d =
-      ok_if (b.goes_on && ltb b.steps (sched.max_steps limits topology tick us)) (sched.balance_turns limits topology tick us n (sched.balance_step limits topology tick us b)) b
+      of_either (λ (c : Balancing). OK nobody_but c.world) (b.goes_on && ltb b.steps (sched.max_steps limits topology tick us)) (sched.balance_turns limits topology tick us n (sched.balance_step limits topology tick us b)) b
       (ok_turns n (sched.balance_step limits topology tick us b) (ok_step b d)) d
 
   ok_balance : (w : World) → OK nobody_but w → OK nobody_but (sched.balance limits topology tick us w)
@@ -380,10 +414,7 @@ module _ (limits : Limits) (topology : Topology) (tick us : ℕ) (known : ℕ �
   ok_switch w x d f = sound_same (same_activated _ x) (ok_running w x _ d f)
 
   ok_switch_idle : (w : World) → OK only_us w → OK nobody_but (sched.switch_to limits topology tick us w None)
-  ok_switch_idle w d = ok_switch w None d (λ y e. absurd (not_none y e))
-    where
-      not_none : (y : ℕ) → None ≡ Some y → ⊥
-      not_none y e = let z : ◌≡◌ {A = ℕ} 0 1 = cc in omega arith
+  ok_switch_idle w d = ok_switch w None d (λ y e. absurd (none-some y e))
 
   -- a thread that was taken may run here
   taken_fine : {w : World} {g : Got} (y : ℕ) → Took only_us w g → g.got ≡ Some y → Fine g.world (Some y)
@@ -397,11 +428,6 @@ module _ (limits : Limits) (topology : Topology) (tick us : ℕ) (known : ℕ �
   ok_stolen w g cur (Some y) e r t = ok_switch g.world (Some y) t.sound (taken_fine y t e)
   ok_stolen w g None None e r t = whole g.world t.sound (λ y s c. let z : None ≡ Some y = sym r ∙ sym (t.running us) ∙ s in cc)
   ok_stolen w g (Some x) None e r t = ok_switch_idle g.world t.sound
-
-  same_cpu_is : (c : ℕ) (o : Option ℕ) → same_cpu c o ≡ true → o ≡ Some c
-  unfolding same_cpu
-  same_cpu_is c None e = absurd (false≢true e)
-  same_cpu_is c (Some d) e = ap Some (eqb-true d c e)
 
   ok_taken : (w : World) (g : Got) (cur o : Option ℕ) → g.got ≡ o → (w.cpus us).running ≡ cur → Took only_us w g
       → OK nobody_but (sched.run_taken limits topology tick us g.world cur o)
@@ -419,10 +445,6 @@ module _ (limits : Limits) (topology : Topology) (tick us : ℕ) (known : ℕ �
   ok_pick w d = ok_taken w _ _ _ refl refl (take_taken limits topology tick us known numbered H only_us w us false d)
 
   -- ---- `do_schedule`, `schedule`
-
-  ok_cond : (but : ℕ → Bool) (t : Bool) (v w : World) → OK but v → OK but w → OK but (cond t v w)
-  ok_cond but true v w d e = d
-  ok_cond but false v w d e = e
 
   -- the thread running here may go into a queue
   pub running_new : (w : World) (c x : ℕ) → OK nobody_but w → (w.cpus us).running ≡ Some x → c < limits.cpus → New limits known only_us w c x
@@ -452,24 +474,24 @@ module _ (limits : Limits) (topology : Topology) (tick us : ℕ) (known : ℕ �
   unfolding sched.reinsert
   ok_reinsert w x yield preempt d r =
       let g = reinsert_selected w x d in
-      ok_cond nobody_but (preempt || ((w.cpus us).must_rebalance || sched.has_higher limits topology tick us w x yield)) _ _
+      of_either (OK nobody_but) (preempt || ((w.cpus us).must_rebalance || sched.has_higher limits topology tick us w x yield)) _ _
       (ok_pick _ (ok_reinserted w _ x _ d r g.same g.under))
-      (ok_cond nobody_but yield _ _ (ok_pick _ (ok_put only_us w us x (weaker w d) (running_new w us x d r us_in))) (sound_same (same_reset w us x) d))
+      (of_either (OK nobody_but) yield _ _ (ok_pick _ (ok_put only_us w us x (weaker w d) (running_new w us x d r us_in))) (sound_same (same_reset w us x) d))
 
   ok_schedule_of : (w : World) (cur : Option ℕ) (f : Flags) → (w.cpus us).running ≡ cur → OK nobody_but w → OK nobody_but (sched.do_schedule_of limits topology tick us w cur f)
   unfolding sched.do_schedule_of
   ok_schedule_of w None f r d = ok_pick w (weaker w d)
-  ok_schedule_of w (Some x) f r d = ok_cond nobody_but f.again _ _ (ok_reinsert w x f.yield f.preempt d r) (ok_pick w (weaker w d))
+  ok_schedule_of w (Some x) f r d = of_either (OK nobody_but) f.again _ _ (ok_reinsert w x f.yield f.preempt d r) (ok_pick w (weaker w d))
 
   pub ok_schedule : (w : World) (f : Flags) → OK nobody_but w → OK nobody_but (sched.schedule limits topology tick us w f)
   unfolding sched.schedule sched.do_schedule
-  ok_schedule w f d = ok_cond nobody_but (sched.critical_running w (w.cpus us).running) _ _ d (ok_schedule_of w _ f refl d)
+  ok_schedule w f d = of_either (OK nobody_but) (sched.critical_running w (w.cpus us).running) _ _ d (ok_schedule_of w _ f refl d)
 
   -- ---- ticks and preemption
 
   ok_mark : (w : World) (t : Bool) → OK nobody_but w → OK nobody_but (sched.mark_preempt limits topology tick us w t)
   unfolding sched.mark_preempt with_preempt
-  ok_mark w t d = ok_cond nobody_but t _ _ (sound_same (same_cpu_changed limits w us (with_preempt (w.cpus us) true) refl refl) d) d
+  ok_mark w t d = of_either (OK nobody_but) t _ _ (sound_same (same_cpu_changed limits w us (with_preempt (w.cpus us) true) refl refl) d) d
 
   ok_paid : (w : World) (o : Option ℕ) (n : ℕ) → OK nobody_but w → OK nobody_but (sched.paid_by limits topology tick us w o n)
   unfolding sched.paid_by with_ticks with_cpu
@@ -489,8 +511,8 @@ module _ (limits : Limits) (topology : Topology) (tick us : ℕ) (known : ℕ �
       let state : ℕ = next_state us p.draw_state in
       let soon : Cpu = with_rebalance_time (with_draws p state) (500000000 + draw state % sched.rebalance_period limits topology tick us) in
       let late : Cpu = with_rebalance_time p (p.rebalance_time - n) in
-      ok_cond nobody_but (eqb us 0) _ _
-      (ok_cond nobody_but (ltb p.rebalance_time n) _ _ (ok_balance _ (sound_same (same_cpu_changed limits w us soon refl refl) d)) (sound_same (same_cpu_changed limits w us late refl refl) d)) d
+      of_either (OK nobody_but) (eqb us 0) _ _
+      (of_either (OK nobody_but) (ltb p.rebalance_time n) _ _ (ok_balance _ (sound_same (same_cpu_changed limits w us soon refl refl) d)) (sound_same (same_cpu_changed limits w us late refl refl) d)) d
 
   pub ok_stattick : (w : World) (n : ℕ) → OK nobody_but w → OK nobody_but (sched.schedule_stattick limits topology tick us w n)
   unfolding sched.schedule_stattick
@@ -502,7 +524,7 @@ module _ (limits : Limits) (topology : Topology) (tick us : ℕ) (known : ℕ �
 
   pub ok_maybe_preempt : (w : World) → OK nobody_but w → OK nobody_but (sched.schedule_maybe_preempt limits topology tick us w)
   unfolding sched.schedule_maybe_preempt with_preempt
-  ok_maybe_preempt w d = ok_cond nobody_but (w.cpus us).preempt _ _ (ok_schedule _ _ (sound_same (same_cpu_changed limits w us (with_preempt (w.cpus us) false) refl refl) d)) d
+  ok_maybe_preempt w d = of_either (OK nobody_but) (w.cpus us).preempt _ _ (ok_schedule _ _ (sound_same (same_cpu_changed limits w us (with_preempt (w.cpus us) false) refl refl) d)) d
 
   -- ---- donation
 
@@ -516,8 +538,8 @@ module _ (limits : Limits) (topology : Topology) (tick us : ℕ) (known : ℕ �
   ok_donate w x p h d =
       let e : OK nobody_but (with_thread w x (donated_to (w.threads x) (Some p))) = sound_same (same_thread_changed limits w x _ (alike_donated limits (w.threads x) (Some p) h)) d in
       let t : Thread = w.threads x in
-      ok_cond nobody_but (donation_accepted t.donated p) _ _
-      (ok_cond nobody_but (less (effective_priority t) p && not (same_cpu x (w.cpus us).running)) _ _ (ok_wakeup _ x t.queue_cpu e) e) d
+      of_either (OK nobody_but) (donation_accepted t.donated p) _ _
+      (of_either (OK nobody_but) (less (effective_priority t) p && not (same_cpu x (w.cpus us).running)) _ _ (ok_wakeup _ x t.queue_cpu e) e) d
 
   -- ---- 12: a blocked thread is put on the CPU chosen
 

@@ -6,6 +6,7 @@ use Rattle.std.proofs.Common.{sym, ap, ◌∙◌, true≢false, length-append, a
 use mathlib.Core.List.{List, [], ◌∷◌, ◌++◌, append_assoc}
 use Rattle.std.proofs.Math.Seq.{take-add}
 use Rattle.std.proofs.Math.Nat.{pow-succ', one-le-pow}
+use Rattle.std.specs.Cmp.{first_so, second_so}
 use Rattle.rules.specs.State.{Limits}
 use Rattle.rules.specs.Requests.{Request, unknown, cut_short, asks, read_operands, operand, past, at_least, operands, nth, sum, widths, widths_or, request}
 use Rattle.rules.specs.Questions.{question, first_no}
@@ -31,16 +32,6 @@ unfolding past little_endian
 past_little zero v rest = refl
 past_little (suc n) v rest = past_little n (v / 256) rest
 
--- ---- two tests
-
-pub and_left : (s t : Bool) → (s && t) ≡ true → s ≡ true
-and_left true t h = refl
-and_left false t h = h
-
-pub and_right : (s t : Bool) → (s && t) ≡ true → t ≡ true
-and_right true t h = h
-and_right false t h = let z : false ≡ true = h in cc
-
 -- ---- the fields
 
 pub fields_length : (ns vs : List ℕ) → length (field_bytes ns vs) ≡ sum ns
@@ -53,7 +44,7 @@ pub fits_length : (ns vs : List ℕ) → fits ns vs ≡ true → length ns ≤ l
 unfolding fits
 fits_length [] vs h = omega arith
 fits_length (n ∷ ns) [] h = let z : false ≡ true = h in absurd (true≢false (sym z))
-fits_length (n ∷ ns) (v ∷ vs) h = omega (arith, fits_length ns vs (and_right (ltb v (256 ^ n)) (fits ns vs) h))
+fits_length (n ∷ ns) (v ∷ vs) h = omega (arith, fits_length ns vs (second_so (ltb v (256 ^ n)) (fits ns vs) h))
 
 zeros_are : (k : ℕ) (vs : List ℕ) → length vs ≡ k → fits [] vs ≡ true → replicate k 0 ≡ vs
 unfolding fits
@@ -61,8 +52,8 @@ zeros_are zero [] e h = refl
 zeros_are (suc k) [] e h = absurd (omega arith)
 zeros_are zero (v ∷ vs) e h = absurd (omega arith)
 zeros_are (suc k) (v ∷ vs) e h =
-    let p : v ≡ 0 = eqb-true v 0 (and_left (eqb v 0) (fits [] vs) h) in
-    let q : replicate k 0 ≡ vs = zeros_are k vs (omega arith) (and_right (eqb v 0) (fits [] vs) h) in
+    let p : v ≡ 0 = eqb-true v 0 (first_so (eqb v 0) (fits [] vs) h) in
+    let q : replicate k 0 ≡ vs = zeros_are k vs (omega arith) (second_so (eqb v 0) (fits [] vs) h) in
     rw (p, q)
 
 -- the operands read off, with zeros behind them, are the fields
@@ -71,8 +62,8 @@ unfolding operands field_bytes fits
 read_with k [] vs rest e h = zeros_are k vs (omega arith) h
 read_with k (n ∷ ns) [] rest e h = let z : false ≡ true = h in cc
 read_with k (n ∷ ns) (v ∷ vs) rest e h =
-    let m : v < 256 ^ n = ltb-true v (256 ^ n) (and_left (ltb v (256 ^ n)) (fits ns vs) h) in
-    let f : operands ns (field_bytes ns vs ++ rest) ++ replicate k 0 ≡ vs = read_with k ns vs rest (omega arith) (and_right (ltb v (256 ^ n)) (fits ns vs) h) in
+    let m : v < 256 ^ n = ltb-true v (256 ^ n) (first_so (ltb v (256 ^ n)) (fits ns vs) h) in
+    let f : operands ns (field_bytes ns vs ++ rest) ++ replicate k 0 ≡ vs = read_with k ns vs rest (omega arith) (second_so (ltb v (256 ^ n)) (fits ns vs) h) in
     rw (append_assoc (little_endian n v) (field_bytes ns vs) rest, operand_little n v (field_bytes ns vs ++ rest) m, past_little n v (field_bytes ns vs ++ rest)) (ap (λ (l : List ℕ). v ∷ l) f)
 
 pub fields_read : (ns vs rest : List ℕ) → fits ns vs ≡ true → operands ns (field_bytes ns vs ++ rest) ++ replicate (length vs - length ns) 0 ≡ vs

@@ -2,16 +2,16 @@
 use Rattle.std.specs.Prelude.{ℕ, zero, suc, ◌+◌, ◌≤◌, ◌<◌, ◌≡◌, Bool, true, false, cond, not, length, ltb}
 use Rattle.std.proofs.Math.Path.{refl, ap}
 use Rattle.std.proofs.Common.{sym, ◌∙◌, true≢false, length-append, arith}
-use Rattle.std.proofs.lemmas.Bool.{false≢true}
+use Rattle.std.proofs.lemmas.Bool.{false≢true, not-true}
 use mathlib.Core.List.{List, [], ◌∷◌, ◌++◌, append_assoc, append-nil}
 use borrow.Author.Tests.{ltb-true, ltb-false, ne_eqb}
 use Rattle.std.proofs.Math.Numerals.{add-one}
 use Rattle.rules.proofs.Laws.Line.{both}
 use Rattle.rules.specs.State.{base_limits, State, start}
 use Rattle.rules.proofs.Laws.Limits.{SameButShortest, same_limits, then_same, read_alike}
-use Rattle.rules.proofs.Laws.Reached.{limits_kept}
+use Rattle.rules.proofs.Laws.Reached.{limits_step}
 use Rattle.rules.specs.Requests.{Reading, unknown, cut_short, asks, read, past}
-use Rattle.rules.specs.Commands.{Step, step, after_calls}
+use Rattle.rules.specs.Commands.{Step, step}
 use Rattle.rules.specs.Lines.{header, line, end_line, ends, used, refused_by, no_bytes, lines_from, output}
 use Rattle.stream.specs.declared.progress.Progress.{Progress}
 use Rattle.stream.specs.Progress.{HEADER, COMMANDS, END, ENDED, phase_after}
@@ -19,10 +19,6 @@ use Rattle.stream_laws.specs.Laws.Reading.{is_whole}
 use Rattle.stream_laws.proofs.Laws.Reading.{read_more, past_more, past_length, used_most, used_one, lines_step, bytes_some, some_bytes}
 use Rattle.stream_laws.proofs.Laws.Going.{left}
 use Rattle.stream_laws.specs.Taken.{says, does, next_place, after_commands, lines_of, so_far, EndedWithin}
-
-pub limits_step : (s : State) (bytes : List ℕ) → SameButShortest s.limits (step s bytes).state.limits
-unfolding after_calls
-limits_step s bytes = limits_kept s (bytes ∷ [])
 
 -- A run in state s, with `rest` not taken yet, is behind the first commands of the stream, as many as it counts; what is written of the output is so_far.
 pub record Along (stream : List ℕ) (s : State) (f : Progress) (rest : List ℕ) : Type 0 where
@@ -79,14 +75,10 @@ used_none unknown e = refl
 used_none cut_short e = refl
 used_none (asks q n) e = absurd (true≢false e)
 
-cut_none : (b : Bool) → not b ≡ true → b ≡ false
-cut_none true e = absurd (false≢true e)
-cut_none false e = refl
-
 stuck : (bytes : List ℕ) → waits bytes ≡ true → past (used (read base_limits bytes)) bytes ≡ bytes
 unfolding waits no_bytes past read used
 stuck [] e = refl
-stuck (b ∷ bytes) e = rw (used_none (read base_limits (b ∷ bytes)) (cut_none _ e))
+stuck (b ∷ bytes) e = rw (used_none (read base_limits (b ∷ bytes)) (not-true _ e))
 
 base_at : (k : ℕ) (stream : List ℕ) → SameButShortest base_limits (after_commands k stream).state.limits
 unfolding after_commands next_place does start

@@ -1,38 +1,38 @@
 -- No line is longer than 48 bytes, the least buffer that is written to: neither the line of any command nor the end line.
-use Rattle.std.specs.Prelude.{ℕ, zero, suc, ◌/◌, ◌^◌, ◌≤◌, ◌<◌, ◌≡◌, refl, List, [], ◌∷◌, ◌++◌, eqb, ltb, Option, None, Some}
-use Rattle.std.proofs.Common.{ap, length-append, eqb-true, arith}
+use Rattle.std.specs.Prelude.{ℕ, suc, ◌≤◌, ◌<◌, ◌≡◌, refl, List, [], ◌∷◌, ◌++◌, Option, None, Some}
+use Rattle.std.proofs.Common.{ap, length-append, arith}
 use Rattle.std.proofs.Math.ListN.{length}
 use Rattle.rules.proofs.Laws.Limits.{SameButShortest}
-use Rattle.rules.proofs.Laws.Line.{both, distinct_length}
+use Rattle.rules.proofs.Laws.Line.{distinct_length}
 use Rattle.rules.specs.Puts.{PutOrTake}
 use Rattle.rules.specs.Queue.{order, load}
 use Rattle.rules.specs.State.{Limits, base_limits, with_shortest, State}
 use Rattle.rules.specs.Schedule.{World}
-use Rattle.rules.specs.Requests.{Request, declare_cpu, add_node, place_cpu, seal, set_shortest, declare_thread, set_tick, schedule_thread, schedule, hardtick, stattick, resched, maybe_preempt, donate, remove_donation, set_critical, Reading, unknown, cut_short, asks, read}
+use Rattle.rules.specs.Requests.{Request, declare_cpu, add_node, place_cpu, seal, set_shortest, declare_thread, set_tick, schedule_thread, schedule, hardtick, stattick, resched, maybe_preempt, donate, remove_donation, set_critical, read, Reading}
 use Rattle.rules.specs.Questions.{concerning, first_no, room, refusal}
-use Rattle.rules.specs.declared.Running.{Running}
 use Rattle.rules.specs.declared.Running.TheVariants as running
-use Rattle.rules.specs.Commands.{Answer, nothing_shown, running_of, shown, refuses, changed, world_of, ran, ran_on, scheduled_on, schedules, obeys, answered, step}
+use Rattle.rules.specs.Commands.{Answer, Step, nothing_shown, running_of, shown, refuses, changed, world_of, ran, ran_on, scheduled_on, schedules, obeys, step, answered}
 use Rattle.rules.specs.Waits.{Under}
 use Rattle.rules.proofs.Laws.Steps.{select_cpu_selected}
+use Rattle.rules.proofs.Laws.Answered.{by_answer}
 use Rattle.rules.proofs.Laws.Reached.{Reached, reached_step, runs_below}
-use Rattle.rules.specs.Lines.{digits, decimal, space, line_feed, dash, idle_word, header, end_word, number_or_dash, running_or_dash, line, end_line}
+use Rattle.rules.specs.Lines.{space, line_feed, header, end_word, line, end_line}
 use Rattle.lines.specs.declared.Refusal.{Refusal}
 use Rattle.lines.specs.declared.Refusal.TheVariants as refusal
 use Rattle.lines.specs.Lines.{question_number, refusal_number}
-use Rattle.lines.proofs.Digits.{digits_length}
-use Rattle.lines.proofs.Laws.{Below, RunsBelow}
+use Rattle.lines.proofs.Digits.{decimal_most, decimal_length}
+use Rattle.lines.proofs.Laws.{RunsBelow, number_length, running_length}
 use Rattle.stream_laws.proofs.Laws.Wakeups.{wakeups_two}
 
 -- ---- what a command shows is within the limits
 
 record ShownWithin (l : Limits) (a : Answer) : Type 0 where
-  cpu : Below l.cpus a.cpu
+  cpu : Under l.cpus a.cpu
   running : RunsBelow l.threads a.running
-  load : Below (suc l.threads) a.load
+  load : Under (suc l.threads) a.load
 
 within_nothing : (l : Limits) (n : ℕ) → ShownWithin l (nothing_shown n)
-unfolding nothing_shown Below RunsBelow
+unfolding nothing_shown Under RunsBelow
 within_nothing l n = record { cpu = tt; running = tt; load = tt }
 
 running_within : (limit : ℕ) (o : Option ℕ) → ((x : ℕ) → o ≡ Some x → x < limit) → RunsBelow limit (Some (running_of o))
@@ -42,7 +42,7 @@ running_within limit (Some x) h = h x refl
 
 module _ {H : ℕ → List PutOrTake} (s : State) where
   ran_within : (w : World) (c : ℕ) → Reached H (ran s w (shown w c)).state → c < s.limits.cpus → ShownWithin s.limits (ran s w (shown w c)).answer
-  unfolding ran shown Below load world_of
+  unfolding ran shown Under load world_of
   ran_within w c r h = record {
     cpu = h;
     running = running_within s.limits.threads (w.cpus c).running (λ x e. r.numbered x (r.sound.runs c x e).1);
@@ -82,43 +82,15 @@ module _ {H : ℕ → List PutOrTake} (s : State) where
   obeyed_within (set_critical x m) g e r = within_nothing s.limits 0
 
   answered_within : {G : ℕ → List PutOrTake} (q : Reading) → Reached G s → Reached H (answered s q).state → ShownWithin s.limits (answered s q).answer
-  unfolding answered refuses refusal
-  answered_within unknown g r = within_nothing s.limits 1
-  answered_within cut_short g r = within_nothing s.limits 2
-  answered_within (asks q used) g r =
-      both (eqb (first_no (concerning s q ++ (room s ∷ []))) 0)
-      (λ e. rw e (obeyed_within q g (eqb-true _ 0 e) (rw e at r)))
-      (λ e. rw e (within_nothing s.limits _))
+  unfolding refuses
+  answered_within q g r =
+      by_answer (λ (a : Step). Reached H a.state → ShownWithin s.limits a.answer) s q (λ n h. within_nothing s.limits n) (λ p e h. obeyed_within p g e h) r
 
 step_within : {H : ℕ → List PutOrTake} (s : State) (bytes : List ℕ) → Reached H s → ShownWithin s.limits (step s bytes).answer
 unfolding step
 step_within s bytes r = answered_within s (read s.limits bytes) r (reached_step bytes r)
 
 -- ---- how many bytes
-
-digits_most : (m n : ℕ) → length (digits m n) ≤ m
-unfolding digits
-digits_most zero n = omega arith
-digits_most (suc m) n = both (ltb n 10) (λ e. rw e (omega arith)) (λ e. rw (e, length-append) (omega (arith, digits_most m (n / 10))))
-
-decimal_most : (n : ℕ) → length (decimal n) ≤ 20
-unfolding decimal
-decimal_most n = digits_most 20 n
-
-decimal_length : (k n : ℕ) → n < 10 ^ suc k → length (decimal n) ≤ suc k
-unfolding decimal
-decimal_length k n h = digits_length 20 k n h
-
-number_length : (k limit : ℕ) (o : Option ℕ) → limit ≤ 10 ^ suc k → Below limit o → length (number_or_dash o) ≤ suc k
-unfolding number_or_dash dash Below
-number_length k limit None l h = omega arith
-number_length k limit (Some n) l h = decimal_length k n (omega arith)
-
-running_length : (limit : ℕ) (o : Option Running) → limit ≤ 10000 → RunsBelow limit o → length (running_or_dash o) ≤ 4
-unfolding running_or_dash dash idle_word RunsBelow
-running_length limit None l h = omega arith
-running_length limit (Some running.Idle) l h = omega arith
-running_length limit (Some (running.Thread x)) l h = decimal_length 3 x (omega arith)
 
 question_most : (r : Refusal) → question_number r ≤ 12
 unfolding question_number
@@ -140,7 +112,7 @@ unfolding refusal_number
 refusal_most None = omega arith
 refusal_most (Some r) = question_most r
 
-line_most : (l : Limits) (number : ℕ) (a : Answer) → l.cpus ≤ 100 → l.threads < 10000 → a.refused ≤ 12 → ShownWithin l a → Below 3 a.wakeups
+line_most : (l : Limits) (number : ℕ) (a : Answer) → l.cpus ≤ 100 → l.threads < 10000 → a.refused ≤ 12 → ShownWithin l a → Under 3 a.wakeups
     → length (line number a) ≤ 48
 unfolding line space line_feed
 line_most l number a cpus threads r w few =

@@ -1,9 +1,9 @@
 -- A command that stands whole at the front of some bytes reads the same whatever comes behind them; and how much it takes.
-use Rattle.std.specs.Prelude.{ℕ, zero, suc, ◌+◌, ◌-◌, ◌≤◌, ◌≡◌, refl, Bool, true, false, cond, List, [], ◌∷◌, ◌++◌, length, eqb, ltb, Option, None, Some}
+use Rattle.std.specs.Prelude.{ℕ, zero, suc, ◌+◌, ◌-◌, ◌≤◌, ◌≡◌, refl, true, false, cond, List, [], ◌∷◌, ◌++◌, length, eqb, ltb, Option, None, Some}
 use Rattle.std.proofs.Common.{sym, ap, ◌∙◌, true≢false, length-append, length-drop, ltb-true, ltb-false, arith}
 use Rattle.std.proofs.lemmas.Bool.{false≢true}
 use Rattle.std.proofs.lemmas.List.{drop-append-le}
-use Rattle.rules.proofs.Laws.Line.{both}
+use Rattle.rules.proofs.Laws.Line.{both, of_either}
 use Rattle.rules.specs.State.{Limits, State}
 use Rattle.rules.specs.Requests.{operand, past, at_least, sum, operands, widths, request, Reading, unknown, cut_short, asks, read_operands, read}
 use Rattle.rules.specs.Questions.{refusal}
@@ -146,30 +146,28 @@ unfoldable sum_of : Option (List ℕ) → ℕ
 sum_of None = 0
 sum_of (Some ns) = sum ns
 
--- one row of the table, or those behind it
-row_or : (b : Bool) (o p : Option (List ℕ)) → sum_of o ≤ 8 → sum_of p ≤ 8 → sum_of (cond b o p) ≤ 8
-row_or true o p h k = h
-row_or false o p h k = k
+abbrev Short : Option (List ℕ) → Type 0
+Short o = sum_of o ≤ 8
 
 widths_most : (l : Limits) (byte : ℕ) → l.cpu_bytes ≤ 2 → l.node_bytes ≤ 2 → sum_of (widths l byte) ≤ 8
 unfolding widths sum_of sum
 widths_most l byte h i =
-    row_or (eqb byte 0x01) _ _ (omega arith)
-    (row_or (eqb byte 0x02) _ _ (omega arith)
-    (row_or (eqb byte 0x03) _ _ (omega arith)
-    (row_or (eqb byte 0x04) _ _ (omega arith)
-    (row_or (eqb byte 0x05) _ _ (omega arith)
-    (row_or (eqb byte 0x10) _ _ (omega arith)
-    (row_or (eqb byte 0x11) _ _ (omega arith)
-    (row_or (eqb byte 0x12) _ _ (omega arith)
-    (row_or (eqb byte 0x13) _ _ (omega arith)
-    (row_or (eqb byte 0x14) _ _ (omega arith)
-    (row_or (eqb byte 0x15) _ _ (omega arith)
-    (row_or (eqb byte 0x16) _ _ (omega arith)
-    (row_or (eqb byte 0x17) _ _ (omega arith)
-    (row_or (eqb byte 0x18) _ _ (omega arith)
-    (row_or (eqb byte 0x19) _ _ (omega arith)
-    (row_or (eqb byte 0x1a) _ _ (omega arith) (omega arith))))))))))))))))
+    of_either Short (eqb byte 0x01) _ _ (omega arith)
+    (of_either Short (eqb byte 0x02) _ _ (omega arith)
+    (of_either Short (eqb byte 0x03) _ _ (omega arith)
+    (of_either Short (eqb byte 0x04) _ _ (omega arith)
+    (of_either Short (eqb byte 0x05) _ _ (omega arith)
+    (of_either Short (eqb byte 0x10) _ _ (omega arith)
+    (of_either Short (eqb byte 0x11) _ _ (omega arith)
+    (of_either Short (eqb byte 0x12) _ _ (omega arith)
+    (of_either Short (eqb byte 0x13) _ _ (omega arith)
+    (of_either Short (eqb byte 0x14) _ _ (omega arith)
+    (of_either Short (eqb byte 0x15) _ _ (omega arith)
+    (of_either Short (eqb byte 0x16) _ _ (omega arith)
+    (of_either Short (eqb byte 0x17) _ _ (omega arith)
+    (of_either Short (eqb byte 0x18) _ _ (omega arith)
+    (of_either Short (eqb byte 0x19) _ _ (omega arith)
+    (of_either Short (eqb byte 0x1a) _ _ (omega arith) (omega arith))))))))))))))))
 
 operands_cut : (l : Limits) (byte : ℕ) (bytes : List ℕ) (o : Option (List ℕ)) → is_whole (read_operands l byte bytes o) ≡ false → suc (length bytes) ≤ sum_of o
 unfolding read_operands is_whole sum_of

@@ -16,7 +16,7 @@ use Rattle.rules.specs.Requests.{read, past}
 use Rattle.rules.specs.Lines.{line, end_line, lines_from, used, ends, refused_by, last_number}
 use Rattle.rules.proofs.Laws.Writer.{past_drop}
 use Rattle.lines.specs.Lines.{refusal_number, answer_of, room}
-use Rattle.records.specs.Left.{Left}
+use Rattle.processor.specs.Left.{Left}
 use Rattle.outcome.specs.declared.answer.Answered.{Answered}
 use Rattle.command.specs.Lent.{Lent}
 use Rattle.stream.specs.declared.progress.Progress.{Progress}
@@ -29,7 +29,8 @@ use Rattle.stream_laws.proofs.Laws.Reading.{past_more, past_length, used_most, u
 use Rattle.stream_laws.proofs.Laws.Length.{line_fits}
 use Rattle.stream_laws.proofs.Laws.Going.{left_at, left, left_commands, left_end, Going, Within, line_in, done_after, taken_after, length_after}
 use Rattle.stream_laws.specs.Taken.{after_commands, does, so_far}
-use Rattle.stream_laws.proofs.Laws.Along.{limits_step, Along, lines_next, same_step, state_then, refused_then, rest_then}
+use Rattle.stream_laws.proofs.Laws.Along.{Along, lines_next, same_step, state_then, refused_then, rest_then}
+use Rattle.rules.proofs.Laws.Reached.{limits_step}
 
 -- ---- the rules' lines, where the command stands whole in the block b, with more behind it
 

@@ -6,6 +6,7 @@ use Rattle.std.proofs.Math.Bool.{not}
 use Rattle.std.proofs.Math.Dec.{ltb}
 use borrow.Author.Tests.{ltb-true}
 use native.Mathlib.Omega.{arith}
+use Rattle.std.specs.Cmp.{second_so}
 use Rattle.rules.specs.declared.choice.Pair.{Pair}
 use Rattle.rules.specs.declared.Priority.{Priority}
 use Rattle.rules.proofs.Laws.Line.{both}
@@ -13,13 +14,12 @@ use Rattle.rules.specs.Priority.{less, donation_accepted, priority, class_at}
 use Rattle.rules.specs.Times.{effective_priority}
 use Rattle.rules.specs.Queue.{load}
 use Rattle.rules.specs.State.{at, Limits, Topology, State}
-use Rattle.rules.proofs.Laws.Effect.{and_right}
 use Rattle.rules.specs.Schedule as sched
 use Rattle.rules.specs.Schedule.{World, Got, Balancing, Flags, with_cpu, with_thread}
-use Rattle.rules.specs.Requests.{Request, declare_cpu, add_node, place_cpu, seal, set_shortest, declare_thread, set_tick, schedule_thread, schedule, hardtick, stattick, resched, maybe_preempt, donate, remove_donation, set_critical, Reading, unknown, cut_short, asks, read, flags_of}
-use Rattle.rules.specs.Questions.{refusal}
-use Rattle.rules.specs.Commands.{nothing_shown, shown, refuses, changed, world_of, ran, ran_on, scheduled_on, schedules, obeys, answered, step}
-use Rattle.lines.proofs.Laws.{Below}
+use Rattle.rules.specs.Requests.{Request, declare_cpu, add_node, place_cpu, seal, set_shortest, declare_thread, set_tick, schedule_thread, schedule, hardtick, stattick, resched, maybe_preempt, donate, remove_donation, set_critical, read, flags_of, Reading}
+use Rattle.rules.specs.Commands.{Step, nothing_shown, shown, refuses, changed, world_of, ran, ran_on, scheduled_on, schedules, obeys, step, answered}
+use Rattle.rules.proofs.Laws.Answered.{by_answer}
+use Rattle.rules.specs.Waits.{Under}
 use Rattle.sched_laws.proofs.Frames.{call_one, put_one, from_wakeups, pick_wakeups, select_wakeups, resched_wakeups, hardtick_wakeups}
 
 -- A turn of `balance`, from the world w with n steps made, to b: each wake-up is paid for by eleven steps, and there is at most one.
@@ -64,7 +64,7 @@ module _ (limits : Limits) (topology : Topology) (tick us : ℕ) where
       both (b.goes_on && ltb b.steps 20)
       (λ e.
       let t = step_turn b in
-      let early : b.steps < 20 = ltb-true b.steps 20 (and_right b.goes_on (ltb b.steps 20) e) in
+      let early : b.steps < 20 = ltb-true b.steps 20 (second_so b.goes_on (ltb b.steps 20) e) in
       rw e (turns_two n _ (omega (arith, t.paid)) (omega (arith, t.one))))
       (λ e. rw e q)
 
@@ -127,13 +127,13 @@ module _ (limits : Limits) (topology : Topology) (tick us : ℕ) where
 
 -- ---- the answers
 
-scheduled_two : (s : State) (us x : ℕ) (w : World) (o : Option ℕ) → w.wakeups ≡ 0 → Below 3 (scheduled_on s us x w o).answer.wakeups
-unfolding scheduled_on ran shown Below
+scheduled_two : (s : State) (us x : ℕ) (w : World) (o : Option ℕ) → w.wakeups ≡ 0 → Under 3 (scheduled_on s us x w o).answer.wakeups
+unfolding scheduled_on ran shown Under
 scheduled_two s us x w None z = omega arith
 scheduled_two s us x w (Some c) z = omega (arith, put_one s.limits s.topology s.tick us w c x)
 
-obeyed_two : (s : State) (q : Request) → Below 3 (obeys s q).answer.wakeups
-unfolding obeys changed nothing_shown schedules ran_on ran shown world_of Below
+obeyed_two : (s : State) (q : Request) → Under 3 (obeys s q).answer.wakeups
+unfolding obeys changed nothing_shown schedules ran_on ran shown world_of Under
 obeyed_two s (declare_cpu c) = tt
 obeyed_two s (add_node p k) = tt
 obeyed_two s (place_cpu n c) = tt
@@ -151,13 +151,11 @@ obeyed_two s (donate c x k v) = omega (arith, donate_one s.limits s.topology s.t
 obeyed_two s (remove_donation x) = tt
 obeyed_two s (set_critical x m) = tt
 
-answered_two : (s : State) (q : Reading) → Below 3 (answered s q).answer.wakeups
-unfolding answered refuses nothing_shown Below
-answered_two s unknown = tt
-answered_two s cut_short = tt
-answered_two s (asks q used) = both (eqb (refusal s (asks q used)) 0) (λ e. rw e (obeyed_two s q)) (λ e. rw e tt)
+answered_two : (s : State) (q : Reading) → Under 3 (answered s q).answer.wakeups
+unfolding refuses nothing_shown Under
+answered_two s q = by_answer (λ (a : Step). Under 3 a.answer.wakeups) s q (λ n. tt) (λ r e. obeyed_two s r)
 
 -- THE BOUND: in every state, on any bytes, the wake-ups that are shown are fewer than three.
-pub wakeups_two : (s : State) (bytes : List ℕ) → Below 3 (step s bytes).answer.wakeups
+pub wakeups_two : (s : State) (bytes : List ℕ) → Under 3 (step s bytes).answer.wakeups
 unfolding step
 wakeups_two s bytes = answered_two s (read s.limits bytes)
