@@ -8,7 +8,8 @@ use std::io;
 // A word of more bytes is cut.
 const WORD: usize = 64;
 
-const SIZE: usize = 256;
+// No line has more than 132 bytes.
+const SIZE: usize = 136;
 
 // Why a line is not composed. It borrows the line, so that what each line answers stays small.
 #[derive(Clone, Copy)]

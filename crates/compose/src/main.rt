@@ -21,7 +21,10 @@ fn compose_block<'a, W: Print>(
     // By hand: `split` would not tell a line without an end, and a `for` over `split_inclusive` does not check in a generic function.
     let mut rest = block;
     while let Some(end) = rest.iter().position(|byte| *byte == b'\n') {
-        compose_line(&rest[..end], *number, output)?;
+        // An empty line has no command, and needs no call.
+        if 0 < end {
+            compose_line(&rest[..end], *number, output)?;
+        }
         *number = number.wrapping_add(1);
         rest = &rest[end + 1..];
     }

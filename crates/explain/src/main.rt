@@ -67,7 +67,9 @@ fn list<W: Print>(stdin: &mut impl Read, output: &mut Output<'_, W>) -> Result<(
     Ok(())
 }
 
-// What is listed is shown also where the stream has a fault. As in `compose`: a common function would be over a closure, with a parameter for the error.
+// What is listed is shown also where the stream has a fault. As in `compose`: a common function would be over a closure, with a parameter for the error. Not inlined,
+// so that the buffers are off the stack when a failure is told.
+#[inline(never)]
 fn run(stdin: &mut impl Read, stdout: &impl Print) -> Result<(), Failure> {
     let mut output = Output::new(stdout);
     let listed = list(stdin, &mut output);

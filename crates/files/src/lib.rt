@@ -4,7 +4,7 @@
 pub mod output;
 pub mod tally;
 
-ghost use Rattle.std.specs.Prelude.{◌≤◌, length, IfOk};
+ghost use Rattle.std.specs.Prelude.{◌≡◌, ◌≤◌, length, nat_le, IfOk};
 
 use std::io;
 use std::io::Read;
@@ -18,7 +18,8 @@ pub struct Filled {
 
 // One read of a file behind the first `kept` bytes. One that adds nothing and does not fail is the end of the input, as is an input without room for a byte.
 pub fn fill(file: &mut impl Read, input: &mut [u8], kept: usize) -> io::Result<Filled>
-    ensures { IfOk result (λ f. f.bytes ≤ length input.new) }
+    ensures bytes { IfOk result (λ f. f.bytes ≤ length input.new) }
+    ensures last { IfOk result (λ f. f.last ≡ nat_le f.bytes kept) }
 {
     // By index: `get_mut(kept..)` gives an empty slice at the end, so it would need a test for that beside it.
     if kept < input.len() {

@@ -89,7 +89,7 @@ decimal_more n h l =
     rw (four_rest n, two_more 18 n (omega arith), two_more 16 (n / 100) (omega arith), e, digits_alike 19 15 (n / 10000) (omega arith) (omega arith), append_assoc)
 
 -- below 10 to the power of k there are at most k
-digits_length : (m k n : ℕ) → n < 10 ^ suc k → length (digits m n) ≤ suc k
+pub digits_length : (m k n : ℕ) → n < 10 ^ suc k → length (digits m n) ≤ suc k
 digits_length zero k n h = rw (digits_none n) (omega arith)
 digits_length (suc m) zero n h = rw (digits_of m n, lt-ltb n 10 h) (omega arith)
 digits_length (suc m) (suc k) n h = both (ltb n 10)

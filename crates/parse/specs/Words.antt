@@ -1,5 +1,5 @@
 -- A line as words: what a comment is, what a blank is, where a word begins and ends.
-use Rattle.std.specs.Prelude.{ℕ, zero, suc, Bool, true, cond, List, [], ◌∷◌, eqb, take, drop}
+use Rattle.std.specs.Prelude.{ℕ, zero, suc, ◌-◌, ◌≤◌, ◌≡◌, Bool, true, cond, List, [], ◌∷◌, eqb, length, take, drop}
 
 -- `#` begins a comment, anywhere in a line
 unfoldable pub before_comment : List ℕ → List ℕ
@@ -33,3 +33,9 @@ behind text = drop (letters text) text
 unfoldable pub from_word : ℕ → List ℕ → List ℕ
 from_word zero text = skip_blanks text
 from_word (suc i) text = from_word i (behind (skip_blanks text))
+
+-- the bytes `from` to `to` of a text, the last one not included, are these
+pub record Part (text : List ℕ) (from to : ℕ) (bytes : List ℕ) : Type 0 where
+  pub order : from ≤ to
+  pub within : to ≤ length text
+  pub are : take (to - from) (drop from text) ≡ bytes

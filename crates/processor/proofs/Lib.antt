@@ -1,3 +1,2 @@
-pub mod Copied
 pub mod Laws
 pub mod Parts

@@ -1,4 +1,5 @@
 pub mod Answers
+pub mod Blank
 pub mod Changes
 pub mod Refusals
 pub mod Start

@@ -1,12 +1,12 @@
 -- THE LIBRARY'S START: cleared records, new CPUs and the root alone stand for the rules' start. Any limits.
 use Prim.Native.Nat.{ℕ, zero, suc, ◌≤◌, ◌<◌}
-use Rattle.std.specs.Prelude.{◌≡◌, refl, ◌≢◌, false, get_or, replicate, eqb, ltb}
+use Rattle.std.specs.Prelude.{◌≡◌, refl, ◌≢◌, false, get_or, replicate, eqb}
 use Rattle.std.proofs.Common.{sym, ◌∙◌, arith, length-set}
 use Rattle.std.proofs.lemmas.Bool.{false≢true}
 use mathlib.Core.List.{List, []}
-use Rattle.std.proofs.Math.ListN.{length, get_or-eq_default}
-use Rattle.std.proofs.lemmas.List.{length-replicate, get_or-replicate}
-use borrow.Author.Tests.{eqb-true, eqb-false, ltb-true, ltb-false}
+use Rattle.std.proofs.Math.ListN.{length}
+use Rattle.std.proofs.lemmas.List.{length-replicate}
+use borrow.Author.Tests.{eqb-true, eqb-false}
 use Rattle.rules.specs.Line.{has}
 use Rattle.rules.proofs.Laws.Line.{both}
 use Rattle.rules.specs.Priority.{from_raw, class_at, cut, nr_values}
@@ -26,7 +26,6 @@ use Rattle.processor.specs.Queue.{queue_at}
 use Rattle.processor.proofs.Laws.Queue.{Eights, queue_after_store, queue_elsewhere, row_length_store, length_store}
 use Rattle.topology.specs.CpuSet.{max_cpu_id}
 use Rattle.topology.specs.Node.{new_root, put_node}
-use Rattle.records.specs.Rq.{record_at}
 use Rattle.represents.proofs.Laws.Readings.{new_reading}
 use Rattle.represents.proofs.Laws.System.{new_law}
 use Rattle.represents.specs.World.{reading_of, number_or_none, mark_in, Small, WorldRep}
@@ -38,6 +37,7 @@ use Rattle.questions.specs.declared.state.State.{State}
 use Rattle.represents.specs.State.{limits_in, runs, StateRep}
 use Rattle.stream.specs.Start.{new_cpu_def, new_cpus}
 use Rattle.question_laws.specs.Start.{New}
+use Rattle.question_laws.proofs.Blank.{blank_at}
 use Rattle.question_laws.proofs.Written.{long_stored, all_written}
 
 -- ---- a CPU made new
@@ -117,11 +117,6 @@ module _ (limits : Limits) (cs : List (List ℕ)) (n : ℕ) (m : n ≤ length cs
   as_many_cpus = (so_far n (omega arith)).many
 
 -- ---- the start stands
-
-pub blank_at : (n x : ℕ) → record_at (replicate n blank) x ≡ blank
-blank_at n x =
-    both (ltb x n) (λ e. get_or-replicate n x blank blank (ltb-true _ _ e))
-    (λ e. get_or-eq_default (replicate n blank) blank {n = x} (rw (length-replicate n blank) (ltb-false _ _ e)))
 
 root_rows : (ns : List (List ℕ)) → length (new_root ns) ≡ length ns
 unfolding new_root put_node

@@ -3,11 +3,11 @@ use Prim.Native.Nat.{ℕ, zero, suc, ◌+◌, ◌*◌, ◌^◌, ◌<◌, ◌≤�
 use mathlib.Core.Path.{◌≡◌, refl, ap, sym, ◌∙◌}
 use mathlib.Core.Bool.{true, false}
 use mathlib.Core.List.{List, [], ◌∷◌, ◌++◌, append_assoc}
-use lib.ListN.{length, take, drop, length-append}
+use lib.ListN.{length, take, drop, get_or, length-append}
 use Rattle.std.proofs.lemmas.List.{get_or-append-add}
-use lib.Seq.{get_or-drop}
+use lib.Seq.{drop-cons, get_or-drop}
 use native.Mathlib.Omega.{arith}
-use native.Mathlib.Nat.{pow-le-pow_right, zero-min, min-zero, suc-min-suc}
+use native.Mathlib.Nat.{suc-add, mul_assoc, pow-succ', zero-add, one-mul, mul-zero, pow-le-pow_right, zero-min, min-zero, suc-min-suc}
 use Rattle.rules.specs.Requests.{operand, past, at_least}
 use Rattle.rules.specs.Writer.{Bytes}
 use Rattle.rules.proofs.Laws.Writer.{operand_lt, past_drop}
@@ -23,6 +23,25 @@ unfolding at_least
 too_few zero l h = absurd (omega arith)
 too_few (suc n) [] h = refl
 too_few (suc n) (b ∷ l) h = too_few n l (omega arith)
+
+operand_nil : (n : ℕ) → operand n [] ≡ 0
+unfolding operand
+operand_nil zero = refl
+operand_nil (suc n) = refl
+
+pub operand_one : (b : ℕ) (l : List ℕ) → operand 1 (b ∷ l) ≡ b
+unfolding operand
+operand_one b l = omega arith
+
+-- the first m bytes, then n more
+pub operand_add : (m n : ℕ) (l : List ℕ) → operand (m + n) l ≡ operand m l + 256 ^ m * operand n (past m l)
+unfolding operand past
+operand_add zero n l = rw (zero-add, one-mul) (omega arith)
+operand_add (suc m) n [] = rw (operand_nil (suc m + n), operand_nil n, mul-zero)
+operand_add (suc m) n (b ∷ l) = rw (suc-add, operand_add m n l, pow-succ', mul_assoc) (omega arith)
+
+pub operand_there : (at : ℕ) (l : List ℕ) → at < length l → get_or l at 0 ≡ operand 1 (drop at l)
+operand_there at l h = rw (drop-cons l at 0 h, operand_one)
 
 pub bytes_drop : (n : ℕ) (l : List ℕ) → Bytes l → Bytes (drop n l)
 bytes_drop n l h i = rw get_or-drop (h (n + i))

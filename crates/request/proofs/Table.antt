@@ -103,3 +103,11 @@ module _ (wide : Bool) (n : ℕ) where
   unfolding operands_of rules.read
   read_cut [] there h k = absurd (omega arith)
   read_cut (byte ∷ rest) there h k = cut_row wide byte rest n (widths (limits_of wide) byte) h (too_few n rest k)
+
+  -- the same of bytes that are those behind the first
+  pub read_whole_of : (l rest : List ℕ) → 0 < length l → operands_of wide (get_or l 0 0) ≡ Some n → n ≤ length rest → rest ≡ drop 1 l
+      → rules.asks (asked wide (get_or l 0 0) rest) (1 + n) ≡ rules.read (limits_of wide) l
+  read_whole_of l rest there h k e = rw e (read_whole l there h (rw e at k))
+
+  pub read_cut_of : (l rest : List ℕ) → 0 < length l → operands_of wide (get_or l 0 0) ≡ Some n → length rest < n → rest ≡ drop 1 l → rules.cut_short ≡ rules.read (limits_of wide) l
+  read_cut_of l rest there h k e = read_cut l there h (rw e at k)

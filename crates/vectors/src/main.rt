@@ -13,30 +13,37 @@ use stream::start::{MAX_CPUS, MAX_NODES, start};
 use thread::{Thread, blank};
 use topology::words::NodeWords;
 
-// The next length; none at the end.
-fn next_length(stdin: &mut impl Read) -> Option<usize> {
-    let mut bytes = [0u8; 4];
-    if read_full(stdin, &mut bytes) < 4 {
+// The next two lengths, of a stream and of its lines, read into the front of the input; none at the end.
+fn next_lengths(stdin: &mut impl Read, input: &mut [u8]) -> Option<(usize, usize)> {
+    let head = input.get_mut(..8)?;
+    if read_full(stdin, head) < 8 {
         return None;
     }
-    Some(u32::from_le_bytes(bytes) as usize)
-}
-
-// The next n bytes, if they are there.
-fn take<'a>(stdin: &mut impl Read, buffer: &'a mut [u8], n: usize) -> Option<&'a [u8]> {
-    let part = buffer.get_mut(..n)?;
-    if read_full(stdin, part) < n {
+    let [a, b, c, d, e, f, g, h] = *head else {
         return None;
-    }
-    Some(part)
+    };
+    let of_stream = u32::from_le_bytes([a, b, c, d]) as usize;
+    let of_lines = u32::from_le_bytes([e, f, g, h]) as usize;
+    Some((of_stream, of_lines))
 }
 
-// Does the output begin with the header, and is it the lines?
-fn agree(output: &[u8], lines: &[u8]) -> bool {
-    output.starts_with(b"sched 1\n") && output == lines
+// Are the next n bytes there? Then they stand at the front of the buffer.
+fn take(stdin: &mut impl Read, buffer: &mut [u8], n: usize) -> bool {
+    let Some(part) = buffer.get_mut(..n) else {
+        return false;
+    };
+    read_full(stdin, part) == n
 }
 
-// At most a thousand streams. The slices stand as `feed` takes them.
+// Do the first `done` bytes of the output begin with the header, and are they the first n of the lines?
+fn agree(output: &[u8], done: usize, lines: &[u8], n: usize) -> bool {
+    let (Some(answered), Some(expected)) = (output.get(..done), lines.get(..n)) else {
+        return false;
+    };
+    answered.starts_with(b"sched 1\n") && answered == expected
+}
+
+// At most a thousand streams. The slices stand as `feed` takes them. Of a stream that is longer than the input what stands there is fed, and more could follow.
 fn replayed(
     stdin: &mut impl Read,
     threads: &mut [Thread],
@@ -48,23 +55,17 @@ fn replayed(
     let mut lines = [0u8; 65536];
     let mut tally = Tally::default();
     for _ in 0..1000 {
-        let (Some(of_stream), Some(of_lines)) = (next_length(stdin), next_length(stdin)) else {
+        let Some((n, of_lines)) = next_lengths(stdin, &mut input) else {
             return tally;
         };
-        let stream = take(stdin, &mut input, of_stream);
-        let lines = take(stdin, &mut lines, of_lines);
+        let whole = take(stdin, &mut input, n);
+        let read = take(stdin, &mut lines, of_lines);
         let Some(state) = start(threads, cpus, nodes) else {
             return tally;
         };
-        let (Some(stream), Some(lines)) = (stream, lines) else {
-            tally.add(false);
-            continue;
-        };
-        let n = stream.len();
         let begun = Progress::begin(state);
-        let fed = feed(threads, cpus, nodes, stream, &mut output, n, true, begun);
-        let answered = output.get(..fed.done);
-        tally.add(answered.is_some_and(|answered| agree(answered, lines)));
+        let fed = feed(threads, cpus, nodes, &input, &mut output, n, whole, begun);
+        tally.add(read && agree(&output, fed.done, &lines, of_lines));
     }
     tally
 }

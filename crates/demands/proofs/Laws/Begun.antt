@@ -16,7 +16,8 @@ use Rattle.records.specs.Rq.{record_at}
 use Rattle.represents.specs.World.{number_or_none}
 use Rattle.represents.specs.Topology.{Sized}
 use Rattle.stream.specs.Start.{new_marks, new_numbers, new_cpu_def, new_cpus, no_room_def, start_def, initial}
-use Rattle.question_laws.proofs.Start.{new_all, blank_at}
+use Rattle.question_laws.proofs.Blank.{blank_at}
+use Rattle.question_laws.proofs.Start.{new_all}
 use Rattle.command_laws.specs.Law.{lent}
 use Rattle.command_laws.specs.Links.{Link, QueueInRange}
 use Rattle.command_laws.proofs.Links.{orderly_none}

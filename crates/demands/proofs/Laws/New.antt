@@ -11,7 +11,7 @@ use Rattle.runqueue.specs.RunQueue.{no_run_queue}
 use Rattle.processor.specs.Queue.{queue_stored}
 use Rattle.records.specs.Rq.{record_at}
 use Rattle.stream.specs.Start.{new_marks, new_numbers, new_cpu_def}
-use Rattle.question_laws.proofs.Start.{blank_at}
+use Rattle.question_laws.proofs.Blank.{blank_at}
 use Rattle.command_laws.specs.InRange.{ThreadInRange, Zeros}
 use Rattle.command_laws.proofs.InRange.{zeros_put, zeros_here, zeros_there}
 

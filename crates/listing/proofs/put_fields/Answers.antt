@@ -1,5 +1,5 @@
 use Rattle.std.proofs.lemmas.List.{take_min}
-use Rattle.std.proofs.Common.{◌≡◌, ℕ, List, take, sym, ap, ◌∙◌, drop-cons}
+use Rattle.std.proofs.Common.{◌≡◌, ℕ, List, take, sym, ap, ◌∙◌, drop-cons, rules}
 use Rattle.rules.specs.Lines.{space}
 use Rattle.lines.specs.Text.{text_of, write}
 use Rattle.request.specs.Fields.{list_of}
@@ -20,5 +20,6 @@ pub returns : goal.returns
 unfolding list_of
 returns c =
     let l : List ℕ = take c.min.result c.from-all.result in
-    let same : l ≡ take c.args.count (list_of c.args.fields) = rw (c.min.ensures, c.from-all.ensures) (take_min c.args.count (list_of c.args.fields)) in
+    let all : c.from-all.result ≡ list_of c.args.fields = search rules in
+    let same : l ≡ take c.args.count (list_of c.args.fields) = rw (c.min.ensures, all) (take_min c.args.count (list_of c.args.fields)) in
     (sym (all_put _ l _ c.loop-number-test.false) ∙ (c.loop-number.invariant.written ∙ ap (λ (m : List ℕ). write (text_of c.args.text.now) (numbers m)) same), c.loop-number.invariant.same_buffer)

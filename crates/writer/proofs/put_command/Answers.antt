@@ -6,18 +6,18 @@ use Rattle.rules.specs.Writer.{field_bytes, bytes_of}
 use Rattle.lines.specs.Text.{text, text_of, write}
 use Rattle.lines.proofs.Writing.{then}
 use Rattle.request.specs.Request.{limits_of}
-use Rattle.request.specs.Fields.{list_of, four}
+use Rattle.request.specs.Fields.{list_of, four, row}
 use Rattle.writer.proofs.Rows.{Narrow, narrow_row, field_put, bytes_row}
 use Rattle.writer.proofs.put_command.Goals as goal
 
 pub loop-n-init : goal.loop-n-init
 unfolding four list_of
 loop-n-init c =
-    let ws : iter_rest (zip_first c.into_iter-n-iterator.result) ≡ c.widths_of-widths.result = cc in
+    let ws : iter_rest (zip_first c.into_iter-n-iterator.result) ≡ four (row c.args.wide c.args.command.byte) = search rules in
     let vs : iter_rest (zip_second c.into_iter-n-iterator.result) ≡ c.from-fields.result = cc in
     record {
-      alike = rw (ws, vs, c.widths_of-widths.ensures, c.from-fields.ensures);
-      narrow = rw ws (narrow_row _ _ _ _ _ c.widths_of-widths.ensures c.from-fields.ensures);
+      alike = rw (ws, vs, c.from-fields.ensures);
+      narrow = rw ws (narrow_row _ _ _ _ _ refl c.from-fields.ensures);
       written = refl;
       same_buffer = search rules;
     }
@@ -38,12 +38,12 @@ loop-n-preserved c =
     }
 
 pub returns : goal.returns
-unfolding field_bytes write
+unfolding field_bytes four write
 returns c =
-    let ws : iter_rest (zip_first c.into_iter-n-iterator.result) ≡ c.widths_of-widths.result = cc in
+    let ws : iter_rest (zip_first c.into_iter-n-iterator.result) ≡ four (row c.args.wide c.args.command.byte) = search rules in
     let vs : iter_rest (zip_second c.into_iter-n-iterator.result) ≡ c.from-fields.result = cc in
     let none = empty_from_Zip _ c.next.new.self _ c.in-None.is c.next.ensures.steps c.loop-n.invariant.alike in
-    let left : text_of c.loop-n.text ≡ write (text_of c.put.new.self) (field_bytes c.widths_of-widths.result c.from-fields.result) = rw (none.0, ws, vs) at c.loop-n.invariant.written in
+    let left : text_of c.loop-n.text ≡ write (text_of c.put.new.self) (field_bytes (four (row c.args.wide c.args.command.byte)) c.from-fields.result) = rw (none.0, ws, vs) at c.loop-n.invariant.written in
     let all : text_of c.loop-n.text ≡ write (text c.args.buffer.now 0) (bytes_of (limits_of c.args.wide) c.args.command.byte (list_of c.args.command.fields)) =
-    rw (← bytes_row c.args.wide c.args.command.byte c.args.command.fields _ _ c.widths_of-widths.ensures c.from-fields.ensures) (then _ (text_of c.put.new.self) _ (c.args.command.byte ∷ []) (field_bytes c.widths_of-widths.result c.from-fields.result) c.put.ensures.0 left) in
+    rw (← bytes_row c.args.wide c.args.command.byte c.args.command.fields _ _ refl c.from-fields.ensures) (then _ (text_of c.put.new.self) _ (c.args.command.byte ∷ []) (field_bytes (four (row c.args.wide c.args.command.byte)) c.from-fields.result) c.put.ensures.0 left) in
     search rules
