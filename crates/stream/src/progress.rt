@@ -99,7 +99,7 @@ impl Progress {
     {
         let refusal = a.answer.refusal;
         let ended = ends(self.number, refusal);
-        // By its fields: copied as a whole, the bytes between them are carried from command to command, which costs `replay` a tenth of its time and more.
+        // By its fields: copied as a whole, the bytes between them are carried from command to command, and `replay` takes up to a fifth more time.
         let State {
             cpus,
             nodes,
