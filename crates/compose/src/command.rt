@@ -1,5 +1,5 @@
 // One line composed into the output.
-use crate::failure::Fault;
+use crate::failure::{Fault, make_room};
 use files::output::Output;
 use lines::Refusal;
 use parse::{Command, Misfit, parse};
@@ -40,10 +40,9 @@ fn word_refused(refusal: Refusal, command: Command) -> usize {
 fn compose_command<'a, W: Print>(
     command: Command,
     line: &'a [u8],
-    number: u64,
     output: &mut Output<'_, W>,
 ) -> Result<(), Fault<'a>> {
-    output.make_room(ROOM).map_err(|_| Fault::Output)?;
+    make_room(output, ROOM).map_err(|_| Fault::Output)?;
     match write(command, &mut output.bytes[output.done..]) {
         Ok(n) => {
             output.add(n);
@@ -51,7 +50,6 @@ fn compose_command<'a, W: Print>(
         }
         Err(refusal) => Err(Fault::Refused {
             line,
-            number,
             refusal,
             word: word_refused(refusal, command),
         }),
@@ -60,18 +58,16 @@ fn compose_command<'a, W: Print>(
 
 pub fn compose_line<'a, W: Print>(
     line: &'a [u8],
-    number: u64,
     output: &mut Output<'_, W>,
 ) -> Result<(), Fault<'a>> {
     let (refusal, word) = match parse(line, false) {
         Ok(None) => return Ok(()),
-        Ok(Some(command)) => return compose_command(command, line, number, output),
+        Ok(Some(command)) => return compose_command(command, line, output),
         Err(Misfit::Unknown) => (Refusal::UnknownCommand, 0),
         Err(Misfit::Unfit(word)) => (Refusal::OutOfRange, word),
     };
     Err(Fault::Refused {
         line,
-        number,
         refusal,
         word,
     })

@@ -1,9 +1,9 @@
 // Why a run ends before its input does, and what standard error says of it.
+use files::output::Output;
 use lines::{Refusal, Text};
 use names::field_name;
 use parse::name::byte_named;
 use parse::words::word_at;
-use std::io;
 
 // A word of more bytes is cut.
 const WORD: usize = 64;
@@ -16,20 +16,19 @@ const SIZE: usize = 136;
 pub enum Fault<'a> {
     // Standard output could not be written.
     Output,
-    // The line of this number is refused, for its word of this number.
+    // The line is refused, for its word of this number.
     Refused {
         line: &'a [u8],
-        number: u64,
         refusal: Refusal,
         word: usize,
     },
 }
 
-// A line for standard error, in an array with its length, since nothing is allocated. Bytes past the last one that it can hold are left out.
+// Why a run ends that no line ends. Told as in `replay` and `explain`: a common enum would be one more case to take apart in each.
 #[derive(Clone, Copy)]
-pub struct Message {
-    bytes: [u8; SIZE],
-    len: usize,
+pub enum Failure {
+    Input,
+    Output,
 }
 
 fn put_word(text: &mut Text<'_>, word: &[u8]) {
@@ -76,71 +75,95 @@ fn put_reason(text: &mut Text<'_>, line: &[u8], i: usize) {
     }
 }
 
-impl Message {
-    // The line of this number is refused, for a reason that is put behind it.
-    fn of_line<F: FnOnce(&mut Text<'_>)>(number: u64, refusal: Refusal, reason: F) -> Self
-        requires { F.IsAlwaysCallable reason }
-    {
-        let mut bytes = [0; SIZE];
-        let mut text = Text {
-            buffer: &mut bytes,
-            at: 0,
-        };
-        text.put_bytes(b"compose: line ");
-        text.put_number(number);
-        text.put_bytes(b": refused ");
-        text.put_number(u64::from(refusal));
-        text.put_bytes(b": ");
-        reason(&mut text);
-        text.put(b'\n');
-        let len = text.at;
-        Message { bytes, len }
-    }
+// `Output::make_room`, not inlined, as is `say`: the error of a write, of which nothing is told but that there is one, takes 88 bytes of the stack at each place that writes.
+#[inline(never)]
+pub fn make_room<W: Print>(output: &mut Output<'_, W>, n: usize) -> Result<(), Failure> {
+    output.make_room(n).map_err(|_| Failure::Output)
 }
 
-// The first two are told as in `replay` and `explain`: a common enum would be one more case to take apart in each.
-#[derive(Clone, Copy)]
-pub enum Failure {
-    Input,
-    Output,
-    // A line that cannot be composed.
-    Line(Message),
+// `Output::show`, as the room that an empty output has, so that one place writes to standard output.
+pub fn show<W: Print>(output: &mut Output<'_, W>) -> Result<(), Failure> {
+    make_room(output, files::output::SIZE)
 }
 
-impl From<Fault<'_>> for Failure {
-    fn from(fault: Fault<'_>) -> Self {
-        match fault {
-            Fault::Output => Failure::Output,
+// Where standard error could not be written, nothing can be told of it.
+#[inline(never)]
+fn say(stderr: &impl Print, text: &[u8]) {
+    let _ = stderr.write_all(text);
+}
+
+// The run ends at the line of this number: what was composed is shown, then standard error has why the line is refused. Not in the failure that is answered: one that held
+// the text would be copied on its way up, while the input and the output are on the stack. In bytes, since a word of the input may be no UTF-8; those past the last one that
+// the text can hold are left out.
+#[inline(never)]
+fn refuse<W: Print, F: FnOnce(&mut Text<'_>)>(
+    output: &mut Output<'_, W>,
+    stderr: &impl Print,
+    number: u64,
+    refusal: Refusal,
+    reason: F,
+) -> Result<(), Failure>
+    requires { F.IsAlwaysCallable reason }
+{
+    show(output)?;
+    let mut bytes = [0; SIZE];
+    let mut text = Text {
+        buffer: &mut bytes,
+        at: 0,
+    };
+    text.put_bytes(b"compose: line ");
+    text.put_number(number);
+    text.put_bytes(b": refused ");
+    text.put_number(u64::from(refusal));
+    text.put_bytes(b": ");
+    reason(&mut text);
+    text.put(b'\n');
+    let len = text.at.min(SIZE);
+    say(stderr, &bytes[..len]);
+    Ok(())
+}
+
+impl Fault<'_> {
+    // Ends the run at the line of this number.
+    pub fn tell<W: Print>(
+        self,
+        number: u64,
+        output: &mut Output<'_, W>,
+        stderr: &impl Print,
+    ) -> Result<(), Failure> {
+        match self {
+            Fault::Output => Err(Failure::Output),
             Fault::Refused {
                 line,
-                number,
                 refusal,
                 word,
-            } => Failure::Line(Message::of_line(
-                number,
-                refusal,
-                |text: &mut Text<'_>| put_reason(text, line, word),
-            )),
+            } => refuse(output, stderr, number, refusal, |text: &mut Text<'_>| {
+                put_reason(text, line, word)
+            }),
         }
     }
 }
 
 // The line of this number is longer than the input.
-pub fn too_long(number: u64) -> Failure {
-    Failure::Line(Message::of_line(
+pub fn too_long<W: Print>(
+    number: u64,
+    output: &mut Output<'_, W>,
+    stderr: &impl Print,
+) -> Result<(), Failure> {
+    refuse(
+        output,
+        stderr,
         number,
         Refusal::OutOfRange,
         |text: &mut Text<'_>| text.put_bytes(b"line too long"),
-    ))
+    )
 }
 
 impl Failure {
-    // In bytes, since a word of the input may be no UTF-8.
-    pub fn report(&self, stderr: &impl Print) -> io::Result<()> {
+    pub fn report(self, stderr: &impl Print) {
         match self {
-            Failure::Input => stderr.write_all(b"compose: standard input could not be read\n"),
-            Failure::Output => stderr.write_all(b"compose: standard output could not be written\n"),
-            Failure::Line(message) => stderr.write_all(&message.bytes[..message.len.min(SIZE)]),
+            Failure::Input => say(stderr, b"compose: standard input could not be read\n"),
+            Failure::Output => say(stderr, b"compose: standard output could not be written\n"),
         }
     }
 }

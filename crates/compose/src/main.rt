@@ -6,12 +6,14 @@ mod failure;
 
 use blocks::keep;
 use command::compose_line;
-use failure::{Failure, Fault, too_long};
+use failure::{Failure, Fault, show, too_long};
 use files::fill;
 use files::output::{Output, SIZE};
+use parse::words::skip_blanks;
 use std::io::Read;
 
-// The lines of a block, the first of which has this number; answers how many bytes they have. A line without a line feed is left, unless it is the last of the input.
+// The lines of a block, the first of which has this number; answers how many bytes they have, or the fault of the line that has
+// the number then. A line without a line feed is left, unless it is the last of the input.
 fn compose_block<'a, W: Print>(
     block: &'a [u8],
     last: bool,
@@ -21,33 +23,39 @@ fn compose_block<'a, W: Print>(
     // By hand: `split` would not tell a line without an end, and a `for` over `split_inclusive` does not check in a generic function.
     let mut rest = block;
     while let Some(end) = rest.iter().position(|byte| *byte == b'\n') {
-        // An empty line has no command, and needs no call.
-        if 0 < end {
-            compose_line(&rest[..end], *number, output)?;
+        // A line without a command needs no call.
+        let line = skip_blanks(&rest[..end]);
+        if !matches!(line, [] | [b'#', ..]) {
+            compose_line(line, output)?;
         }
         *number = number.wrapping_add(1);
         rest = &rest[end + 1..];
     }
     if last {
-        compose_line(rest, *number, output)?;
+        compose_line(rest, output)?;
         return Ok(block.len());
     }
     Ok(block.len() - rest.len())
 }
 
 // The whole text, block by block; no input has as many blocks as the loop has turns.
-fn compose<W: Print>(stdin: &mut impl Read, output: &mut Output<'_, W>) -> Result<(), Failure> {
+fn compose<W: Print>(
+    stdin: &mut impl Read,
+    output: &mut Output<'_, W>,
+    stderr: &impl Print,
+) -> Result<(), Failure> {
     let mut input = [0u8; SIZE];
     let mut kept = 0;
     let mut number = 1;
     for _ in 0..u64::MAX {
         if input.len() <= kept {
-            return Err(too_long(number));
+            return too_long(number, output, stderr);
         }
         let got = fill(stdin, &mut input, kept).map_err(|_| Failure::Input)?;
-        let composed = compose_block(&input[..got.bytes], got.last, &mut number, output).map_err(
-            Failure::from,
-        )?;
+        let composed = match compose_block(&input[..got.bytes], got.last, &mut number, output) {
+            Ok(composed) => composed,
+            Err(fault) => return fault.tell(number, output, stderr),
+        };
         if got.last {
             return Ok(());
         }
@@ -56,16 +64,17 @@ fn compose<W: Print>(stdin: &mut impl Read, output: &mut Output<'_, W>) -> Resul
     Ok(())
 }
 
-// What was composed is shown also where the text has a fault. As in `explain`: a common function would be over a closure, with a parameter for the error.
-fn run(stdin: &mut impl Read, stdout: &impl Print) -> Result<(), Failure> {
+// What was composed is shown also where the input could not be read. As in `explain`: a common function would be over a closure, with a parameter for the error.
+fn run(stdin: &mut impl Read, stdout: &impl Print, stderr: &impl Print) -> Result<(), Failure> {
     let mut output = Output::new(stdout);
-    let composed = compose(stdin, &mut output);
-    output.show().map_err(|_| Failure::Output)?;
+    let composed = compose(stdin, &mut output, stderr);
+    show(&mut output)?;
     composed
 }
 
 fn main(rt: HostRuntime) {
-    if let Err(failure) = run(&mut rt.stdin(), &rt.stdout()) {
-        let _ = failure.report(&rt.stderr());
+    let stderr = rt.stderr();
+    if let Err(failure) = run(&mut rt.stdin(), &rt.stdout(), &stderr) {
+        failure.report(&stderr);
     }
 }
