@@ -1,5 +1,5 @@
 // One line composed into the output.
-use crate::failure::{Fault, make_room};
+use crate::failure::Fault;
 use files::output::Output;
 use lines::Refusal;
 use parse::{Command, Misfit, parse};
@@ -42,7 +42,7 @@ fn compose_command<'a, W: Print>(
     line: &'a [u8],
     output: &mut Output<'_, W>,
 ) -> Result<(), Fault<'a>> {
-    make_room(output, ROOM).map_err(|_| Fault::Output)?;
+    output.make_room(ROOM).map_err(|_| Fault::Output)?;
     match write(command, &mut output.bytes[output.done..]) {
         Ok(n) => {
             output.add(n);

@@ -24,7 +24,8 @@ pub enum Fault<'a> {
     },
 }
 
-// Why a run ends that no line ends. Told as in `replay` and `explain`: a common enum would be one more case to take apart in each.
+// Why a run ends that no line ends. As in `replay` and `explain`: a common enum would be one more case to take apart in `explain`, and `println!`, by which they tell it, takes
+// 2.5 KB of the stack, where the input and the output are on it too.
 #[derive(Clone, Copy)]
 pub enum Failure {
     Input,
@@ -75,18 +76,7 @@ fn put_reason(text: &mut Text<'_>, line: &[u8], i: usize) {
     }
 }
 
-// `Output::make_room`, not inlined, as is `say`: the error of a write, of which nothing is told but that there is one, takes 88 bytes of the stack at each place that writes.
-#[inline(never)]
-pub fn make_room<W: Print>(output: &mut Output<'_, W>, n: usize) -> Result<(), Failure> {
-    output.make_room(n).map_err(|_| Failure::Output)
-}
-
-// `Output::show`, as the room that an empty output has, so that one place writes to standard output.
-pub fn show<W: Print>(output: &mut Output<'_, W>) -> Result<(), Failure> {
-    make_room(output, files::output::SIZE)
-}
-
-// Where standard error could not be written, nothing can be told of it.
+// Where standard error could not be written, nothing can be told of it. Not inlined: the error of a write takes 88 bytes of the stack at each place that may get one.
 #[inline(never)]
 fn say(stderr: &impl Print, text: &[u8]) {
     let _ = stderr.write_all(text);
@@ -105,7 +95,7 @@ fn refuse<W: Print, F: FnOnce(&mut Text<'_>)>(
 ) -> Result<(), Failure>
     requires { F.IsAlwaysCallable reason }
 {
-    show(output)?;
+    output.show().map_err(|_| Failure::Output)?;
     let mut bytes = [0; SIZE];
     let mut text = Text {
         buffer: &mut bytes,

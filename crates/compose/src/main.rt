@@ -6,7 +6,7 @@ mod failure;
 
 use blocks::keep;
 use command::compose_line;
-use failure::{Failure, Fault, show, too_long};
+use failure::{Failure, Fault, too_long};
 use files::fill;
 use files::output::{Output, SIZE};
 use parse::words::skip_blanks;
@@ -68,7 +68,7 @@ fn compose<W: Print>(
 fn run(stdin: &mut impl Read, stdout: &impl Print, stderr: &impl Print) -> Result<(), Failure> {
     let mut output = Output::new(stdout);
     let composed = compose(stdin, &mut output, stderr);
-    show(&mut output)?;
+    output.show().map_err(|_| Failure::Output)?;
     composed
 }
 

@@ -27,7 +27,8 @@ impl fmt::Display for Failure {
 }
 
 impl Failure {
-    // A fault of the stream ends its text with a comment; standard error has every failure.
+    // A fault of the stream ends its text with a comment; standard error has every failure. Not inlined, so that what it tells by is off the stack while `run` is on it.
+    #[inline(never)]
     pub fn tell(self, stdout: &impl Print, stderr: &impl Print) {
         let shown = match self {
             Failure::Input | Failure::Output => Ok(()),
