@@ -42,7 +42,9 @@ fn compose_command<'a, W: Print>(
     line: &'a [u8],
     output: &mut Output<'_, W>,
 ) -> Result<(), Fault<'a>> {
-    output.make_room(ROOM).map_err(|_| Fault::Output)?;
+    output
+        .make_room_or_unwritten(ROOM)
+        .map_err(|_| Fault::Output)?;
     match write(command, &mut output.bytes[output.done..]) {
         Ok(n) => {
             output.add(n);

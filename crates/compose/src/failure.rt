@@ -95,7 +95,7 @@ fn refuse<W: Print, F: FnOnce(&mut Text<'_>)>(
 ) -> Result<(), Failure>
     requires { F.IsAlwaysCallable reason }
 {
-    output.show().map_err(|_| Failure::Output)?;
+    output.show_or_unwritten().map_err(|_| Failure::Output)?;
     let mut bytes = [0; SIZE];
     let mut text = Text {
         buffer: &mut bytes,

@@ -68,7 +68,7 @@ fn compose<W: Print>(
 fn run(stdin: &mut impl Read, stdout: &impl Print, stderr: &impl Print) -> Result<(), Failure> {
     let mut output = Output::new(stdout);
     let composed = compose(stdin, &mut output, stderr);
-    output.show().map_err(|_| Failure::Output)?;
+    output.show_or_unwritten().map_err(|_| Failure::Output)?;
     composed
 }
 

@@ -31,7 +31,9 @@ fn list_block<W: Print>(
         if behind.len() < count {
             break;
         }
-        output.make_room(LINE).map_err(|_| Failure::Output)?;
+        output
+            .make_room_or_unwritten(LINE)
+            .map_err(|_| Failure::Output)?;
         let fields = operands(behind, 0, byte, false);
         let mut text = Text {
             buffer: &mut output.bytes[output.done..],
@@ -53,7 +55,7 @@ fn list<W: Print>(stdin: &mut impl Read, output: &mut Output<'_, W>) -> Result<(
     for _ in 0..u64::MAX {
         let got = fill(stdin, &mut input, kept).map_err(|_| Failure::Input)?;
         let listed = list_block(&input[..got.bytes], offset, output)?;
-        output.show().map_err(|_| Failure::Output)?;
+        output.show_or_unwritten().map_err(|_| Failure::Output)?;
         kept = keep(&mut input, listed, got.bytes);
         offset = offset.wrapping_add(listed as u64);
         if got.last && 0 < kept {
@@ -73,7 +75,7 @@ fn list<W: Print>(stdin: &mut impl Read, output: &mut Output<'_, W>) -> Result<(
 fn run(stdin: &mut impl Read, stdout: &impl Print) -> Result<(), Failure> {
     let mut output = Output::new(stdout);
     let listed = list(stdin, &mut output);
-    output.show().map_err(|_| Failure::Output)?;
+    output.show_or_unwritten().map_err(|_| Failure::Output)?;
     listed
 }
 

@@ -1,4 +1,6 @@
 // Bytes that wait in a buffer until they are shown.
+mod error;
+
 ghost use Rattle.std.specs.Prelude.{◌≡◌, ◌≤◌, ◌+◌, IsOk, OnOk, min};
 
 // How many bytes can wait.
@@ -30,7 +32,7 @@ impl<'a, W: Print> Output<'a, W> {
 
     // The bytes that wait go to the file, and wait no longer, also where they could not be written. Not inlined, so that one place writes.
     #[inline(never)]
-    pub fn show(&mut self) -> Result<(), Unwritten>
+    pub fn show_or_unwritten(&mut self) -> Result<(), Unwritten>
         ensures { self.new.done ≡ 0 }
     {
         let done = self.done;
@@ -42,11 +44,11 @@ impl<'a, W: Print> Output<'a, W> {
 
     // Where fewer than n bytes are free, those that wait are shown first. Then a program writes behind them, and adds what it wrote: a method over a closure would
     // ask that it can be called, and what `compose` writes may be refused, while what `explain` writes may not.
-    pub fn make_room(&mut self, n: usize) -> Result<(), Unwritten>
+    pub fn make_room_or_unwritten(&mut self, n: usize) -> Result<(), Unwritten>
         ensures { OnOk result (n ≤ 32768 → self.new.done + n ≤ 32768) }
     {
         if SIZE - self.done < n {
-            return self.show();
+            return self.show_or_unwritten();
         }
         Ok(())
     }
